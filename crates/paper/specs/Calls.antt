@@ -1,0 +1,211 @@
+-- What every exported call answers and leaves in what it was lent, for all inputs: refusals in the table's order, a refusal changes nothing
+-- (the paper, "When the bench says no", "How tightly an answer is held"). Assumes nothing.
+use mathlib.Core.Bool.{Bool, true, false, not, cond, _&&_, _||_}
+use mathlib.Core.List.{List, [], _∷_, _++_}
+use mathlib.Core.Option.{Option, none, some}
+use Prim.Native.Nat.{ℕ, _+_, _*_, _^_}
+use lib.Dec.{eqb, ltb, leb}
+use lib.ListN.{length, take, drop}
+use Rattle.paper.specs.Bits.{bytesOf, numberAt}
+use Rattle.paper.specs.Limits.{registerBytes, dictionaryBytes, stateLength, kernelBytes, budgetLimit}
+use Rattle.paper.specs.Dictionary.{Dictionary, dictionaryOf, inRange}
+use Rattle.paper.specs.Expand.{isShort, expand}
+use Rattle.paper.specs.Shorten.{shorten}
+use Rattle.paper.specs.Operation.{operation, isListed, isBranch}
+use Rattle.paper.specs.Enable.{Store}
+use Rattle.paper.specs.Kernel.{Instr, Forms, longAndShort, longOnly, Judged, refused, passed, judgeAt, Parsed, bad, good, parse}
+use Rattle.paper.specs.Jump.{withJumps, fetch}
+use Rattle.paper.specs.Machine.{State, step, stops, Outcome, run, start}
+use Rattle.paper.specs.State.{stateOf, stateLegal, stateBytes}
+use Rattle.paper.specs.Packing.{Form, relay}
+
+-- ---- answers
+
+-- A number of the paper's list, the byte offset of the refused instruction, and a count.
+pub record Answer : Type 0 where
+  pub number : ℕ
+  pub offset : ℕ
+  pub count : ℕ
+
+-- The one number in which an answer crosses to C.
+unfoldable pub asNumber : Answer → ℕ
+asNumber a = a .number + 2 ^ 8 * a .offset + 2 ^ 32 * a .count
+
+abbrev pub refusal : ℕ → ℕ → Answer
+refusal number offset = record { number = number; offset = offset; count = 0 }
+
+abbrev pub verdict : ℕ → ℕ → Answer
+verdict number count = record { number = number; offset = 0; count = count }
+
+-- An answer and what one lent buffer then holds.
+pub record Written : Type 0 where
+  pub answer : Answer
+  pub output : List ℕ
+
+-- Refused: the buffer holds what it held.
+abbrev pub kept : Answer → List ℕ → Written
+kept answer out = record { answer = answer; output = out }
+
+-- The result as the buffer's first bytes, the rest untouched; 14 if it is shorter than the result.
+unfoldable pub deliver : List ℕ → List ℕ → Written
+deliver result out =
+    cond (ltb (length out) (length result)) (kept (refusal 14 0) out)
+    (record { answer = verdict 0 (length result); output = result ++ drop (length result) out })
+
+-- ---- the kernel: 2, then 17 to 11 instruction by instruction, then 12
+
+unfoldable pub judgedKernel : Forms → List ℕ → List ℕ → Parsed
+judgedKernel forms dictionary kernel =
+    let D = dictionaryOf dictionary in
+    cond (inRange D) (withJumps (parse forms D kernel)) (bad 2 0)
+
+-- 1 of a dictionary and a kernel.
+abbrev pub sized : List ℕ → List ℕ → Bool
+sized dictionary kernel = eqb (length dictionary) dictionaryBytes && leb (length kernel) kernelBytes
+
+-- 1, then the kernel's own refusals.
+unfoldable pub accepted : Forms → List ℕ → List ℕ → Parsed
+accepted forms dictionary kernel = cond (sized dictionary kernel) (judgedKernel forms dictionary kernel) (bad 1 0)
+
+-- ---- check: how many instructions
+
+abbrev pub checkedAs : Parsed → Answer
+checkedAs (bad number offset) = refusal number offset
+checkedAs (good k) = verdict 0 (length k)
+
+unfoldable pub checkCall : List ℕ → List ℕ → Answer
+checkCall dictionary kernel = checkedAs (accepted longAndShort dictionary kernel)
+
+-- ---- pack and unpack: how many bytes, and the bytes
+
+abbrev pub relaid : Form → List ℕ → Parsed → Written
+relaid form out (bad number offset) = kept (refusal number offset) out
+relaid form out (good k) = deliver (relay form k) out
+
+-- Packing takes long words only.
+unfoldable pub packCall : List ℕ → List ℕ → List ℕ → Written
+packCall dictionary kernel out = relaid (shorten (dictionaryOf dictionary)) out (accepted longOnly dictionary kernel)
+
+unfoldable pub unpackCall : List ℕ → List ℕ → List ℕ → Written
+unpackCall dictionary kernel out = relaid (λ _. none) out (accepted longAndShort dictionary kernel)
+
+-- ---- one word: 1, 2, 4, 5, 13, 14
+
+-- 1, 2 and 4 of a single word, given as its number and whether its bytes are as many as its job needs; then what its form says.
+unfoldable pub oneWord : List ℕ → Bool → ℕ → List ℕ → Written → Written
+oneWord dictionary fits w out further =
+    cond (not (eqb (length dictionary) dictionaryBytes && fits)) (kept (refusal 1 0) out)
+    (cond (not (inRange (dictionaryOf dictionary))) (kept (refusal 2 0) out)
+    (cond (not (isListed (operation w))) (kept (refusal 4 0) out)
+    further))
+
+abbrev pub shortened : Option ℕ → List ℕ → Written
+shortened none out = kept (refusal 13 0) out
+shortened (some s) out = deliver (bytesOf 8 s) out
+
+-- A short word where long is asked is 5; 13 where no short word expands to it.
+unfoldable pub shortenCall : List ℕ → List ℕ → List ℕ → Written
+shortenCall dictionary word out =
+    let w = numberAt word 0 16 in
+    oneWord dictionary (eqb (length word) 16) w out
+    (cond (isShort w) (kept (refusal 5 0) out) (shortened (shorten (dictionaryOf dictionary) w) out))
+
+-- A long word where short is asked, or a short branch, is 5.
+unfoldable pub expandCall : List ℕ → List ℕ → List ℕ → Written
+expandCall dictionary word out =
+    let s = numberAt word 0 8 in
+    oneWord dictionary (eqb (length word) 8) s out
+    (cond (not (isShort s) || isBranch (operation s)) (kept (refusal 5 0) out)
+    (deliver (bytesOf 16 (expand (dictionaryOf dictionary) s)) out))
+
+-- ---- decode at a place: 1, 2 and 3 to 11
+
+-- A refusal with its offset, or an instruction's size in places and its word.
+pub data Decoded : Type 0 where
+  undecoded : ℕ → ℕ → Decoded
+  decoded : ℕ → ℕ → Decoded
+
+abbrev pub judgedAs : ℕ → Judged → Decoded
+judgedAs offset (refused number) = undecoded number offset
+judgedAs offset (passed size w) = decoded size w
+
+-- A place at or past the end is 3 with offset 0.
+unfoldable pub decodeAt : List ℕ → List ℕ → ℕ → Decoded
+decodeAt dictionary kernel place =
+    let D = dictionaryOf dictionary in
+    let from = 8 * place in
+    cond (not (sized dictionary kernel)) (undecoded 1 0)
+    (cond (not (inRange D)) (undecoded 2 0)
+    (cond (leb (length kernel) from) (undecoded 3 0)
+    (judgedAs from (judgeAt longAndShort D kernel from))))
+
+abbrev pub decodedAs : Decoded → Answer
+decodedAs (undecoded number offset) = refusal number offset
+decodedAs (decoded size w) = verdict 0 (8 * size)
+
+-- How many bytes the instruction has.
+unfoldable pub decodeCall : List ℕ → List ℕ → ℕ → Answer
+decodeCall dictionary kernel place = decodedAs (decodeAt dictionary kernel place)
+
+abbrev pub partOf : List ℕ → ℕ → Decoded → List ℕ
+partOf kernel from (undecoded number offset) = []
+partOf kernel from (decoded size w) = take (8 * size) (drop from kernel)
+
+-- Its bytes, as a part of the kernel; empty on refusal.
+unfoldable pub decodePart : List ℕ → List ℕ → ℕ → List ℕ
+decodePart dictionary kernel place = partOf kernel (8 * place) (decodeAt dictionary kernel place)
+
+-- ---- start, step and run
+
+unfoldable pub startCall : ℕ → ℕ → ℕ → List ℕ → Written
+startCall mask flag0 flag1 bytes =
+    cond (eqb (length bytes) stateLength)
+    (record { answer = verdict 0 0; output = stateBytes (start (record { registers = []; flag0 = flag0; flag1 = flag1 }) mask) })
+    (kept (refusal 1 0) bytes)
+
+-- An answer and what registers and state then hold.
+pub record Changed : Type 0 where
+  pub answer : Answer
+  pub registers : List ℕ
+  pub state : List ℕ
+
+abbrev pub unchanged : Answer → List ℕ → List ℕ → Changed
+unchanged answer registers bytes = record { answer = answer; registers = registers; state = bytes }
+
+abbrev pub changedTo : Answer → State → Changed
+changedTo answer s = record { answer = answer; registers = s .store .registers; state = stateBytes s }
+
+-- 1 of all that is lent to a step or a run.
+abbrev pub allSized : List ℕ → List ℕ → List ℕ → List ℕ → Bool
+allSized dictionary kernel registers bytes =
+    sized dictionary kernel && (eqb (length registers) registerBytes && eqb (length bytes) stateLength)
+
+-- 15, then what is done with an accepted kernel's instructions and the state.
+abbrev pub onState : List ℕ → List ℕ → (List Instr → State → Changed) → Parsed → Changed
+onState registers bytes go (bad number offset) = unchanged (refusal number offset) registers bytes
+onState registers bytes go (good k) =
+    let done = go k (stateOf registers bytes) in
+    cond (stateLegal k registers bytes) done (unchanged (refusal 15 0) registers bytes)
+
+-- 20 at the end, where nothing changes; 0 for any other step.
+abbrev pub steppedAs : Option ℕ → List ℕ → List ℕ → State → Changed
+steppedAs none registers bytes after = changedTo (verdict 0 0) after
+steppedAs (some number) registers bytes after = unchanged (verdict number 0) registers bytes
+
+unfoldable pub stepCall : List ℕ → List ℕ → List ℕ → List ℕ → Changed
+stepCall dictionary kernel registers bytes =
+    let judged = judgedKernel longAndShort dictionary kernel in
+    cond (allSized dictionary kernel registers bytes)
+    (onState registers bytes (λ k s. steppedAs (stops k s) registers bytes (step k s)) judged)
+    (unchanged (refusal 1 0) registers bytes)
+
+abbrev pub ranAs : Outcome → Changed
+ranAs o = changedTo (verdict (o .verdict) (o .steps)) (o .state)
+
+-- 16: a budget over the limit.
+unfoldable pub runCall : List ℕ → List ℕ → ℕ → List ℕ → List ℕ → Changed
+runCall dictionary kernel budget registers bytes =
+    let judged = judgedKernel longAndShort dictionary kernel in
+    cond (not (allSized dictionary kernel registers bytes)) (unchanged (refusal 1 0) registers bytes)
+    (cond (ltb budgetLimit budget) (unchanged (refusal 16 0) registers bytes)
+    (onState registers bytes (λ k s. ranAs (run k budget s)) judged))

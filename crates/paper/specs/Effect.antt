@@ -1,0 +1,77 @@
+-- What an instruction that is no branch does to registers and flags (the paper, "Operations"). Every value is read from the store as it was
+-- before: all sources are read before anything is written. Assumes nothing.
+use mathlib.Core.Bool.{Bool, true, false, not, cond}
+use mathlib.Core.List.{List}
+use Prim.Native.Nat.{ℕ, zero, suc, _+_, _*_, _-_}
+use lib.Dec.{eqb}
+use lib.IntN.{ℤ}
+use Rattle.paper.specs.Bits.{numberAt, putAt}
+use Rattle.paper.specs.Word.{Source, src0, src1, condModifier, saturate, dstType, srcType, srcModifier, flagChoice, isImmediate, immediate}
+use Rattle.paper.specs.Operation.{Plain, Operation, plain, nop, branch, unlisted, operation, traits}
+use Rattle.paper.specs.Value.{width, value, modified, stored}
+use Rattle.paper.specs.Element.{compares, result}
+use Rattle.paper.specs.Region.{channels, srcSize, srcElement, dstSize, dstElement}
+use Rattle.paper.specs.Legal.{isNull}
+use Rattle.paper.specs.Enable.{Store, chosenFlag, holds, channelOf, enabled, flagAfter}
+use lib.IntN.{_-ℤ_}
+
+-- What channel n of source x reads: an immediate, the same for all channels, or its element of the registers, modified.
+unfoldable pub operand : ℕ → List ℕ → Source → ℕ → ℤ
+operand w registers x n =
+    cond (isImmediate x w)
+    (value (srcType x w) (immediate (width (srcType x w)) w))
+    (modified (srcModifier x w) (value (srcType x w) (numberAt registers (srcElement x w n) (srcSize x w))))
+
+-- The result of channel n.
+unfoldable pub channelResult : Plain → ℕ → Store → ℕ → ℤ
+channelResult p w st n =
+    result p (condModifier w) (holds w st (channelOf w n)) (operand w (st .registers) src0 n) (operand w (st .registers) src1 n)
+
+-- The pattern that channel n stores.
+abbrev pub channelStores : Plain → ℕ → Store → ℕ → ℕ
+channelStores p w st n = stored (eqb (saturate w) 1) (dstType w) (channelResult p w st n)
+
+-- The registers with the first n channels' patterns stored, channel k's at byte `element k`, where it is enabled.
+unfoldable pub scattered : List ℕ → (ℕ → ℕ) → ℕ → (ℕ → Bool) → (ℕ → ℕ) → ℕ → List ℕ
+scattered registers element size on pattern zero = registers
+scattered registers element size on pattern (suc k) =
+    let before = scattered registers element size on pattern k in
+    cond (on k) (putAt before (element k) size (pattern k)) before
+
+abbrev pub isOn : Plain → ℕ → List Bool → Store → ℕ → Bool
+isOn p w awake st n = enabled p w awake st (channelOf w n)
+
+unfoldable pub registersAfter : Plain → ℕ → List Bool → Store → List ℕ
+registersAfter p w awake st =
+    let written = scattered (st .registers) (dstElement w) (dstSize w) (isOn p w awake st) (channelStores p w st) (channels w) in
+    cond (isNull w) (st .registers) written
+
+-- What cmp finds for channel number m: src0 − src1 compared with 0.
+unfoldable pub finds : ℕ → Store → ℕ → Bool
+finds w st m =
+    let n = m - channelOf w 0 in
+    compares (condModifier w) (operand w (st .registers) src0 n -ℤ operand w (st .registers) src1 n)
+
+-- The chosen flag after cmp.
+unfoldable pub comparedFlag : ℕ → List Bool → Store → ℕ
+comparedFlag w awake st =
+    flagAfter (chosenFlag w st) (channelOf w 0) (channels w) (enabled Plain.cmp w awake st) (finds w st)
+
+-- The store with another chosen flag.
+abbrev pub withFlag : ℕ → Store → List ℕ → ℕ → Store
+withFlag w st registers flag =
+    record {
+      registers = registers;
+      flag0 = cond (eqb (flagChoice w) 0) flag (st .flag0);
+      flag1 = cond (eqb (flagChoice w) 0) (st .flag1) flag;
+    }
+
+-- Only cmp changes a flag.
+unfoldable pub plainEffect : Plain → ℕ → List Bool → Store → Store
+plainEffect p w awake st =
+    let flag = comparedFlag w awake st in
+    withFlag w st (registersAfter p w awake st) (cond (traits p .compares) flag (chosenFlag w st))
+
+-- nop does nothing. Branches leave registers and flags alone.
+unfoldable pub effect : ℕ → List Bool → Store → Store
+effect w awake st = elim (operation w) [ plain p ↦ plainEffect p w awake st | nop ↦ st | branch b ↦ st | unlisted ↦ st ]

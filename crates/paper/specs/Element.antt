@@ -1,0 +1,60 @@
+-- What each operation makes of one channel's values (the paper, "Operations"). Assumes nothing.
+use mathlib.Core.Bool.{Bool, true, false, not, cond}
+use Prim.Native.Nat.{ℕ, _+_, _-_, _*_, _^_}
+use lib.Dec.{eqb}
+use lib.IntN.{ℤ, pos, negsuc, natAbs, _+ℤ_, _-ℤ_, _*ℤ_}
+use lib.Signed.{ltZ}
+use lib.Bits.{bitAnd, bitOr, bitXor}
+use Rattle.paper.specs.Value.{modZ, floorZ}
+use Rattle.paper.specs.Operation.{Plain}
+
+-- (a + b + 1) / 2, rounded down.
+abbrev pub average : ℤ → ℤ → ℤ
+average a b = floorZ (a +ℤ b +ℤ pos 1) 2
+
+-- Shifts multiply or divide by 2 to the count modulo 32, rounding down.
+abbrev pub shiftLeft : ℤ → ℤ → ℤ
+shiftLeft a count = a *ℤ pos (2 ^ modZ count 32)
+
+abbrev pub shiftRight : ℤ → ℤ → ℤ
+shiftRight a count = floorZ a (2 ^ modZ count 32)
+
+-- Logic works on values modulo 2^32.
+abbrev pub logic : (ℕ → ℕ → ℕ) → ℤ → ℤ → ℤ
+logic f a b = pos (f (modZ a (2 ^ 32)) (modZ b (2 ^ 32)))
+
+abbrev pub complement : ℤ → ℤ
+complement a = pos (2 ^ 32 - 1 - modZ a (2 ^ 32))
+
+abbrev pub isZero : ℤ → Bool
+isZero v = eqb (natAbs v) 0
+
+-- What condition code c says of v against 0: 1 z, 2 nz, 3 g, 4 ge, 5 l, 6 le.
+unfoldable pub compares : ℕ → ℤ → Bool
+compares c v =
+    cond (eqb c 1) (isZero v)
+    (cond (eqb c 2) (not (isZero v))
+    (cond (eqb c 3) (ltZ (pos 0) v)
+    (cond (eqb c 4) (not (ltZ v (pos 0)))
+    (cond (eqb c 5) (ltZ v (pos 0))
+    (not (ltZ (pos 0) v))))))
+
+abbrev pub oneIf : Bool → ℤ
+oneIf b = cond b (pos 1) (pos 0)
+
+-- The result of an operation on src0's value a and src1's b. c is the condition code, which cmp reads; p the predicate, which sel reads.
+
+unfoldable pub result : Plain → ℕ → Bool → ℤ → ℤ → ℤ
+result Plain.mov c p a b = a
+result Plain.sel c p a b = cond p a b
+result Plain.not c p a b = complement a
+result Plain.and c p a b = logic bitAnd a b
+result Plain.or c p a b = logic bitOr a b
+result Plain.xor c p a b = logic bitXor a b
+result Plain.shr c p a b = shiftRight a b
+result Plain.shl c p a b = shiftLeft a b
+result Plain.asr c p a b = shiftRight a b
+result Plain.cmp c p a b = oneIf (compares c (a -ℤ b))
+result Plain.add c p a b = a +ℤ b
+result Plain.mul c p a b = a *ℤ b
+result Plain.avg c p a b = average a b

@@ -1,0 +1,180 @@
+-- Rules 6 to 11 over an expanded word, each by itself and then in the table's order (the paper, "When the bench says no"). Assumes nothing.
+use mathlib.Core.Bool.{Bool, true, false, not, cond, _&&_, _||_}
+use mathlib.Core.List.{List, [], _∷_}
+use Prim.Native.Nat.{ℕ, _+_, _-_, _*_, _/_, _%_}
+use lib.Dec.{eqb, ltb, leb}
+use lib.ListN.{length}
+use Rattle.paper.specs.Bits.{bits, bit}
+use Rattle.paper.specs.Limits.{registerBytes}
+use Rattle.paper.specs.Word.{Source, src0, src1, accessMode, weCtrl, qtrCtrl, predCtrl, execSize, condModifier, accWrCtrl, saturate}
+use Rattle.paper.specs.Word.{dstFile, dstType, dstSubregister, dstRegister, dstStride, dstAddrMode}
+use Rattle.paper.specs.Word.{srcFile, srcType, srcSubregister, srcModifier, srcAddrMode, srcWidth, srcVertStride}
+use Rattle.paper.specs.Word.{grf, arf, isImmediate, immediateForm}
+use Rattle.paper.specs.Operation.{Plain, Branch, jmpi, if, else, endif, while, Operation, plain, nop, branch, unlisted, operation, isBranch, traits, sources}
+use Rattle.paper.specs.Value.{isSigned}
+use Rattle.paper.specs.Region.{channels, srcOrigin, srcSize, srcElement, dstOrigin, dstSize, dstElement}
+
+-- Some source of the list passes the test.
+abbrev pub anyOf : (Source → Bool) → List Source → Bool
+anyOf test [] = false
+anyOf test (x ∷ xs) = test x || anyOf test xs
+
+-- ---- 6: a reserved bit is set
+
+-- Bit 7; for all but branches 47 or 95:90, or 127:121 outside immediate form.
+unfoldable pub reservedSet : ℕ → Bool
+reservedSet w =
+    bit w 7
+    || (not (isBranch (operation w))
+    && (bit w 47 || (not (eqb (bits w 90 6) 0) || (not (immediateForm w) && not (eqb (bits w 121 7) 0)))))
+
+-- ---- 7: a field is not served
+
+-- Quarter 0; or 1 with size 8.
+abbrev pub quarterServed : ℕ → Bool
+quarterServed w = eqb (qtrCtrl w) 0 || (eqb (qtrCtrl w) 1 && eqb (execSize w) 3)
+
+-- Condition codes 1 to 6 on cmp, 0 elsewhere.
+abbrev pub conditionServed : Bool → ℕ → Bool
+conditionServed compares c = cond compares (leb 1 c && leb c 6) (eqb c 0)
+
+-- The control fields that every operation but nop is judged by.
+unfoldable pub controlServed : Bool → Bool → ℕ → Bool
+controlServed compares saturates w =
+    eqb (accessMode w) 0
+    && (eqb (accWrCtrl w) 0
+    && (leb (execSize w) 4
+    && (quarterServed w
+    && (leb (predCtrl w) 1
+    && (conditionServed compares (condModifier w)
+    && (eqb (saturate w) 0 || saturates))))))
+
+-- The destination is null: file 00, register 0.
+abbrev pub isNull : ℕ → Bool
+isNull w = eqb (dstFile w) arf && eqb (dstRegister w) 0
+
+-- Registers or null, addressed directly, of a listed type.
+unfoldable pub dstServed : ℕ → Bool
+dstServed w = (eqb (dstFile w) grf || isNull w) && (eqb (dstAddrMode w) 0 && leb (dstType w) 5)
+
+-- An immediate of type 0 to 3; or a register, addressed directly, of type 0 to 5.
+unfoldable pub srcServed : ℕ → Source → Bool
+srcServed w x =
+    cond (isImmediate x w) (leb (srcType x w) 3)
+    (eqb (srcFile x w) grf && (eqb (srcAddrMode x w) 0 && leb (srcType x w) 5))
+
+-- Served all through, but for its branches' own needs.
+unfoldable pub plainServed : Plain → ℕ → Bool
+plainServed p w =
+    controlServed (traits p .compares) (traits p .saturates) w
+    && (dstServed w && not (anyOf (λ x. not (srcServed w x)) (sources p)))
+
+-- if, else, endif and while need size 16, quarter 0, WECtrl 0.
+abbrev pub structured : ℕ → Bool
+structured w = eqb (execSize w) 4 && (eqb (qtrCtrl w) 0 && eqb (weCtrl w) 0)
+
+-- jmpi needs size 1 and a d immediate as src1.
+abbrev pub ownNeeds : Branch → ℕ → Bool
+ownNeeds jmpi w = eqb (execSize w) 0 && (isImmediate src1 w && eqb (srcType src1 w) 1)
+ownNeeds if w = structured w
+ownNeeds else w = structured w
+ownNeeds endif w = structured w
+ownNeeds while w = structured w
+
+-- Branches have no operand but jmpi's src1.
+unfoldable pub branchServed : Branch → ℕ → Bool
+branchServed b w = controlServed false false w && ownNeeds b w
+
+-- ---- 8: an operand rule is broken
+
+-- An immediate stands elsewhere than as last source.
+abbrev pub misplaced : Plain → ℕ → Bool
+misplaced p w = eqb (length (sources p)) 2 && isImmediate src0 w
+
+-- A word immediate's two halves differ (000, 5.3.5).
+abbrev pub unequalHalves : ℕ → Source → Bool
+unequalHalves w x = isImmediate x w && (leb 2 (srcType x w) && not (eqb (bits w 96 16) (bits w 112 16)))
+
+-- A modifier where none is allowed: on a src0 immediate, and on the register sources of logic and shifts. A src1 immediate has no modifier.
+abbrev pub badModifier : Plain → ℕ → Source → Bool
+badModifier p w src0 = (isImmediate src0 w || not (traits p .modifiers)) && not (eqb (srcModifier src0 w) 0)
+badModifier p w src1 = (not (isImmediate src1 w) && not (traits p .modifiers)) && not (eqb (srcModifier src1 w) 0)
+
+-- What single operations ask: mul no dword sources, shr an unsigned and asr a signed src0, sel a predicate.
+abbrev pub ownRuleBroken : Plain → ℕ → Bool
+ownRuleBroken Plain.mul w = ltb (srcType src0 w) 2 || ltb (srcType src1 w) 2
+ownRuleBroken Plain.shr w = isSigned (srcType src0 w)
+ownRuleBroken Plain.asr w = not (isSigned (srcType src0 w))
+ownRuleBroken Plain.sel w = not (eqb (predCtrl w) 1)
+ownRuleBroken Plain.mov w = false
+ownRuleBroken Plain.not w = false
+ownRuleBroken Plain.and w = false
+ownRuleBroken Plain.or w = false
+ownRuleBroken Plain.xor w = false
+ownRuleBroken Plain.shl w = false
+ownRuleBroken Plain.cmp w = false
+ownRuleBroken Plain.add w = false
+ownRuleBroken Plain.avg w = false
+
+unfoldable pub operandRuleBroken : Plain → ℕ → Bool
+operandRuleBroken p w =
+    misplaced p w
+    || (anyOf (unequalHalves w) (sources p)
+    || (anyOf (badModifier p w) (sources p)
+    || ownRuleBroken p w))
+
+-- ---- 9, 10, 11: over the register operands; immediates and a null destination are passed over, never the other operands
+
+-- The destination is not null and breaks a rule; or a source does that is read from registers.
+abbrev pub someOperand : Plain → ℕ → Bool → (Source → Bool) → Bool
+someOperand p w dst src = (not (isNull w) && dst) || anyOf (λ x. not (isImmediate x w) && src x) (sources p)
+
+-- 9: a stride or width code is undefined, or ExecSize lies under Width; the destination's stride is 0.
+abbrev pub srcShapeBroken : ℕ → Source → Bool
+srcShapeBroken w x = ltb 6 (srcVertStride x w) || (ltb 4 (srcWidth x w) || ltb (execSize w) (srcWidth x w))
+
+unfoldable pub shapeBroken : Plain → ℕ → Bool
+shapeBroken p w = someOperand p w (eqb (dstStride w) 0) (srcShapeBroken w)
+
+-- 10: a subregister is no multiple of the element size.
+abbrev pub unaligned : ℕ → ℕ → Bool
+unaligned subregister size = not (eqb (subregister % size) 0)
+
+unfoldable pub alignmentBroken : Plain → ℕ → Bool
+alignmentBroken p w = someOperand p w (unaligned (dstSubregister w) (dstSize w)) (λ x. unaligned (srcSubregister x w) (srcSize x w))
+
+-- 11: the first and the last byte lie in registers more than one apart, or past r127. `element` is where the last channel's element starts.
+unfoldable pub tooFar : ℕ → ℕ → ℕ → Bool
+tooFar origin element size =
+    let last = element + size - 1 in ltb (origin / 32 + 1) (last / 32) || leb registerBytes last
+
+abbrev pub lastChannel : ℕ → ℕ
+lastChannel w = channels w - 1
+
+unfoldable pub reachBroken : Plain → ℕ → Bool
+reachBroken p w =
+    someOperand p w
+    (tooFar (dstOrigin w) (dstElement w (lastChannel w)) (dstSize w))
+    (λ x. tooFar (srcOrigin x w) (srcElement x w (lastChannel w)) (srcSize x w))
+
+-- ---- the six in order: the number of the first rule that is broken, or 0
+
+-- `number` if the rule is broken, else what the later rules say.
+abbrev pub orElse : Bool → ℕ → ℕ → ℕ
+orElse broken number later = cond broken number later
+
+-- Only nop skips 7 to 11; branches skip 8 to 11. What is not listed never comes this far.
+unfoldable pub later : Operation → ℕ → ℕ
+later (plain p) w =
+    orElse (not (plainServed p w)) 7
+    (orElse (operandRuleBroken p w) 8
+    (orElse (shapeBroken p w) 9
+    (orElse (alignmentBroken p w) 10
+    (orElse (reachBroken p w) 11
+    0))))
+later nop w = 0
+later (branch b) w = orElse (not (branchServed b w)) 7 0
+later unlisted w = 0
+
+unfoldable pub refusalOf : ℕ → ℕ
+refusalOf w = orElse (reservedSet w) 6 (later (operation w) w)

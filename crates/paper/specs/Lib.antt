@@ -1,0 +1,24 @@
+-- The paper's rules as definitions, a file a topic, in the paper's order.
+pub mod Bits
+pub mod Limits
+pub mod Word
+pub mod Rows
+pub mod Dictionary
+pub mod Expand
+pub mod Operation
+pub mod Shorten
+pub mod Value
+pub mod Element
+pub mod Region
+pub mod Legal
+pub mod Enable
+pub mod Effect
+pub mod Kernel
+pub mod Jump
+pub mod Machine
+pub mod State
+pub mod Packing
+pub mod Calls
+pub mod Assembler
+pub mod Sheet
+pub mod SheetHolds

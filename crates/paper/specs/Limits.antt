@@ -1,0 +1,26 @@
+-- What the bench holds: the sizes and limits, each named once (the paper, "What the bench holds"). Assumes nothing.
+use Prim.Native.Nat.{ℕ}
+
+-- The register file: r0 to r127, 32 bytes each.
+abbrev pub registerBytes : ℕ
+registerBytes = 4096
+
+-- The dictionary as it is lent: 128 numbers of four bytes.
+abbrev pub dictionaryBytes : ℕ
+dictionaryBytes = 512
+
+-- The state as it is lent.
+abbrev pub stateLength : ℕ
+stateLength = 42
+
+-- A kernel's bytes, at the most.
+abbrev pub kernelBytes : ℕ
+kernelBytes = 16384
+
+-- A kernel's instructions, at the most.
+abbrev pub instructionLimit : ℕ
+instructionLimit = 1024
+
+-- A run's budget, at the most.
+abbrev pub budgetLimit : ℕ
+budgetLimit = 1000000

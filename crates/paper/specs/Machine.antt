@@ -1,0 +1,158 @@
+-- Steps and runs (the paper, "What the bench holds", "How the road forks"). Assumes nothing.
+use mathlib.Core.Bool.{Bool, true, false, not, cond, _&&_, _||_}
+use mathlib.Core.List.{List, [], _∷_, map}
+use mathlib.Core.Option.{Option, none, some}
+use Prim.Native.Nat.{ℕ, zero, suc}
+use lib.Dec.{eqb}
+use lib.IntN.{ℤ, pos, negsuc}
+use Rattle.paper.specs.Bits.{bit}
+use Rattle.paper.specs.Operation.{Branch, jmpi, if, else, endif, while, Operation, plain, nop, branch, unlisted, operation}
+use Rattle.paper.specs.Enable.{Store, holds}
+use Rattle.paper.specs.Effect.{effect}
+use Rattle.paper.specs.Kernel.{Instr}
+use Rattle.paper.specs.Jump.{nextOf, targetOf, fetch}
+
+-- A channel is off for good, awake, or waiting at a place.
+pub data Channel : Type 0 where
+  off : Channel
+  awake : Channel
+  waiting : ℕ → Channel
+
+pub record State : Type 0 where
+  pub store : Store
+  pub channels : List Channel
+  pub place : ℕ
+
+-- ---- channels
+
+abbrev pub isAwake : Channel → Bool
+isAwake off = false
+isAwake awake = true
+isAwake (waiting q) = false
+
+abbrev pub waitsAt : ℕ → Channel → Bool
+waitsAt p off = false
+waitsAt p awake = false
+waitsAt p (waiting q) = eqb p q
+
+-- A channel that waits at place p wakes.
+unfoldable pub wake : ℕ → Channel → Channel
+wake p off = off
+wake p awake = awake
+wake p (waiting q) = cond (eqb p q) awake (waiting q)
+
+-- An awake channel for which the test is true waits at place p.
+unfoldable pub park : Bool → ℕ → Channel → Channel
+park b p off = off
+park b p awake = cond b (waiting p) awake
+park b p (waiting q) = waiting q
+
+-- f of each channel and its number, the first channel's being n.
+unfoldable pub each : (ℕ → Channel → Channel) → ℕ → List Channel → List Channel
+each f n [] = []
+each f n (c ∷ cs) = f n c ∷ each f (suc n) cs
+
+-- Some channel passes the test f of its number and itself.
+unfoldable pub someone : (ℕ → Channel → Bool) → ℕ → List Channel → Bool
+someone f n [] = false
+someone f n (c ∷ cs) = f n c || someone f (suc n) cs
+
+-- ---- one instruction
+
+-- Where an instruction leads: the place after it, and its target.
+pub record Ways : Type 0 where
+  pub next : ℕ
+  pub target : ℕ
+
+-- To the next place, but to the target if no channel is awake and none waits at the next place.
+unfoldable pub onward : Ways → List Channel → ℕ
+onward ways cs = cond (someone (λ _ c. isAwake c || waitsAt (ways .next) c) 0 cs) (ways .next) (ways .target)
+
+abbrev pub fork : Ways → Store → List Channel → State
+fork ways st cs = record { store = st; channels = cs; place = onward ways cs }
+
+-- A branch, once the channels that wait at its place are awake.
+unfoldable pub act : Branch → ℕ → Ways → Store → List Channel → State
+-- awake channels whose predicate fails wait at the target
+act if w ways st cs = fork ways st (each (λ n. park (not (holds w st n)) (ways .target)) 0 cs)
+-- all awake channels wait there
+act else w ways st cs = fork ways st (each (λ _. park true (ways .target)) 0 cs)
+-- none do
+act endif w ways st cs = fork ways st cs
+-- if any awake channel's predicate holds, the other awake ones wait at the next place and the target is taken; otherwise go on
+act while w ways st cs =
+    cond (someone (λ n c. isAwake c && holds w st n) 0 cs)
+    (record { store = st; channels = each (λ n. park (not (holds w st n)) (ways .next)) 0 cs; place = ways .target })
+    (record { store = st; channels = cs; place = ways .next })
+-- taken if it has no predicate or flag bit 0, after inversion, is 1; it looks at no mask
+act jmpi w ways st cs = record { store = st; channels = cs; place = cond (holds w st 0) (ways .target) (ways .next) }
+
+-- What is no branch acts on registers and flags, and goes on.
+abbrev pub pass : ℕ → Ways → Store → List Channel → State
+pass w ways st cs = record { store = effect w (map isAwake cs) st; channels = cs; place = ways .next }
+
+unfoldable pub perform : Operation → ℕ → Ways → Store → List Channel → State
+perform (plain p) w ways st cs = pass w ways st cs
+perform nop w ways st cs = pass w ways st cs
+perform (branch b) w ways st cs = act b w ways st cs
+perform unlisted w ways st cs = pass w ways st cs
+
+-- Each step first wakes the channels that wait at the current place, `here`.
+abbrev pub stepAt : ℕ → ℕ → Ways → State → State
+stepAt w here ways s = perform (operation w) w ways (s .store) (map (wake here) (s .channels))
+
+-- ---- steps
+
+-- An accepted jump's target is a place; what has none, and a target below 0, which no accepted kernel has, is written 0.
+abbrev pub placeOf : Option ℤ → ℕ
+placeOf none = 0
+placeOf (some (pos p)) = p
+placeOf (some (negsuc p)) = 0
+
+abbrev pub waysOf : Instr → Ways
+waysOf i = record { next = nextOf i; target = placeOf (targetOf i) }
+
+-- At the end, where no instruction starts, a step changes nothing.
+unfoldable pub stepOn : Option Instr → State → State
+stepOn none s = s
+stepOn (some i) s = stepAt (i .word) (i .place) (waysOf i) s
+
+abbrev pub step : List Instr → State → State
+step k s = stepOn (fetch k (s .place)) s
+
+-- ---- runs
+
+-- The verdict with which a state stops a run: 20 at the end.
+abbrev pub stopsOn : Option Instr → Option ℕ
+stopsOn none = some 20
+stopsOn (some i) = none
+
+abbrev pub stops : List Instr → State → Option ℕ
+stops k s = stopsOn (fetch k (s .place))
+
+pub record Outcome : Type 0 where
+  pub verdict : ℕ
+  pub steps : ℕ
+  pub state : State
+
+-- A run makes the budget's steps unless a state stops it first. 21: budget spent short of the end.
+unfoldable pub runWith : (State → Option ℕ) → (State → State) → ℕ → State → Outcome
+runWith stop next zero s = record { verdict = elim (stop s) [ some v ↦ v | none ↦ 21 ]; steps = 0; state = s }
+runWith stop next (suc n) s =
+    elim (stop s) [
+      | some v ↦ record { verdict = v; steps = 0; state = s }
+      | none ↦ let o : Outcome = runWith stop next n (next s) in record { verdict = o .verdict; steps = suc (o .steps); state = o .state }
+    ]
+
+abbrev pub run : List Instr → ℕ → State → Outcome
+run k n s = runWith (stops k) (step k) n s
+
+-- ---- the start: place 0, and 16 channels, awake where the mask has 1, off for good where it has 0
+
+-- c channels, the first being number n.
+unfoldable pub startFrom : ℕ → ℕ → ℕ → List Channel
+startFrom mask n zero = []
+startFrom mask n (suc c) = cond (bit mask n) awake off ∷ startFrom mask (suc n) c
+
+abbrev pub start : Store → ℕ → State
+start st mask = record { store = st; channels = startFrom mask 0 16; place = 0 }

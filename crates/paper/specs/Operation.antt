@@ -1,0 +1,90 @@
+-- The operations (the paper, "Operations"). Assumes nothing.
+use mathlib.Core.Bool.{Bool, true, false, cond}
+use mathlib.Core.List.{List, [], _∷_}
+use Prim.Native.Nat.{ℕ}
+use lib.Dec.{eqb}
+use Rattle.paper.specs.Word.{Source, src0, src1, opcode}
+
+-- Operations that make a result of their sources.
+pub data Plain : Type 0 where
+  mov sel not and or xor shr shl asr cmp add mul avg : Plain
+
+pub data Branch : Type 0 where
+  jmpi if else endif while : Branch
+
+pub data Operation : Type 0 where
+  plain : Plain → Operation
+  nop : Operation
+  branch : Branch → Operation
+  unlisted : Operation
+
+-- The operation of an opcode.
+unfoldable pub operationOf : ℕ → Operation
+operationOf n =
+    cond (eqb n 0x01) (plain mov)
+    (cond (eqb n 0x02) (plain sel)
+    (cond (eqb n 0x04) (plain not)
+    (cond (eqb n 0x05) (plain and)
+    (cond (eqb n 0x06) (plain or)
+    (cond (eqb n 0x07) (plain xor)
+    (cond (eqb n 0x08) (plain shr)
+    (cond (eqb n 0x09) (plain shl)
+    (cond (eqb n 0x0C) (plain asr)
+    (cond (eqb n 0x10) (plain cmp)
+    (cond (eqb n 0x40) (plain add)
+    (cond (eqb n 0x41) (plain mul)
+    (cond (eqb n 0x42) (plain avg)
+    (cond (eqb n 0x7E) nop
+    (cond (eqb n 0x20) (branch jmpi)
+    (cond (eqb n 0x22) (branch if)
+    (cond (eqb n 0x24) (branch else)
+    (cond (eqb n 0x25) (branch endif)
+    (cond (eqb n 0x27) (branch while)
+    unlisted))))))))))))))))))
+
+abbrev pub operation : ℕ → Operation
+operation w = operationOf (opcode w)
+
+abbrev pub isListed : Operation → Bool
+isListed (plain p) = true
+isListed nop = true
+isListed (branch b) = true
+isListed unlisted = false
+
+abbrev pub isBranch : Operation → Bool
+isBranch (plain p) = false
+isBranch nop = false
+isBranch (branch b) = true
+isBranch unlisted = false
+
+-- What the rules ask of an operation: the sources that it reads (what it does not read is carried, not judged), whether Saturate is served on
+-- it, whether its sources may have modifiers, and whether it is cmp, which has a condition code and sets flags.
+pub record Traits : Type 0 where
+  pub sources : List Source
+  pub saturates : Bool
+  pub modifiers : Bool
+  pub compares : Bool
+
+abbrev one : List Source
+one = src0 ∷ []
+
+abbrev two : List Source
+two = src0 ∷ src1 ∷ []
+
+abbrev pub traits : Plain → Traits
+traits mov = record { sources = one; saturates = true; modifiers = true; compares = false }
+traits sel = record { sources = two; saturates = true; modifiers = true; compares = false }
+traits not = record { sources = one; saturates = false; modifiers = false; compares = false }
+traits and = record { sources = two; saturates = false; modifiers = false; compares = false }
+traits or = record { sources = two; saturates = false; modifiers = false; compares = false }
+traits xor = record { sources = two; saturates = false; modifiers = false; compares = false }
+traits shr = record { sources = two; saturates = false; modifiers = false; compares = false }
+traits shl = record { sources = two; saturates = false; modifiers = false; compares = false }
+traits asr = record { sources = two; saturates = false; modifiers = false; compares = false }
+traits cmp = record { sources = two; saturates = false; modifiers = true; compares = true }
+traits add = record { sources = two; saturates = true; modifiers = true; compares = false }
+traits mul = record { sources = two; saturates = true; modifiers = true; compares = false }
+traits avg = record { sources = two; saturates = true; modifiers = true; compares = false }
+
+abbrev pub sources : Plain → List Source
+sources p = traits p .sources

@@ -1,0 +1,135 @@
+-- The fields of the long word (the paper, "The long word"; source document 000, figure 5-1). Assumes nothing.
+use mathlib.Core.Bool.{Bool, true, false, _||_}
+use Prim.Native.Nat.{ℕ, _+_}
+use lib.Dec.{eqb}
+use Rattle.paper.specs.Bits.{bits}
+
+-- ---- control
+
+abbrev pub opcode : ℕ → ℕ
+opcode w = bits w 0 7
+
+abbrev pub accessMode : ℕ → ℕ
+accessMode w = bits w 8 1
+
+abbrev pub weCtrl : ℕ → ℕ
+weCtrl w = bits w 9 1
+
+abbrev pub depCtrl : ℕ → ℕ
+depCtrl w = bits w 10 2
+
+abbrev pub qtrCtrl : ℕ → ℕ
+qtrCtrl w = bits w 12 2
+
+abbrev pub threadCtrl : ℕ → ℕ
+threadCtrl w = bits w 14 2
+
+abbrev pub predCtrl : ℕ → ℕ
+predCtrl w = bits w 16 4
+
+abbrev pub predInv : ℕ → ℕ
+predInv w = bits w 20 1
+
+abbrev pub execSize : ℕ → ℕ
+execSize w = bits w 21 3
+
+abbrev pub condModifier : ℕ → ℕ
+condModifier w = bits w 24 4
+
+abbrev pub accWrCtrl : ℕ → ℕ
+accWrCtrl w = bits w 28 1
+
+abbrev pub cmptCtrl : ℕ → ℕ
+cmptCtrl w = bits w 29 1
+
+abbrev pub debugCtrl : ℕ → ℕ
+debugCtrl w = bits w 30 1
+
+abbrev pub saturate : ℕ → ℕ
+saturate w = bits w 31 1
+
+-- ---- destination
+
+abbrev pub dstFile : ℕ → ℕ
+dstFile w = bits w 32 2
+
+abbrev pub dstType : ℕ → ℕ
+dstType w = bits w 34 3
+
+abbrev pub dstSubregister : ℕ → ℕ
+dstSubregister w = bits w 48 5
+
+abbrev pub dstRegister : ℕ → ℕ
+dstRegister w = bits w 53 8
+
+abbrev pub dstStride : ℕ → ℕ
+dstStride w = bits w 61 2
+
+abbrev pub dstAddrMode : ℕ → ℕ
+dstAddrMode w = bits w 63 1
+
+-- ---- sources
+
+pub data Source : Type 0 where
+  src0 src1 : Source
+
+abbrev pub srcFile : Source → ℕ → ℕ
+srcFile src0 w = bits w 37 2
+srcFile src1 w = bits w 42 2
+
+abbrev pub srcType : Source → ℕ → ℕ
+srcType src0 w = bits w 39 3
+srcType src1 w = bits w 44 3
+
+-- src1's further fields are src0's shifted up 32 bits.
+abbrev pub shiftOf : Source → ℕ
+shiftOf src0 = 0
+shiftOf src1 = 32
+
+abbrev pub srcSubregister : Source → ℕ → ℕ
+srcSubregister x w = bits w (64 + shiftOf x) 5
+
+abbrev pub srcRegister : Source → ℕ → ℕ
+srcRegister x w = bits w (69 + shiftOf x) 8
+
+abbrev pub srcModifier : Source → ℕ → ℕ
+srcModifier x w = bits w (77 + shiftOf x) 2
+
+abbrev pub srcAddrMode : Source → ℕ → ℕ
+srcAddrMode x w = bits w (79 + shiftOf x) 1
+
+abbrev pub srcHorzStride : Source → ℕ → ℕ
+srcHorzStride x w = bits w (80 + shiftOf x) 2
+
+abbrev pub srcWidth : Source → ℕ → ℕ
+srcWidth x w = bits w (82 + shiftOf x) 3
+
+abbrev pub srcVertStride : Source → ℕ → ℕ
+srcVertStride x w = bits w (85 + shiftOf x) 4
+
+abbrev pub flagChoice : ℕ → ℕ
+flagChoice w = bits w 89 1
+
+-- ---- files, and the immediate form
+
+-- Register files: 01 is the general register file, 00 the architecture's (of which only null is served), 11 an immediate.
+abbrev pub grf : ℕ
+grf = 1
+
+abbrev pub arf : ℕ
+arf = 0
+
+abbrev pub imm : ℕ
+imm = 3
+
+-- Source x is an immediate.
+abbrev pub isImmediate : Source → ℕ → Bool
+isImmediate x w = eqb (srcFile x w) imm
+
+-- A word is in immediate form when either source file is 11.
+unfoldable pub immediateForm : ℕ → Bool
+immediateForm w = isImmediate src0 w || isImmediate src1 w
+
+-- An immediate fills 127:96; its n low bits.
+abbrev pub immediate : ℕ → ℕ → ℕ
+immediate n w = bits w 96 n
