@@ -19,4 +19,12 @@ pub mod Judged
 pub mod Items
 pub mod Kept
 pub mod Parse
+pub mod Differences
+pub mod Values
+pub mod Masks
+pub mod Regions
+pub mod Scatter
+pub mod Halfwords
+pub mod StateBytes
+pub mod Calls
 pub mod ComputeHundred
