@@ -19,6 +19,8 @@ pub mod Judged
 pub mod Items
 pub mod Kept
 pub mod Parse
+pub mod Relay
+pub mod Packing
 pub mod Differences
 pub mod Values
 pub mod Masks
@@ -27,4 +29,6 @@ pub mod Scatter
 pub mod Halfwords
 pub mod StateBytes
 pub mod Calls
+pub mod Lasting
+pub mod Demands
 pub mod ComputeHundred

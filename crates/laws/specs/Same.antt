@@ -125,7 +125,7 @@ module _ (k : List Instr) (sound : Sound k) where
   ways-names p i e = record { next = next-names k p i (found 0 k p i (sound .laid) e); target = target-names p i e }
 
   -- So a step from places that name something leads to such places.
-  step-names : (s : State) → AtState (Names k) s → AtState (Names k) (step k s)
+  pub step-names : (s : State) → AtState (Names k) s → AtState (Names k) (step k s)
   unfolding stepOn
   step-names s v = go (fetch k (s .place)) refl
     where
@@ -183,7 +183,7 @@ waits-names k l (waiting p ∷ cs) e =
     (lands-names k l p (and-left (lands k p) (waitsLand k cs) e), waits-names k l cs (and-right (lands k p) (waitsLand k cs) e))
 
 -- So do all the places of a state that lands.
-state-names : (k : List Instr) → Sound k → (s : State) → stateLands k s ≡ true → AtState (Names k) s
+pub state-names : (k : List Instr) → Sound k → (s : State) → stateLands k s ≡ true → AtState (Names k) s
 state-names k a s e = record {
   current = lands-names k (a .laid) (s .place) (and-left (lands k (s .place)) (waitsLand k (s .channels)) e);
   waits = waits-names k (a .laid) (s .channels) (and-right (lands k (s .place)) (waitsLand k (s .channels)) e);
