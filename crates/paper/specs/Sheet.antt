@@ -129,6 +129,3 @@ rowsI =
     (written (packCall dictionaryA (kernelI 2 (bytesOf 16 longA)) (room 40)) gives 0 ∷ 0 ∷ 40 ∷ kernelI 1 (bytesOf 8 shortA))
     ∷ (written (unpackCall dictionaryA (kernelI 1 (bytesOf 8 shortA)) (room 48)) gives 0 ∷ 0 ∷ 48 ∷ kernelI 2 (bytesOf 16 longA))
     ∷ []
-
-unfoldable pub starred : List Row
-starred = rowsA ++ (rowsB ++ (rowsCDEF ++ (rowsG ++ (rowsH ++ rowsI))))

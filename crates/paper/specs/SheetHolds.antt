@@ -1,6 +1,8 @@
 -- Every row of the bench sheet holds. Assumes nothing.
-use mathlib.Core.List.{List, map}
-use mathlib.Core.Path.{_≡_, refl}
+use mathlib.Core.List.{List, [], _∷_, _++_, map, List·Memᴰ, head-eq-of-cons-eq, tail-eq-of-cons-eq}
+use mathlib.Core.List.{List·Memᴰ·cases-cons, List·Memᴰ·not-nil}
+use mathlib.Core.Logic.{_⊎_, inl, inr}
+use mathlib.Core.Path.{_≡_, refl, sym, ap, ap₂, _∙_}
 use Prim.Native.Nat.{ℕ}
 use Rattle.paper.specs.Bits.{number, numberAt, bytesOf, putAt}
 use Rattle.paper.specs.Word.{immediateForm}
@@ -24,7 +26,7 @@ use Rattle.paper.specs.Assembler.{dwords, to, from0, from1, immediate0, 
 use Rattle.paper.specs.SheetMore.{loads, rowsLoad, stores, rowsStore, rowsOperation, says, rowsCompare, one, r4, masks, sevens, against, rowsEnable, rowsFlag, ranOver, stateIs, rowsBranch}
 use Rattle.paper.specs.SheetRefusals.{second, secondWord, movWith, shortNop, addWith, rowsKernel, rowsWord, from, rowsCall}
 use Rattle.paper.specs.SheetMore.{repeated, rowsRepeated}
-use Rattle.paper.specs.Sheet.{Row, _gives_, shown, written, whole, count, room, longA, shortA, rowsA, dictionaryB, shortenB, rowsB, storedW, rowsCDEF, rowsG, kernelH, stepsH, rowsH, kernelI, rowsI, starred}
+use Rattle.paper.specs.Sheet.{Row, _gives_, shown, written, whole, count, room, longA, shortA, rowsA, dictionaryB, shortenB, rowsB, storedW, rowsCDEF, rowsG, kernelH, stepsH, rowsH, kernelI, rowsI}
 
 -- All rows of a list hold: what is computed is what is said. To open this definition is to open all that a row computes with.
 unfoldable pub Hold : List Row → Type 0
@@ -98,3 +100,49 @@ rowsCall-hold = refl
 rowsRepeated-hold : Hold rowsRepeated
 unfolding Hold
 rowsRepeated-hold = refl
+
+-- ---- the one table: A to I, then ours
+
+abbrev pub starred : List Row
+starred = rowsA ++ (rowsB ++ (rowsCDEF ++ (rowsG ++ (rowsH ++ rowsI))))
+
+abbrev pub ours : List Row
+ours =
+    rowsLoad ++ (rowsStore ++ (rowsOperation ++ (rowsCompare ++ (rowsEnable ++ (rowsFlag ++ (rowsBranch ++ (rowsRepeated
+    ++ (rowsKernel ++ (rowsWord ++ rowsCall)))))))))
+
+abbrev pub table : List Row
+table = starred ++ ours
+
+-- Two lists of rows that hold, one after the other, hold.
+append-map : (f : Row → List ℕ) (xs ys : List Row) → map f (xs ++ ys) ≡ map f xs ++ map f ys
+append-map f [] ys = refl
+append-map f (x ∷ xs) ys = ap (λ (l : List (List ℕ)). f x ∷ l) (append-map f xs ys)
+
+both : (xs ys : List Row) → Hold xs → Hold ys → Hold (xs ++ ys)
+unfolding Hold
+both xs ys p q =
+    append-map (λ r. r .got) xs ys ∙ ap₂ (λ (a b : List (List ℕ)). a ++ b) p q ∙ sym (append-map (λ r. r .want) xs ys)
+
+starred-hold : Hold starred
+starred-hold =
+    both rowsA _ rowsA-hold (both rowsB _ rowsB-hold (both rowsCDEF _ rowsCDEF-hold (both rowsG _ rowsG-hold (both rowsH _ rowsH-hold rowsI-hold))))
+
+ours-hold : Hold ours
+ours-hold =
+    both rowsLoad _ rowsLoad-hold (both rowsStore _ rowsStore-hold (both rowsOperation _ rowsOperation-hold (both rowsCompare _ rowsCompare-hold
+    (both rowsEnable _ rowsEnable-hold (both rowsFlag _ rowsFlag-hold (both rowsBranch _ rowsBranch-hold (both rowsRepeated _ rowsRepeated-hold
+    (both rowsKernel _ rowsKernel-hold (both rowsWord _ rowsWord-hold rowsCall-hold)))))))))
+
+every : (rows : List Row) → map (λ r. r .got) rows ≡ map (λ r. r .want) rows → (r : Row) → List·Memᴰ r rows → r .got ≡ r .want
+every [] h r m = absurd (List·Memᴰ·not-nil m)
+every (x ∷ rows) h r m = go (List·Memᴰ·cases-cons m) (every rows (tail-eq-of-cons-eq h) r)
+  where
+    go : (r ≡ x) ⊎ List·Memᴰ r rows → (List·Memᴰ r rows → r .got ≡ r .want) → r .got ≡ r .want
+    go (inl e) ih = rw e (head-eq-of-cons-eq h)
+    go (inr m) ih = ih m
+
+-- Every row of the table holds.
+pub sheet : (r : Row) → List·Memᴰ r table → r .got ≡ r .want
+unfolding Hold
+sheet = every table (both starred ours starred-hold ours-hold)
