@@ -1,15 +1,16 @@
 -- Which instruction a place names, a state read so, and a kernel's program: what is left of it without its places. Assumes nothing.
 use mathlib.Core.Path.{_≡_}
-use mathlib.Core.Bool.{Bool, true}
+use mathlib.Core.Bool.{true}
 use mathlib.Core.List.{List, [], _∷_, map}
-use mathlib.Core.Option.{Option, none, some}
-use Prim.Native.Nat.{ℕ, zero, suc, _+_, _<_}
+use mathlib.Core.Option.{none}
+use Prim.Native.Nat.{ℕ, _+_, _<_}
+use lib.ListN.{length}
 use Rattle.paper.specs.Bits.{put}
-use Rattle.paper.specs.Operation.{Branch, Operation, plain, nop, branch, unlisted, operation}
+use Rattle.paper.specs.Operation.{Operation, plain, nop, branch, unlisted, operation}
 use Rattle.paper.specs.Kernel.{Instr}
 use Rattle.paper.specs.Jump.{nextOf, distanceOf, targetOf, jumpLands}
 use Rattle.paper.specs.Machine.{Channel, off, awake, waiting, State, Outcome, placeOf}
-use Rattle.paper.specs.Packing.{index, Piece, Form, piece, newSize, rewritten}
+use Rattle.paper.specs.Packing.{index, Piece, Form, piece, newSize, startOf, rewritten}
 
 -- ---- sound kernels
 
@@ -83,6 +84,22 @@ unfoldable pub moved : List Instr → List Piece → ℕ → List Piece → List
 moved k ps a [] = []
 moved k ps a (p ∷ rest) = movedTo k ps a p ∷ moved k ps (a + newSize p) rest
 
+-- The pieces into which `form` cuts a kernel, and the place past the last of them.
+abbrev pub piecesOf : Form → List Instr → List Piece
+piecesOf form k = map (piece form) k
+
+abbrev pub newEnd : Form → List Instr → ℕ
+newEnd form k = startOf 0 (piecesOf form k) (length (piecesOf form k))
+
 -- The instructions of the kernel that a relayout by `form` writes.
 abbrev pub relaidBy : Form → List Instr → List Instr
-relaidBy form k = let ps : List Piece = map (piece form) k in moved k ps 0 ps
+relaidBy form k = moved k (piecesOf form k) 0 (piecesOf form k)
+
+-- The form that unpacking gives: every word is long.
+abbrev pub longForm : Form
+longForm w = none
+
+-- Every instruction is long already.
+unfoldable pub AllLong : List Instr → Type 0
+AllLong [] = Unit {0}
+AllLong (i ∷ rest) = (i .size ≡ 2) × AllLong rest

@@ -1,16 +1,16 @@
 -- Which instruction a place names: the numbers keep apart the places of a sound kernel. Assumes nothing.
-use mathlib.Core.Path.{_≡_, refl, ap, ap₂, sym, _∙_, subst}
-use mathlib.Core.Bool.{Bool, true, false, _||_, cond, false≢true}
+use mathlib.Core.Path.{_≡_, refl, ap, sym, _∙_, subst}
+use mathlib.Core.Bool.{Bool, true, false, false≢true}
 use mathlib.Core.List.{List, [], _∷_, map}
 use mathlib.Core.Option.{Option, none, some, Option·map, Option·none-ne-some, Option·some-ne-none, Option·some-injective}
-use Prim.Native.Nat.{ℕ, zero, suc, _+_, _<_, _≤_}
+use Prim.Native.Nat.{ℕ, suc, _<_, _≤_}
 use native.Mathlib.Omega.{arith}
 use lib.Dec.{eqb}
 use lib.IntN.{ℤ, pos, negsuc}
 use lib.ListN.{length, getElem?}
 use borrow.Author.Tests.{eqb-true, eqb-false, eq-eqb, ne-eqb}
 use Rattle.paper.specs.Kernel.{Instr}
-use Rattle.paper.specs.Jump.{nextOf, fetch, endFrom, endOf, lands, jumpLands, targetOf}
+use Rattle.paper.specs.Jump.{nextOf, fetch, endFrom, lands, jumpLands, targetOf}
 use Rattle.paper.specs.Machine.{placeOf}
 use Rattle.paper.specs.Packing.{index}
 use Rattle.laws.specs.Names.{Laid, AllLand}
@@ -50,9 +50,9 @@ pub index-le : (k : List Instr) (p : ℕ) → index k p ≤ length k
 unfolding index
 index-le [] p = omega arith
 index-le (i ∷ k) p =
-    elim (at i p)
-    [ here e ↦ omega (arith, index-here i k p e)
-    | there e ↦ omega (arith, index-there i k p e, index-le k p)
+    elim (at i p) [
+      | here e ↦ omega (arith, index-here i k p e)
+      | there e ↦ omega (arith, index-there i k p e, index-le k p)
     ]
 
 -- Two places at which instructions start are equal where their numbers are.
@@ -60,13 +60,13 @@ index-eq : (k : List Instr) (p q : ℕ) → index k p ≡ index k q → index k 
 unfolding index
 index-eq [] p q e h = absurd (omega arith)
 index-eq (i ∷ k) p q e h =
-    elim (at i p)
-    [ here a ↦ elim (at i q) [ here b ↦ omega arith | there b ↦ absurd (omega (arith, index-here i k p a, index-there i k q b)) ]
-    | there a ↦
-        elim (at i q)
-        [ here b ↦ absurd (omega (arith, index-there i k p a, index-here i k q b))
-        | there b ↦ index-eq k p q (omega (arith, index-there i k p a, index-there i k q b)) (omega (arith, index-there i k p a))
-        ]
+    elim (at i p) [
+      | here a ↦ elim (at i q) [ here b ↦ omega arith | there b ↦ absurd (omega (arith, index-here i k p a, index-there i k q b)) ]
+      | there a ↦
+          elim (at i q) [
+            | here b ↦ absurd (omega (arith, index-there i k p a, index-here i k q b))
+            | there b ↦ index-eq k p q (omega (arith, index-there i k p a, index-there i k q b)) (omega (arith, index-there i k p a))
+          ]
     ]
 
 -- Place p names an instruction or the end.
@@ -94,9 +94,9 @@ pub fetch-index {ℓ} : {B : Type ℓ} (f : Instr → B) (k : List Instr) (p : �
 unfolding fetch index
 fetch-index f [] p = refl
 fetch-index f (i ∷ k) p =
-    elim (at i p)
-    [ here e ↦ rw (index-here i k p e, fetch-here i k p e)
-    | there e ↦ rw (index-there i k p e, fetch-there i k p e) (fetch-index f k p)
+    elim (at i p) [
+      | here e ↦ rw (index-here i k p e, fetch-here i k p e)
+      | there e ↦ rw (index-there i k p e, fetch-there i k p e) (fetch-index f k p)
     ]
 
 -- The place from which a kernel is laid has number 0.
@@ -131,7 +131,7 @@ found-here a j k p l e =
       low = omega (arith, l .0);
       inside = omega arith;
       next = omega arith;
-      last = λ h. last-here (nextOf j) k (omega arith)
+      last = λ h. last-here (nextOf j) k (omega arith);
     }
 
 -- What is known of a later one.
@@ -146,7 +146,7 @@ found-there a j k p i l e f =
       low = omega (arith, l .0, l .1, f .low);
       inside = omega (arith, f .inside);
       next = omega (arith, f .next);
-      last = λ h. f .last (omega arith)
+      last = λ h. f .last (omega arith);
     }
 
 -- What is known of whatever instruction starts at p.
@@ -154,9 +154,9 @@ pub found : (a : ℕ) (k : List Instr) (p : ℕ) (i : Instr) → Laid a k → fe
 unfolding Laid fetch
 found a [] p i l e = absurd (Option·none-ne-some i e)
 found a (j ∷ k) p i l e =
-    elim (at j p)
-    [ here h ↦ subst (λ x. Found a (j ∷ k) p x) (Option·some-injective j i (sym (fetch-here j k p h) ∙ e)) (found-here a j k p l h)
-    | there h ↦ found-there a j k p i l h (found (nextOf j) k p i (l .2) (sym (fetch-there j k p h) ∙ e))
+    elim (at j p) [
+      | here h ↦ subst (λ x. Found a (j ∷ k) p x) (Option·some-injective j i (sym (fetch-here j k p h) ∙ e)) (found-here a j k p l h)
+      | there h ↦ found-there a j k p i l h (found (nextOf j) k p i (l .2) (sym (fetch-there j k p h) ∙ e))
     ]
 
 -- Where no instruction starts, the number is the end's.
@@ -164,9 +164,9 @@ pub none-length : (k : List Instr) (p : ℕ) → fetch k p ≡ none → index k 
 unfolding fetch index
 none-length [] p e = refl
 none-length (i ∷ k) p e =
-    elim (at i p)
-    [ here h ↦ absurd (Option·some-ne-none i (sym (fetch-here i k p h) ∙ e))
-    | there h ↦ index-there i k p h ∙ ap suc (none-length k p (sym (fetch-there i k p h) ∙ e))
+    elim (at i p) [
+      | here h ↦ absurd (Option·some-ne-none i (sym (fetch-here i k p h) ∙ e))
+      | there h ↦ index-there i k p h ∙ ap suc (none-length k p (sym (fetch-there i k p h) ∙ e))
     ]
 
 -- A place that lands names an instruction or the end.
@@ -187,9 +187,9 @@ pub jump-lands : (k r : List Instr) (p : ℕ) (i : Instr) → AllLand k r → fe
 unfolding AllLand fetch
 jump-lands k [] p i l e = absurd (Option·none-ne-some i e)
 jump-lands k (j ∷ r) p i l e =
-    elim (at j p)
-    [ here h ↦ subst (λ x. jumpLands k (targetOf x) ≡ true) (Option·some-injective j i (sym (fetch-here j r p h) ∙ e)) (l .0)
-    | there h ↦ jump-lands k r p i (l .1) (sym (fetch-there j r p h) ∙ e)
+    elim (at j p) [
+      | here h ↦ subst (λ x. jumpLands k (targetOf x) ≡ true) (Option·some-injective j i (sym (fetch-here j r p h) ∙ e)) (l .0)
+      | there h ↦ jump-lands k r p i (l .1) (sym (fetch-there j r p h) ∙ e)
     ]
 
 -- Place 0 is the first instruction's, or the end of a kernel of none.

@@ -1,6 +1,6 @@
 -- What `put` makes of a word: the field that it writes, every other field, and the word's size, for every place and width. Assumes nothing.
-use mathlib.Core.Path.{_≡_, refl, ap, sym, _∙_}
-use Prim.Native.Nat.{ℕ, zero, suc, _+_, _*_, _-_, _^_, _/_, _%_, _<_, _≤_}
+use mathlib.Core.Path.{_≡_, ap, sym, _∙_}
+use Prim.Native.Nat.{ℕ, _+_, _*_, _-_, _^_, _/_, _%_, _<_, _≤_}
 use native.Mathlib.Omega.{arith}
 use native.Mathlib.Nat.{add-mul, mul-assoc, mul-comm, add-mul-div-right, add-mul-mod-self-right, mod-mod, mod-lt, mod-eq-of-lt, div-eq-of-lt}
 use native.Mathlib.Nat.{div-div-eq-div-mul, zero-add, mod-add-div'}
@@ -18,7 +18,7 @@ unfolding rest
 put-form w lo n v =
     let h : ℕ = w / 2 ^ (lo + n) in
     let e : h * 2 ^ (lo + n) ≡ h * 2 ^ n * 2 ^ lo =
-        ap (λ (x : ℕ). h * x) (pow-add 2 lo n ∙ mul-comm (2 ^ lo) (2 ^ n)) ∙ sym (mul-assoc h (2 ^ n) (2 ^ lo)) in
+    ap (λ (x : ℕ). h * x) (pow-add 2 lo n ∙ mul-comm (2 ^ lo) (2 ^ n)) ∙ sym (mul-assoc h (2 ^ n) (2 ^ lo)) in
     omega (arith, e, add-mul v (h * 2 ^ n) (2 ^ lo))
 
 -- Bits below lo do not see what stands above it.
@@ -26,9 +26,9 @@ below : (r x lo a m : ℕ) → a + m ≤ lo → bits (r + x * 2 ^ lo) a m ≡ bi
 below r x lo a m h =
     let c : ℕ = lo - (a + m) in
     let e : 2 ^ lo ≡ 2 ^ c * 2 ^ m * 2 ^ a =
-        ap (λ (k : ℕ). 2 ^ k) (omega arith) ∙ pow-add 2 (c + m) a ∙ ap (λ (k : ℕ). k * 2 ^ a) (pow-add 2 c m) in
+    ap (λ (k : ℕ). 2 ^ k) (omega arith) ∙ pow-add 2 (c + m) a ∙ ap (λ (k : ℕ). k * 2 ^ a) (pow-add 2 c m) in
     let f : x * 2 ^ lo ≡ x * 2 ^ c * 2 ^ m * 2 ^ a =
-        ap (λ (k : ℕ). x * k) e ∙ sym (mul-assoc x (2 ^ c * 2 ^ m) (2 ^ a)) ∙ ap (λ (k : ℕ). k * 2 ^ a) (sym (mul-assoc x (2 ^ c) (2 ^ m))) in
+    ap (λ (k : ℕ). x * k) e ∙ sym (mul-assoc x (2 ^ c * 2 ^ m) (2 ^ a)) ∙ ap (λ (k : ℕ). k * 2 ^ a) (sym (mul-assoc x (2 ^ c) (2 ^ m))) in
     ap (λ (k : ℕ). (r + k) / 2 ^ a % 2 ^ m) f
     ∙ ap (λ (k : ℕ). k % 2 ^ m) (add-mul-div-right r (x * 2 ^ c * 2 ^ m) (pow-pos a))
     ∙ add-mul-mod-self-right (r / 2 ^ a) (x * 2 ^ c) (2 ^ m)
@@ -74,7 +74,7 @@ unfolding rest
 put-at w lo n v h =
     ap (λ (k : ℕ). bits k lo n) (put-form w lo n v)
     ∙ ap (λ (k : ℕ). k % 2 ^ n) (add-mul-div-right (w % 2 ^ lo) (rest w lo n v) (pow-pos lo)
-      ∙ ap (λ (k : ℕ). k + rest w lo n v) (div-eq-of-lt (mod-lt w (pow-pos lo))) ∙ zero-add (rest w lo n v))
+    ∙ ap (λ (k : ℕ). k + rest w lo n v) (div-eq-of-lt (mod-lt w (pow-pos lo))) ∙ zero-add (rest w lo n v))
     ∙ add-mul-mod-self-right v (w / 2 ^ (lo + n)) (2 ^ n)
     ∙ mod-eq-of-lt h
 
@@ -102,5 +102,5 @@ put-fits w lo n v m h g l =
     let r : w / 2 ^ (lo + n) * 2 ^ n + v < 2 ^ c * 2 ^ n = digits-lt q g in
     let s : rest w lo n v * 2 ^ lo + w % 2 ^ lo < 2 ^ c * 2 ^ n * 2 ^ lo = digits-lt (omega arith) (mod-lt w (pow-pos lo)) in
     let p : 2 ^ m ≡ 2 ^ c * 2 ^ n * 2 ^ lo =
-        ap (λ (k : ℕ). 2 ^ k) (omega arith) ∙ pow-add 2 (c + n) lo ∙ ap (λ (k : ℕ). k * 2 ^ lo) (pow-add 2 c n) in
+    ap (λ (k : ℕ). 2 ^ k) (omega arith) ∙ pow-add 2 (c + n) lo ∙ ap (λ (k : ℕ). k * 2 ^ lo) (pow-add 2 c n) in
     rw (put-form w lo n v, p) (omega arith)

@@ -3,7 +3,7 @@
 use mathlib.Core.Path.{_≡_, refl, ap, ap₂, sym, _∙_}
 use mathlib.Core.Bool.{Bool, true, false, not, _&&_, _||_, cond}
 use mathlib.Core.List.{List, [], _∷_, map}
-use Prim.Native.Nat.{ℕ, zero, suc}
+use Prim.Native.Nat.{ℕ, suc}
 use lib.Dec.{eqb}
 use Rattle.paper.specs.Operation.{Branch, jmpi, if, else, endif, while, Operation, plain, nop, branch, unlisted, operation}
 use Rattle.paper.specs.Enable.{Store, holds}
@@ -18,24 +18,24 @@ cond-ap f true x y = refl
 cond-ap f false x y = refl
 
 -- P holds of the place at which a channel waits, if it does.
-abbrev pub AtC : (ℕ → Type 0) → Channel → Type 0
-AtC P off = Unit {0}
-AtC P awake = Unit {0}
-AtC P (waiting p) = P p
+abbrev pub AtChannel : (ℕ → Type 0) → Channel → Type 0
+AtChannel P off = Unit {0}
+AtChannel P awake = Unit {0}
+AtChannel P (waiting p) = P p
 
 -- So for each of some channels.
-abbrev pub AtCs : (ℕ → Type 0) → List Channel → Type 0
-AtCs P [] = Unit {0}
-AtCs P (c ∷ cs) = AtC P c × AtCs P cs
+abbrev pub AtChannels : (ℕ → Type 0) → List Channel → Type 0
+AtChannels P [] = Unit {0}
+AtChannels P (c ∷ cs) = AtChannel P c × AtChannels P cs
 
 -- P holds of the places to which an instruction leads.
-pub record AtW (P : ℕ → Type 0) (ways : Ways) : Type 0 where
+pub record AtWays (P : ℕ → Type 0) (ways : Ways) : Type 0 where
   pub next : P (ways .next)
   pub target : P (ways .target)
 
 -- Ways with φ of each place.
-abbrev pub renameW : (ℕ → ℕ) → Ways → Ways
-renameW φ ways = record { next = φ (ways .next); target = φ (ways .target) }
+abbrev pub renameWays : (ℕ → ℕ) → Ways → Ways
+renameWays φ ways = record { next = φ (ways .next); target = φ (ways .target) }
 
 -- ---- what holds for every φ
 
@@ -78,27 +78,27 @@ module _ (φ : ℕ → ℕ) where
 
 module _ (φ : ℕ → ℕ) (P : ℕ → Type 0) (apart : (p q : ℕ) → P p → P q → eqb (φ p) (φ q) ≡ eqb p q) where
   -- The channels that wake at a place are those that wake at its new name.
-  wake-rename : (p : ℕ) → P p → (c : Channel) → AtC P c → renameC φ (wake p c) ≡ wake (φ p) (renameC φ c)
+  wake-rename : (p : ℕ) → P p → (c : Channel) → AtChannel P c → renameC φ (wake p c) ≡ wake (φ p) (renameC φ c)
   unfolding renameC wake
   wake-rename p h off v = refl
   wake-rename p h awake v = refl
   wake-rename p h (waiting q) v = rw (apart p q h v) (cond-ap (renameC φ) (eqb p q) awake (waiting q))
 
   -- So for each channel.
-  wakes-rename : (p : ℕ) → P p → (cs : List Channel) → AtCs P cs
+  wakes-rename : (p : ℕ) → P p → (cs : List Channel) → AtChannels P cs
       → map (renameC φ) (map (wake p) cs) ≡ map (wake (φ p)) (map (renameC φ) cs)
   wakes-rename p h [] v = refl
   wakes-rename p h (c ∷ cs) v = ap₂ {C = List Channel} (λ a b. a ∷ b) (wake-rename p h c (v .0)) (wakes-rename p h cs (v .1))
 
   -- A channel waits at a place where, renamed, it waits at the new name.
-  waits-rename : (p : ℕ) → P p → (c : Channel) → AtC P c → waitsAt (φ p) (renameC φ c) ≡ waitsAt p c
+  waits-rename : (p : ℕ) → P p → (c : Channel) → AtChannel P c → waitsAt (φ p) (renameC φ c) ≡ waitsAt p c
   unfolding renameC
   waits-rename p h off v = refl
   waits-rename p h awake v = refl
   waits-rename p h (waiting q) v = apart p q h v
 
   -- So whether some channel is awake or waits at a place is the same.
-  some-rename : (p : ℕ) → P p → (n : ℕ) (cs : List Channel) → AtCs P cs
+  some-rename : (p : ℕ) → P p → (n : ℕ) (cs : List Channel) → AtChannels P cs
       → someone (λ _ c. isAwake c || waitsAt (φ p) c) n (map (renameC φ) cs) ≡ someone (λ _ c. isAwake c || waitsAt p c) n cs
   unfolding someone
   some-rename p h n [] v = refl
@@ -106,23 +106,23 @@ module _ (φ : ℕ → ℕ) (P : ℕ → Type 0) (apart : (p q : ℕ) → P p �
       ap₂ _||_ (ap₂ _||_ (awake-rename φ c) (waits-rename p h c (v .0))) (some-rename p h (suc n) cs (v .1))
 
   -- The place to which a fork goes on is renamed with the rest.
-  onward-rename : (ways : Ways) → P (ways .next) → (cs : List Channel) → AtCs P cs
-      → φ (onward ways cs) ≡ onward (renameW φ ways) (map (renameC φ) cs)
+  onward-rename : (ways : Ways) → P (ways .next) → (cs : List Channel) → AtChannels P cs
+      → φ (onward ways cs) ≡ onward (renameWays φ ways) (map (renameC φ) cs)
   unfolding onward
   onward-rename ways h cs v =
       rw (some-rename (ways .next) h 0 cs v)
       (cond-ap φ (someone (λ _ c. isAwake c || waitsAt (ways .next) c) 0 cs) (ways .next) (ways .target))
 
   -- A fork commutes with renaming.
-  fork-rename : (ways : Ways) → AtW P ways → (st : Store) (cs ds : List Channel) → AtCs P cs → map (renameC φ) cs ≡ ds
-      → rename φ (fork ways st cs) ≡ fork (renameW φ ways) st ds
+  fork-rename : (ways : Ways) → AtWays P ways → (st : Store) (cs ds : List Channel) → AtChannels P cs → map (renameC φ) cs ≡ ds
+      → rename φ (fork ways st cs) ≡ fork (renameWays φ ways) st ds
   fork-rename ways a st cs ds v e =
-      λ i. record { store = st; channels = e i; place = (onward-rename ways (a .next) cs v ∙ ap (onward (renameW φ ways)) e) i }
+      λ i. record { store = st; channels = e i; place = (onward-rename ways (a .next) cs v ∙ ap (onward (renameWays φ ways)) e) i }
 
 -- P holds of every place of a state.
-pub record AtS (P : ℕ → Type 0) (s : State) : Type 0 where
+pub record AtState (P : ℕ → Type 0) (s : State) : Type 0 where
   pub current : P (s .place)
-  pub waits : AtCs P (s .channels)
+  pub waits : AtChannels P (s .channels)
 
 -- A function of a choice is a choice by an equal test between equals of the function's values.
 cond-two {ℓ ℓ′} : {A : Type ℓ} {B : Type ℓ′} (f : A → B) {b b′ : Bool} (x y : A) (x′ y′ : B) → b′ ≡ b → f x ≡ x′ → f y ≡ y′
@@ -136,43 +136,43 @@ cond-at Q false x y p q = q
 
 module _ (P : ℕ → Type 0) where
   -- Waking keeps P at the waiting places.
-  wakes-at : (p : ℕ) (cs : List Channel) → AtCs P cs → AtCs P (map (wake p) cs)
+  wakes-at : (p : ℕ) (cs : List Channel) → AtChannels P cs → AtChannels P (map (wake p) cs)
   unfolding wake
   wakes-at p [] v = tt
   wakes-at p (off ∷ cs) v = (tt, wakes-at p cs (v .1))
   wakes-at p (awake ∷ cs) v = (tt, wakes-at p cs (v .1))
-  wakes-at p (waiting q ∷ cs) v = (cond-at (AtC P) (eqb p q) awake (waiting q) tt (v .0), wakes-at p cs (v .1))
+  wakes-at p (waiting q ∷ cs) v = (cond-at (AtChannel P) (eqb p q) awake (waiting q) tt (v .0), wakes-at p cs (v .1))
 
   -- So does parking at a place with P.
-  each-at : (f : ℕ → Bool) (p : ℕ) → P p → (n : ℕ) (cs : List Channel) → AtCs P cs → AtCs P (each (λ m. park (f m) p) n cs)
+  each-at : (f : ℕ → Bool) (p : ℕ) → P p → (n : ℕ) (cs : List Channel) → AtChannels P cs → AtChannels P (each (λ m. park (f m) p) n cs)
   unfolding each park
   each-at f p h n [] v = tt
   each-at f p h n (off ∷ cs) v = (tt, each-at f p h (suc n) cs (v .1))
-  each-at f p h n (awake ∷ cs) v = (cond-at (AtC P) (f n) (waiting p) awake h tt, each-at f p h (suc n) cs (v .1))
+  each-at f p h n (awake ∷ cs) v = (cond-at (AtChannel P) (f n) (waiting p) awake h tt, each-at f p h (suc n) cs (v .1))
   each-at f p h n (waiting q ∷ cs) v = (v .0, each-at f p h (suc n) cs (v .1))
 
   -- So does a fork between ways with P, which leaves the state at one of them.
-  fork-at : (ways : Ways) → AtW P ways → (st : Store) (cs : List Channel) → AtCs P cs → AtS P (fork ways st cs)
+  fork-at : (ways : Ways) → AtWays P ways → (st : Store) (cs : List Channel) → AtChannels P cs → AtState P (fork ways st cs)
   unfolding onward
   fork-at ways a st cs v =
       record { current = cond-at P (someone (λ _ c. isAwake c || waitsAt (ways .next) c) 0 cs) _ _ (a .next) (a .target); waits = v }
 
   -- So does every branch.
-  act-at : (b : Branch) (w : ℕ) (ways : Ways) → AtW P ways → (st : Store) (cs : List Channel) → AtCs P cs
-      → AtS P (act b w ways st cs)
+  act-at : (b : Branch) (w : ℕ) (ways : Ways) → AtWays P ways → (st : Store) (cs : List Channel) → AtChannels P cs
+      → AtState P (act b w ways st cs)
   unfolding act
   act-at if w ways a st cs v = fork-at ways a st _ (each-at (λ m. not (holds w st m)) (ways .target) (a .target) 0 cs v)
   act-at else w ways a st cs v = fork-at ways a st _ (each-at (λ _. true) (ways .target) (a .target) 0 cs v)
   act-at endif w ways a st cs v = fork-at ways a st cs v
   act-at while w ways a st cs v =
-      cond-at (AtS P) (someone (λ n c. isAwake c && holds w st n) 0 cs) _ _
+      cond-at (AtState P) (someone (λ n c. isAwake c && holds w st n) 0 cs) _ _
       (record { current = a .target; waits = each-at (λ m. not (holds w st m)) (ways .next) (a .next) 0 cs v })
       (record { current = a .next; waits = v })
   act-at jmpi w ways a st cs v = record { current = cond-at P (holds w st 0) _ _ (a .target) (a .next); waits = v }
 
   -- So does every instruction.
-  perform-at : (o : Operation) (w : ℕ) (ways : Ways) → AtW P ways → (st : Store) (cs : List Channel) → AtCs P cs
-      → AtS P (perform o w ways st cs)
+  perform-at : (o : Operation) (w : ℕ) (ways : Ways) → AtWays P ways → (st : Store) (cs : List Channel) → AtChannels P cs
+      → AtState P (perform o w ways st cs)
   unfolding perform
   perform-at (plain p) w ways a st cs v = record { current = a .next; waits = v }
   perform-at nop w ways a st cs v = record { current = a .next; waits = v }
@@ -180,13 +180,13 @@ module _ (P : ℕ → Type 0) where
   perform-at unlisted w ways a st cs v = record { current = a .next; waits = v }
 
   -- A step leaves a state whose places all have P, if it starts from one and the places to which it leads have P.
-  pub stepAt-at : (w here : ℕ) (ways : Ways) → AtW P ways → (s : State) → AtS P s → AtS P (stepAt w here ways s)
+  pub stepAt-at : (w here : ℕ) (ways : Ways) → AtWays P ways → (s : State) → AtState P s → AtState P (stepAt w here ways s)
   stepAt-at w here ways a s v = perform-at (operation w) w ways a (s .store) _ (wakes-at here (s .channels) (v .waits))
 
 module _ (φ : ℕ → ℕ) (P : ℕ → Type 0) (apart : (p q : ℕ) → P p → P q → eqb (φ p) (φ q) ≡ eqb p q) where
   -- A branch commutes with renaming.
-  act-rename : (b : Branch) (w : ℕ) (ways : Ways) → AtW P ways → (st : Store) (cs : List Channel) → AtCs P cs
-      → rename φ (act b w ways st cs) ≡ act b w (renameW φ ways) st (map (renameC φ) cs)
+  act-rename : (b : Branch) (w : ℕ) (ways : Ways) → AtWays P ways → (st : Store) (cs : List Channel) → AtChannels P cs
+      → rename φ (act b w ways st cs) ≡ act b w (renameWays φ ways) st (map (renameC φ) cs)
   unfolding act
   act-rename if w ways a st cs v =
       fork-rename φ P apart ways a st _ _ (each-at P (λ m. not (holds w st m)) (ways .target) (a .target) 0 cs v)
@@ -203,13 +203,13 @@ module _ (φ : ℕ → ℕ) (P : ℕ → Type 0) (apart : (p q : ℕ) → P p �
 
   -- So does what is no branch: it reads the mask of awake channels and no place.
   pass-rename : (w : ℕ) (ways : Ways) (st : Store) (cs : List Channel)
-      → rename φ (pass w ways st cs) ≡ pass w (renameW φ ways) st (map (renameC φ) cs)
+      → rename φ (pass w ways st cs) ≡ pass w (renameWays φ ways) st (map (renameC φ) cs)
   pass-rename w ways st cs =
       λ i. record { store = effect w (sym (awakes-rename φ cs) i) st; channels = map (renameC φ) cs; place = φ (ways .next) }
 
   -- So does every instruction.
-  perform-rename : (o : Operation) (w : ℕ) (ways : Ways) → AtW P ways → (st : Store) (cs : List Channel) → AtCs P cs
-      → rename φ (perform o w ways st cs) ≡ perform o w (renameW φ ways) st (map (renameC φ) cs)
+  perform-rename : (o : Operation) (w : ℕ) (ways : Ways) → AtWays P ways → (st : Store) (cs : List Channel) → AtChannels P cs
+      → rename φ (perform o w ways st cs) ≡ perform o w (renameWays φ ways) st (map (renameC φ) cs)
   unfolding perform
   perform-rename (plain p) w ways a st cs v = pass-rename w ways st cs
   perform-rename nop w ways a st cs v = pass-rename w ways st cs
@@ -217,8 +217,8 @@ module _ (φ : ℕ → ℕ) (P : ℕ → Type 0) (apart : (p q : ℕ) → P p �
   perform-rename unlisted w ways a st cs v = pass-rename w ways st cs
 
   -- A step from a renamed state, at the renamed place with renamed ways, leaves the renamed state.
-  pub stepAt-rename : (w here : ℕ) (ways : Ways) → P here → AtW P ways → (s : State) → AtS P s
-      → rename φ (stepAt w here ways s) ≡ stepAt w (φ here) (renameW φ ways) (rename φ s)
+  pub stepAt-rename : (w here : ℕ) (ways : Ways) → P here → AtWays P ways → (s : State) → AtState P s
+      → rename φ (stepAt w here ways s) ≡ stepAt w (φ here) (renameWays φ ways) (rename φ s)
   stepAt-rename w here ways p a s v =
       perform-rename (operation w) w ways a (s .store) _ (wakes-at P here (s .channels) (v .waits))
-      ∙ ap (perform (operation w) w (renameW φ ways) (s .store)) (wakes-rename φ P apart here p (s .channels) (v .waits))
+      ∙ ap (perform (operation w) w (renameWays φ ways) (s .store)) (wakes-rename φ P apart here p (s .channels) (v .waits))

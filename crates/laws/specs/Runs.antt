@@ -3,7 +3,7 @@ use mathlib.Core.Path.{_≡_, refl, ap, sym, _∙_}
 use mathlib.Core.Logic.{_↔_}
 use mathlib.Core.List.{List}
 use mathlib.Core.Option.{Option, none, some, Option·some-ne-none}
-use Prim.Native.Nat.{ℕ, zero, suc, _+_, _<_, _≤_}
+use Prim.Native.Nat.{ℕ, zero, suc, _<_, _≤_}
 use native.Mathlib.Omega.{arith}
 use Rattle.paper.specs.Kernel.{Instr}
 use Rattle.paper.specs.Jump.{fetch}
@@ -84,7 +84,7 @@ module _ (stop : State → Option ℕ) (next : State → State) where
     within = omega arith;
     before = λ m h. absurd (omega arith);
     judged = rw e;
-    spent = λ f. absurd (Option·some-ne-none v (sym e ∙ f))
+    spent = λ f. absurd (Option·some-ne-none v (sym e ∙ f));
   }
 
   -- A run that goes on.
@@ -95,7 +95,7 @@ module _ (stop : State → Option ℕ) (next : State → State) where
     within = omega (arith, r .within);
     before = bef;
     judged = r .judged;
-    spent = λ f. ap suc (r .spent f)
+    spent = λ f. ap suc (r .spent f);
   }
     where
       bef : (m : ℕ) → m < suc (o .steps) → stop (iterate next m s) ≡ none
@@ -108,7 +108,8 @@ module _ (stop : State → Option ℕ) (next : State → State) where
   ran zero s = record { reached = refl; within = omega arith; before = λ m h. absurd (omega arith); judged = refl; spent = λ _. refl }
   ran (suc n) s = go (stop s) refl (ran n (next s))
     where
-      go : (o : Option ℕ) → stop s ≡ o → Ran stop next n (next s) (runWith stop next n (next s)) → Ran stop next (suc n) s (runWith stop next (suc n) s)
+      go : (o : Option ℕ) → stop s ≡ o → Ran stop next n (next s) (runWith stop next n (next s))
+          → Ran stop next (suc n) s (runWith stop next (suc n) s)
       go (some v) e r = rw (run-stop stop next n s v e) (ran-still (suc n) s v e)
       go none e r = rw (run-on stop next n s e) (ran-more n s (runWith stop next n (next s)) e r)
 
@@ -118,6 +119,7 @@ run-ends k n s = (go (fetch k (run k n s .state .place)) judged, λ e. judged �
   where
     judged : run k n s .verdict ≡ orSpent (stops k (run k n s .state))
     judged = ran (stops k) (step k) n s .judged
+
     go : (o : Option Instr) → run k n s .verdict ≡ orSpent (stopsOn o) → run k n s .verdict ≡ 20 → o ≡ none
     go none e f = refl
     go (some i) e f = absurd (omega arith)
