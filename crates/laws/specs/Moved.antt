@@ -175,6 +175,16 @@ pub takes-some : (o : Option ℕ) → 0 < placesTaken o
 takes-some none = omega arith
 takes-some (some s) = omega arith
 
+takes-few : (o : Option ℕ) → placesTaken o ≤ 2
+takes-few none = omega arith
+takes-few (some s) = omega arith
+
+-- So the end lies at most two places on for each piece.
+pub end-near : (a : ℕ) (ps : List Piece) → startOf a ps (length ps) ≤ a + 2 * length ps
+unfolding startOf
+end-near a [] = omega arith
+end-near a (p ∷ ps) = omega (arith, takes-few (p .short), end-near (a + newSize p) ps)
+
 -- No piece starts before the first.
 pub start-low : (a : ℕ) (ps : List Piece) (j : ℕ) → a ≤ startOf a ps j
 unfolding startOf
