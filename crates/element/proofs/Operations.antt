@@ -5,14 +5,14 @@ use Prim.Native.Nat.{ℕ, zero, suc, _+_, _*_, _-_, _/_, _%_, _^_, _<_, _≤_}
 use native.Mathlib.Nat.{mod-lt, mul-le-mul-right, mul-le-mul-left, le-trans, div-lt-iff-lt-mul, mul-div-cancel, div-add-mod', div-le-self}
 use native.Mathlib.Omega.{arith}
 use lib.Dec.{ltb, leb, eqb}
-use lib.IntN.{ℤ, pos, negsuc, negℤ, natAbs, subℕ, _+ℤ_, _-ℤ_, _*ℤ_}
+use lib.IntN.{ℤ, pos, negℤ, natAbs, subℕ, _+ℤ_, _-ℤ_, _*ℤ_}
 use lib.Signed.{ltZ}
 use lib.Pow.{pow-pos, pow-mono, shl-exact}
 use borrow.Author.Tests.{lt-ltb, le-ltb, le-leb, lt-leb, ltb-true, ltb-false, eq-eqb, ne-eqb}
 use Rattle.paper.specs.Value.{floorZ}
 use Rattle.paper.specs.Element.{average, logic, complement, isZero}
 use Rattle.laws.specs.Differences.{sub-cases, is-pos, sub-eq, sub-pos, sub-neg, abs-pos, abs-neg, sub-add, sub-sub, sub-mul, sub-floor, sub-lt, ltb-by}
-use Rattle.element.specs.Biased.{ex, Near}
+use Rattle.element.specs.Biased.{ex}
 use Rattle.element.proofs.Base.{ex-pos, ex-mod, base-multiple}
 
 -- ---- modifiers

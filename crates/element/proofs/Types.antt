@@ -1,10 +1,10 @@
 -- Loading, clamping and storing, each once for all types: byte, word and dword enter by `width-half` and `width-most` alone. Assumes nothing.
-use mathlib.Core.Path.{_≡_, refl, sym, _∙_, ap, ap₂, subst}
+use mathlib.Core.Path.{_≡_, refl, sym, _∙_, ap, ap₂}
 use mathlib.Core.Bool.{Bool, true, false, cond, _&&_}
 use Prim.Native.Nat.{ℕ, _+_, _*_, _-_, _/_, _%_, _^_, _<_, _≤_}
 use native.Mathlib.Nat.{one-mul}
 use native.Mathlib.Omega.{arith}
-use lib.Dec.{ltb, leb, eqb}
+use lib.Dec.{ltb, leb}
 use lib.IntN.{ℤ, pos, negℤ, subℕ}
 use lib.Pow.{pow-mono, pow-pos}
 use lib.Bits.{bitAnd, bitXor, and-mask, xor-zero-r, xor-comm, xor-shifted, xor-block}

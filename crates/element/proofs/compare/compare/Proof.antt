@@ -1,5 +1,5 @@
 -- Numbers are ordered as what they stand for, and the arms of the match are the tests of `compares`. Assumes nothing.
-use mathlib.Core.Path.{_≡_, sym, ap, _∙_}
+use mathlib.Core.Path.{sym, ap, _∙_}
 use mathlib.Core.Bool.{not}
 use borrow.Author.Tests.{ne-eqb}
 use Rattle.paper.specs.Element.{compares}

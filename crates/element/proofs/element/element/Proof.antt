@@ -1,8 +1,4 @@
 -- Operands of patterns are as `compute` asks (`operands-of`), and what it computes is stored. Assumes nothing.
-use mathlib.Core.Path.{ap, ap₂, _∙_}
-use Rattle.paper.specs.Value.{stored}
-use Rattle.paper.specs.Element.{result}
-use Rattle.words.specs.Operations.{plainIs}
 use Rattle.laws.specs.Values.{stored-fits}
 use Rattle.element.specs.Operands.{operands-of}
 use borrow.Author.Needs.{needs}
@@ -26,10 +22,7 @@ store-requires c κs = search needs
 returns : tie.Need-returns
 returns c =
     let x = c .before .before .before .before .args in
-    let a = c .before .before .before .operand .ensures .0 in
-    let b = c .before .before .operand2 .ensures .0 in
-    let e = c .store .ensures ∙ ap (stored (x .saturated) (x .destination)) (c .before .compute .ensures ∙ ap₂ (result (plainIs (x .p)) (x .condition) (x .holds)) a b) in
-    (e, rw e (stored-fits (x .saturated) (x .destination) _))
+    (cc, rw (c .store .ensures) (stored-fits (x .saturated) (x .destination) _))
 
 pub element-spec : {M : Type 1} → statement M
 element-spec =

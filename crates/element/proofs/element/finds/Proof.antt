@@ -1,7 +1,4 @@
 -- Both operands are compared. Assumes nothing.
-use mathlib.Core.Path.{ap, ap₂, _∙_}
-use lib.IntN.{ℤ, _-ℤ_}
-use Rattle.paper.specs.Element.{compares}
 use borrow.Author.Needs.{needs}
 use Rattle.element.proofs.element.finds.Statement.{statement}
 use Rattle.element.proofs.element.finds.Tie as tie
@@ -16,9 +13,7 @@ compare-requires : tie.Need-compare-requires
 compare-requires c κs = search needs
 
 returns : tie.Need-returns
-returns c =
-    let x = c .before .before .before .args in
-    c .compare .ensures ∙ ap (compares (x .condition)) (ap₂ (λ (v w : ℤ). v -ℤ w) (c .before .before .operand .ensures .0) (c .before .operand2 .ensures .0))
+returns c = cc
 
 pub finds-spec : {M : Type 1} → statement M
 finds-spec = tie.close (tie.spec operand-requires operand-requires-2 compare-requires returns)

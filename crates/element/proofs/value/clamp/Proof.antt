@@ -1,7 +1,5 @@
 -- The two numbers handed to `between` stand for the ends of the range (`ex-clamp`). Assumes nothing.
 use native.Mathlib.Omega.{arith}
-use mathlib.Core.Path.{ap, _∙_}
-use Rattle.element.specs.Biased.{ex}
 use Rattle.element.proofs.Types.{ex-clamp, sign-most, sign-ones, ones-most}
 use borrow.Author.Needs.{needs}
 use Rattle.element.proofs.value.clamp.Statement.{statement}
@@ -28,7 +26,7 @@ between-requires c κs = search needs
 returns : tie.Need-returns
 returns c =
     let x = c .before .before .before .args in
-    ap ex (c .between .ensures) ∙ rw (c .before .before .sign .ensures, c .before .ones .ensures) (ex-clamp (x .kind) (x .v))
+    rw (c .between .ensures, c .before .before .sign .ensures, c .before .ones .ensures) (ex-clamp (x .kind) (x .v))
 
 pub clamp-spec : {M : Type 1} → statement M
 clamp-spec =
