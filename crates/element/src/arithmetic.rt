@@ -8,6 +8,7 @@ use super::value::BASE;
 // Half of what stands for 0.
 const HALF_BASE: u64 = 4611686018427387904;
 
+// The sum.
 pub fn add(a: u64, b: u64) -> u64
     requires { ⌜ Near 32 a × Near 32 b ⌝ }
     ensures { λ r. ⌜ ex r ≡ ex a +ℤ ex b ⌝ }

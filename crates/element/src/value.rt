@@ -41,7 +41,7 @@ pub fn load(kind: u64, pattern: u64) -> u64
     (pattern ^ s) + (BASE - s)
 }
 
-// The number of the two ends that v lies beyond, or v.
+// v, or the end of the range that it lies beyond.
 fn between(v: u64, low: u64, high: u64) -> u64
     ensures { λ r. ⌜ r ≡ cond (ltb v low) low (cond (ltb high v) high v) ⌝ }
 {

@@ -22,7 +22,9 @@ store-requires c κs = search needs
 returns : tie.Need-returns
 returns c =
     let x = c .before .before .before .before .args in
-    (cc, rw (c .store .ensures) (stored-fits (x .saturated) (x .destination) _))
+    let a = c .before .before .before .operand .ensures .0 in
+    let b = c .before .before .operand2 .ensures .0 in
+    (rw (c .store .ensures, c .before .compute .ensures, a, b), rw (c .store .ensures) (stored-fits (x .saturated) (x .destination) _))
 
 pub element-spec : {M : Type 1} → statement M
 element-spec =

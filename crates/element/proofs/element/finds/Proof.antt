@@ -13,7 +13,8 @@ compare-requires : tie.Need-compare-requires
 compare-requires c κs = search needs
 
 returns : tie.Need-returns
-returns c = cc
+returns c =
+    rw (c .compare .ensures, c .before .before .operand .ensures .0, c .before .operand2 .ensures .0)
 
 pub finds-spec : {M : Type 1} → statement M
 finds-spec = tie.close (tie.spec operand-requires operand-requires-2 compare-requires returns)
