@@ -1,0 +1,12 @@
+-- A number has the lowest bits of what it stands for (`ex-mod`). Assumes nothing.
+use native.Mathlib.Omega.{arith}
+use mathlib.Core.Path.{sym}
+use Rattle.element.proofs.Base.{ex-mod}
+use Rattle.element.proofs.shift.places.Statement.{statement}
+use Rattle.element.proofs.shift.places.Tie as tie
+
+returns : tie.Need-returns
+returns c = (sym (ex-mod 5 (c .args .count) (omega arith)), omega arith)
+
+pub places-spec : {M : Type 1} → statement M
+places-spec = tie.close (tie.spec returns)

@@ -1,0 +1,3 @@
+-- How the code holds whole numbers, and what its functions ask of them.
+pub mod Biased
+pub mod Operands

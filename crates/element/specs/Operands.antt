@@ -1,0 +1,84 @@
+-- What an operation's operands have to be, as numbers and as patterns, and that the second gives the first. Assumes nothing.
+use mathlib.Core.Path.{_≡_, refl}
+use mathlib.Core.Bool.{Bool, true, false, cond}
+use mathlib.Core.List.{List, [], _∷_}
+use Prim.Native.Nat.{ℕ, _^_, _<_, _≤_}
+use native.Mathlib.Omega.{arith}
+use lib.Dec.{ltb, lit≤}
+use lib.IntN.{ℤ}
+use borrow.Author.Tests.{le-ltb}
+use Rattle.paper.specs.Operation as paper
+use Rattle.paper.specs.Word.{Source, src0, src1}
+use Rattle.paper.specs.Value.{width, modified}
+use Rattle.paper.specs.Element.{result}
+use Rattle.words.specs.Operations.{plainIs}
+use Rattle.words.specs.declared.operation.Plain.{Plain}
+use Rattle.element.specs.Biased.{Near, near-mono}
+
+-- Operands are no greater than a dword holds; mul's no greater than a word holds.
+pub record Operands (p : Plain) (a b : ℕ) : Type 0 where
+  pub first : Near 32 a
+  pub second : Near 32 b
+  pub factors : plainIs p ≡ paper.mul → Near 16 a × Near 16 b
+
+-- Patterns are their types'; mul's types are not of dwords (rule 8).
+pub record Patterns (p : Plain) (kind0 pattern0 kind1 pattern1 : ℕ) : Type 0 where
+  pub first : pattern0 < 2 ^ width kind0
+  pub second : pattern1 < 2 ^ width kind1
+  pub factors : plainIs p ≡ paper.mul → (2 ≤ kind0) × (2 ≤ kind1)
+
+-- A type has 32 bits at most.
+pub width-most : (t : ℕ) → width t ≤ 32
+width-most t = pick (ltb t 2) (ltb t 4)
+  where
+    pick : (p q : Bool) → cond p 32 (cond q 16 8) ≤ 32
+    pick true q = lit≤ tt
+    pick false true = lit≤ tt
+    pick false false = lit≤ tt
+
+-- A word or a byte has 16 at most.
+pub width-short : (t : ℕ) → 2 ≤ t → width t ≤ 16
+width-short t h = rw (le-ltb t 2 h) (pick (ltb t 4))
+  where
+    pick : (q : Bool) → cond q 16 8 ≤ 16
+    pick true = lit≤ tt
+    pick false = lit≤ tt
+
+-- Operands that come of patterns are as `compute` asks.
+pub operands-of : (p : Plain) (kind0 pattern0 kind1 pattern1 a b : ℕ) → Patterns p kind0 pattern0 kind1 pattern1 → Near (width kind0) a → Near (width kind1) b → Operands p a b
+operands-of p kind0 pattern0 kind1 pattern1 a b ps na nb =
+    record {
+      first = near-mono (width-most kind0) na;
+      second = near-mono (width-most kind1) nb;
+      factors = λ e. (
+        near-mono (width-short kind0 (ps .factors e .0)) na,
+        near-mono (width-short kind1 (ps .factors e .1)) nb,
+      );
+    }
+
+-- No modifier changes nothing: so an immediate is read with modifier 0.
+pub modified-none : (v : ℤ) → modified 0 v ≡ v
+unfolding modified
+modified-none v = refl
+
+-- ---- operations that read one source
+
+two-one : _≡_ {A = List Source} (src0 ∷ src1 ∷ []) (src0 ∷ []) → ⊥
+two-one e = let z : _≡_ {A = ℕ} 0 1 = cc in omega arith
+
+-- What reads src0 alone makes the same of any second value: so any pattern serves for the source that is not read.
+pub result-one : (p : paper.Plain) (c : ℕ) (h : Bool) (a b b′ : ℤ) → paper.sources p ≡ src0 ∷ [] → result p c h a b ≡ result p c h a b′
+unfolding result
+result-one paper.mov c h a b b′ e = refl
+result-one paper.sel c h a b b′ e = absurd (two-one e)
+result-one paper.not c h a b b′ e = refl
+result-one paper.and c h a b b′ e = absurd (two-one e)
+result-one paper.or c h a b b′ e = absurd (two-one e)
+result-one paper.xor c h a b b′ e = absurd (two-one e)
+result-one paper.shr c h a b b′ e = absurd (two-one e)
+result-one paper.shl c h a b b′ e = absurd (two-one e)
+result-one paper.asr c h a b b′ e = absurd (two-one e)
+result-one paper.cmp c h a b b′ e = absurd (two-one e)
+result-one paper.add c h a b b′ e = absurd (two-one e)
+result-one paper.mul c h a b b′ e = absurd (two-one e)
+result-one paper.avg c h a b b′ e = absurd (two-one e)
