@@ -1,1 +1,6 @@
 -- Theorems.
+pub mod Differences
+pub mod Values
+pub mod Masks
+pub mod Regions
+pub mod Scatter
