@@ -4,3 +4,5 @@ pub mod Values
 pub mod Masks
 pub mod Regions
 pub mod Scatter
+pub mod Halfwords
+pub mod StateBytes

@@ -18,7 +18,7 @@ use Rattle.paper.specs.Effect.{scattered}
 -- ---- reading
 
 -- The number of no bytes is 0.
-pub numberAt-zero : (l : List ℕ) (a : ℕ) → numberAt l a 0 ≡ 0
+numberAt-zero : (l : List ℕ) (a : ℕ) → numberAt l a 0 ≡ 0
 unfolding numberAt number
 numberAt-zero l a = refl
 
@@ -33,7 +33,7 @@ unfolding numberAt
 numberAt-nil a n = rw (drop-nil {A = ℕ} a) (number-nil n)
 
 -- A number's first byte and the rest of it.
-pub numberAt-suc : (l : List ℕ) (a n : ℕ) → numberAt l a (suc n) ≡ getD l a 0 + 256 * numberAt l (suc a) n
+numberAt-suc : (l : List ℕ) (a n : ℕ) → numberAt l a (suc n) ≡ getD l a 0 + 256 * numberAt l (suc a) n
 unfolding numberAt number
 numberAt-suc [] a n = rw (numberAt-nil a (suc n), numberAt-nil (suc a) n)
 numberAt-suc (b ∷ l) zero n = refl
