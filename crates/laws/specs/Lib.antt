@@ -6,3 +6,4 @@ pub mod Regions
 pub mod Scatter
 pub mod Halfwords
 pub mod StateBytes
+pub mod Calls
