@@ -1,13 +1,13 @@
 -- What the calls leave alone: a refusal changes nothing that was lent, a step at the end changes nothing, and of a lent buffer only the result's
 -- bytes are written. Assumes nothing.
-use mathlib.Core.Path.{_≡_, refl, ap, _∙_, sym, subst}
+use mathlib.Core.Path.{_≡_, refl, ap, _∙_, sym}
 use mathlib.Core.Bool.{Bool, true, false, not, cond, _&&_, _||_}
-use mathlib.Core.List.{List, [], _∷_, _++_}
+use mathlib.Core.List.{List, [], _++_}
 use mathlib.Core.Option.{Option, none, some}
 use mathlib.Core.Logic.{_⊎_, inl, inr, ⊎-elim}
-use Prim.Native.Nat.{ℕ, zero, suc, _+_, _-_, _*_, _≤_, _<_}
+use Prim.Native.Nat.{ℕ, zero, suc, _*_, _≤_}
 use native.Mathlib.Omega.{arith}
-use lib.Dec.{ltb, eqb, lit≤}
+use lib.Dec.{ltb, eqb}
 use lib.ListN.{length, drop, length-append, length-drop}
 use lib.Seq.{drop-append-seam}
 use borrow.Author.Tests.{ltb-false, eqb-true}
@@ -19,10 +19,11 @@ use Rattle.paper.specs.Shorten.{shorten}
 use Rattle.paper.specs.Operation.{operation, isListed, isBranch}
 use Rattle.paper.specs.Kernel.{Instr, longAndShort, longOnly, Parsed, bad, good}
 use Rattle.paper.specs.Jump.{fetch}
-use Rattle.paper.specs.Machine.{State, step, stops, stopsOn, Outcome, runWith, run, startFrom, start}
+use Rattle.paper.specs.Machine.{State, step, stops, stopsOn, runWith, run, startFrom, start}
 use Rattle.paper.specs.State.{stateOf, stateLegal, stateBytes}
 use Rattle.paper.specs.Packing.{Form, relay}
-use Rattle.paper.specs.Calls.{Answer, refusal, verdict, Written, kept, deliver, judgedKernel, accepted, relaid, packCall, unpackCall, oneWord, shortened, shortenCall, expandCall}
+use Rattle.paper.specs.Calls.{Answer, refusal, verdict, Written, kept, deliver, judgedKernel, accepted, relaid, packCall, unpackCall, oneWord}
+use Rattle.paper.specs.Calls.{shortened, shortenCall, expandCall}
 use Rattle.paper.specs.Calls.{Decoded, undecoded, decoded, decodeAt, decodedAs, decodeCall, partOf, decodePart, startCall}
 use Rattle.paper.specs.Calls.{Changed, unchanged, allSized, onState, steppedAs, stepCall, ranAs, runCall}
 use Rattle.laws.specs.StateBytes.{length-stateBytes}
@@ -36,13 +37,16 @@ pub record Confined (out : List ℕ) (r : Written) : Type 0 where
   pub rest : drop (r .answer .count) (r .output) ≡ drop (r .answer .count) out
   pub same : length (r .output) ≡ length out
 
+-- A refusal leaves all.
 confined-refusal : (number offset : ℕ) (out : List ℕ) → Confined out (kept (refusal number offset) out)
 confined-refusal number offset out = record { refused = λ _. refl; fits = omega arith; rest = refl; same = refl }
 
+-- A choice between two answers leaves what both leave.
 confined-cond : (out : List ℕ) (b : Bool) (x y : Written) → Confined out x → Confined out y → Confined out (cond b x y)
 confined-cond out true x y h g = h
 confined-cond out false x y h g = g
 
+-- A result that fits takes the place of the first bytes only.
 delivered : (result out : List ℕ) → length result ≤ length out
     → Confined out (record { answer = verdict 0 (length result); output = result ++ drop (length result) out })
 delivered result out h =
@@ -50,9 +54,10 @@ delivered result out h =
       refused = λ n. absurd (n refl);
       fits = h;
       rest = drop-append-seam result (drop (length result) out);
-      same = simp (length-append, length-drop) (omega arith)
+      same = simp (length-append, length-drop) (omega arith);
     }
 
+-- Delivering a result, or 14.
 confined-deliver : (result out : List ℕ) → Confined out (deliver result out)
 unfolding deliver
 confined-deliver result out = pick (ltb (length out) (length result)) refl
@@ -62,18 +67,22 @@ confined-deliver result out = pick (ltb (length out) (length result)) refl
     pick true e = confined-refusal 14 0 out
     pick false e = delivered result out (ltb-false (length out) (length result) e)
 
+-- A kernel laid out again, or its refusal.
 confined-relaid : (form : Form) (out : List ℕ) (parsed : Parsed) → Confined out (relaid form out parsed)
 confined-relaid form out (bad number offset) = confined-refusal number offset out
 confined-relaid form out (good k) = confined-deliver (relay form k) out
 
+-- Packing writes no byte of `out` past the packed kernel, and none at all on refusal.
 pub pack-confined : (dictionary kernel out : List ℕ) → Confined out (packCall dictionary kernel out)
 unfolding packCall
 pack-confined dictionary kernel out = confined-relaid (shorten (dictionaryOf dictionary)) out (accepted longOnly dictionary kernel)
 
+-- Unpacking likewise.
 pub unpack-confined : (dictionary kernel out : List ℕ) → Confined out (unpackCall dictionary kernel out)
 unfolding unpackCall
 unpack-confined dictionary kernel out = confined-relaid (λ _. none) out (accepted longAndShort dictionary kernel)
 
+-- The checks of a single word leave what its form leaves.
 confined-word : (dictionary : List ℕ) (fits : Bool) (w : ℕ) (out : List ℕ) (further : Written)
     → Confined out further → Confined out (oneWord dictionary fits w out further)
 unfolding oneWord
@@ -82,10 +91,12 @@ confined-word dictionary fits w out further h =
     (confined-cond out (not (inRange (dictionaryOf dictionary))) _ _ (confined-refusal 2 0 out)
     (confined-cond out (not (isListed (operation w))) _ _ (confined-refusal 4 0 out) h))
 
+-- A short word, or 13.
 confined-shortened : (s : Option ℕ) (out : List ℕ) → Confined out (shortened s out)
 confined-shortened none out = confined-refusal 13 0 out
 confined-shortened (some s) out = confined-deliver (bytesOf 8 s) out
 
+-- Shortening writes no byte past the short word, and none at all on refusal.
 pub shorten-confined : (dictionary word out : List ℕ) → Confined out (shortenCall dictionary word out)
 unfolding shortenCall
 shorten-confined dictionary word out =
@@ -93,6 +104,7 @@ shorten-confined dictionary word out =
     (confined-cond out (isShort (numberAt word 0 16)) _ _ (confined-refusal 5 0 out)
     (confined-shortened (shorten (dictionaryOf dictionary) (numberAt word 0 16)) out))
 
+-- Expanding writes no byte past the long word, and none at all on refusal.
 pub expand-confined : (dictionary word out : List ℕ) → Confined out (expandCall dictionary word out)
 unfolding expandCall
 expand-confined dictionary word out =
@@ -104,7 +116,8 @@ expand-confined dictionary word out =
 -- ---- decode
 
 -- A refused decode lends out no bytes.
-pub decode-refused : (dictionary kernel : List ℕ) (place : ℕ) → (decodeCall dictionary kernel place .number ≡ 0 → ⊥) → decodePart dictionary kernel place ≡ []
+pub decode-refused : (dictionary kernel : List ℕ) (place : ℕ) → (decodeCall dictionary kernel place .number ≡ 0 → ⊥)
+    → decodePart dictionary kernel place ≡ []
 unfolding decodeCall decodePart
 decode-refused dictionary kernel place = go (decodeAt dictionary kernel place)
   where
@@ -114,16 +127,18 @@ decode-refused dictionary kernel place = go (decodeAt dictionary kernel place)
 
 -- ---- start
 
+-- A start has as many channels as are asked for.
 sixteen : (mask n c : ℕ) → length (startFrom mask n c) ≡ c
 unfolding startFrom
 sixteen mask n zero = refl
 sixteen mask n (suc c) = ap suc (sixteen mask (suc n) c)
 
--- A refused start leaves the state as it was, and any start its length.
+-- What a start leaves of the state's bytes: all of them unless the answer is 0, and their length in any case.
 pub record StartConfined (bytes : List ℕ) (r : Written) : Type 0 where
   pub refused : (r .answer .number ≡ 0 → ⊥) → r .output ≡ bytes
   pub same : length (r .output) ≡ length bytes
 
+-- A refused start leaves the state as it was, and any start its length.
 pub start-confined : (mask flag0 flag1 : ℕ) (bytes : List ℕ) → StartConfined bytes (startCall mask flag0 flag1 bytes)
 unfolding startCall
 start-confined mask flag0 flag1 bytes = pick (eqb (length bytes) stateLength) refl
@@ -136,7 +151,7 @@ start-confined mask flag0 flag1 bytes = pick (eqb (length bytes) stateLength) re
     pick true e =
         record {
           refused = λ n. absurd (n refl);
-          same = length-stateBytes begun (sixteen mask 0 16) ∙ sym (eqb-true (length bytes) stateLength e)
+          same = length-stateBytes begun (sixteen mask 0 16) ∙ sym (eqb-true (length bytes) stateLength e);
         }
     pick false e = record { refused = λ _. refl; same = refl }
 
@@ -147,6 +162,7 @@ pub record Unchanged (registers bytes : List ℕ) (r : Changed) : Type 0 where
   pub sameRegisters : r .registers ≡ registers
   pub sameState : r .state ≡ bytes
 
+-- What holds of two outcomes holds of a choice between them.
 by-cond : (Q : Changed → Type 0) (b : Bool) (x y : Changed) → Q x → Q y → Q (cond b x y)
 by-cond Q true x y h g = h
 by-cond Q false x y h g = g
@@ -159,6 +175,7 @@ on-state Q registers bytes go h g (bad number offset) = h (refusal number offset
 on-state Q registers bytes go h g (good k) =
     by-cond Q (stateLegal k registers bytes) _ _ (g k (stateOf registers bytes)) (h (refusal 15 0))
 
+-- An answer that changes nothing.
 same : (registers bytes : List ℕ) (a : Answer) → Unchanged registers bytes (unchanged a registers bytes)
 same registers bytes a = record { sameRegisters = refl; sameState = refl }
 
@@ -187,14 +204,15 @@ module _ (stop : State → Option ℕ) (next : State → State) where
   stopped zero v s e = rw e
   stopped (suc n) v s e = rw (e, runWith)
 
-  -- At a state that does not stop it, a run with no budget says 21, and one with a budget what it says after a step.
+  -- At a state that does not stop it, a run with no budget says 21,
   spent : (s : State) → stop s ≡ none → runWith stop next zero s .verdict ≡ 21
   unfolding runWith
   spent s e = rw e
 
-  onward : (n : ℕ) (s : State) → stop s ≡ none → runWith stop next (suc n) s .verdict ≡ runWith stop next n (next s) .verdict
+  -- and one with a budget says what it says after a step.
+  goes-on : (n : ℕ) (s : State) → stop s ≡ none → runWith stop next (suc n) s .verdict ≡ runWith stop next n (next s) .verdict
   unfolding runWith
-  onward n s e = rw (e, runWith)
+  goes-on n s e = rw (e, runWith)
 
 -- A run's verdict is 20 or 21.
 pub run-verdict : (k : List Instr) (n : ℕ) (s : State) → (run k n s .verdict ≡ 20) ⊎ (run k n s .verdict ≡ 21)
@@ -208,8 +226,8 @@ run-verdict k (suc n) s = go (run-verdict k n (step k s)) (fetch k (s .place)) r
     go : (run k n (step k s) .verdict ≡ 20) ⊎ (run k n (step k s) .verdict ≡ 21)
         → (o : Option Instr) → fetch k (s .place) ≡ o → (run k (suc n) s .verdict ≡ 20) ⊎ (run k (suc n) s .verdict ≡ 21)
     go later none e = inl (stopped (stops k) (step k) (suc n) 20 s (ap stopsOn e))
-    go (inl v) (some i) e = inl (onward (stops k) (step k) n s (ap stopsOn e) ∙ v)
-    go (inr v) (some i) e = inr (onward (stops k) (step k) n s (ap stopsOn e) ∙ v)
+    go (inl v) (some i) e = inl (goes-on (stops k) (step k) n s (ap stopsOn e) ∙ v)
+    go (inr v) (some i) e = inr (goes-on (stops k) (step k) n s (ap stopsOn e) ∙ v)
 
 -- A run that answers neither 20 nor 21 changes nothing.
 pub run-unchanged : (dictionary kernel : List ℕ) (budget : ℕ) (registers bytes : List ℕ)

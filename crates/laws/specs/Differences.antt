@@ -15,6 +15,7 @@ use Rattle.paper.specs.Value.{modZ, floorZ}
 
 -- ---- a difference is one of two things
 
+-- What holds of a choice, by the two ways it can go.
 cond-cases {ℓ} : (c : Bool) (x y : ℤ) (P : ℤ → Type ℓ) → (T c → P x) → (T (not c) → P y) → P (cond c x y)
 cond-cases true x y P f g = f tt
 cond-cases false x y P f g = g tt

@@ -1,14 +1,14 @@
 -- Numbers of 16 bits as bytes, two each, the lowest first: what is read back from them, and that bytes are made of the numbers that they write.
 -- Assumes nothing.
-use mathlib.Core.Path.{_≡_, refl, ap, _∙_, sym}
+use mathlib.Core.Path.{_≡_, refl}
 use mathlib.Core.Bool.{Bool, true, false, _&&_, false≢true}
 use mathlib.Core.List.{List, [], _∷_, _++_}
-use Prim.Native.Nat.{ℕ, zero, suc, _+_, _*_, _/_, _%_, _^_, _<_, _≤_}
+use Prim.Native.Nat.{ℕ, zero, suc, _+_, _*_, _/_, _%_, _^_, _<_}
 use native.Mathlib.Nat.{mul-suc, mod-eq-of-lt}
 use native.Mathlib.Numerals.{add-two}
 use native.Mathlib.Omega.{arith}
 use lib.Dec.{ltb, lit<}
-use lib.ListN.{length, getD, drop}
+use lib.ListN.{length, getD}
 use lib.Pow.{areBytes}
 use borrow.Author.Tests.{ltb-true}
 use Rattle.paper.specs.Bits.{number, numberAt, bytesOf}
@@ -25,6 +25,7 @@ unfolding halves bytesOf
 length-halves [] = refl
 length-halves (v ∷ vs) = omega (arith, length-halves vs)
 
+-- Past the end stands 0.
 half-nil : (a : ℕ) → half [] a ≡ 0
 unfolding numberAt number
 half-nil zero = refl
@@ -39,13 +40,16 @@ half-halves (v ∷ vs) (suc k) = rw (mul-suc 2 k, add-two) (half-halves vs k)
 
 -- ---- bytes below 256
 
-both : (a b : Bool) → (a && b) ≡ true → (a ≡ true) × (b ≡ true)
+-- Of a true conjunction both parts are true.
+pub both : (a b : Bool) → (a && b) ≡ true → (a ≡ true) × (b ≡ true)
 both true b e = (refl, e)
 both false b e = absurd (false≢true e)
 
+-- The first byte of a list of bytes is below 256,
 head-less : (b : ℕ) (bs : List ℕ) → areBytes (b ∷ bs) ≡ true → b < 256
 head-less b bs h = ltb-true b 256 (both (ltb b 256) (areBytes bs) h .0)
 
+-- and the rest is a list of bytes.
 tail-bytes : (b : ℕ) (bs : List ℕ) → areBytes (b ∷ bs) ≡ true → areBytes bs ≡ true
 tail-bytes b bs h = both (ltb b 256) (areBytes bs) h .1
 

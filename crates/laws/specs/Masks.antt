@@ -4,16 +4,18 @@ use mathlib.Core.Bool.{Bool, true, false}
 use mathlib.Core.Logic.{⊎-elim}
 use Prim.Native.Nat.{ℕ, zero, suc, _+_, _-_, _*_, _/_, _%_, _^_, _≤_, _<_}
 use native.Mathlib.Omega.{arith}
-use native.Mathlib.Nat.{div-eq-of-lt, mul-assoc, mul-add-div-right, mul-add-mod-self-right, sub-add-cancel, mod-lt, mod-eq-of-lt, pow-succ', mod-one, eq-or-lt-of-le, le-of-suc-le-suc}
+use native.Mathlib.Nat.{div-eq-of-lt, mul-assoc, mul-add-div-right, mul-add-mod-self-right, sub-add-cancel, mod-lt, mod-eq-of-lt, pow-succ', mod-one}
+use native.Mathlib.Nat.{eq-or-lt-of-le, le-of-suc-le-suc}
 use native.Mathlib.Numerals.{one-add}
 use lib.Arith.{digits-lt}
 use lib.Dec.{eqb, lit<}
 use lib.Pow.{pow-mono, pow-pos, pow-add, high, mod-pow-add}
-use Rattle.paper.specs.Bits.{bits, bit, _at_}
+use Rattle.paper.specs.Bits.{bits, bit}
 use Rattle.paper.specs.Enable.{digit, ofBits}
 
 -- ---- one bit
 
+-- A number below 2 is the digit of its test for 1.
 digit-of : (x : ℕ) → x < 2 → digit (eqb x 1) ≡ x
 digit-of zero h = refl
 digit-of (suc zero) h = refl
@@ -28,6 +30,7 @@ pub digit-less : (b : Bool) → digit b < 2
 digit-less true = lit< tt
 digit-less false = lit< tt
 
+-- A digit is 1 where its Boolean is true.
 bit-digit : (b : Bool) → eqb (digit b) 1 ≡ b
 bit-digit true = refl
 bit-digit false = refl
@@ -46,6 +49,7 @@ unfolding ofBits
 ofBits-less f zero = lit< tt
 ofBits-less f (suc n) = rw (pow-succ' 2 n) (digits-lt {q = digit (f n)} {m = 2} (digit-less (f n)) (ofBits-less f n))
 
+-- A power of two taken apart around one bit.
 block : (a j k : ℕ) → a * 2 ^ (j + suc k) ≡ a * 2 ^ j * 2 * 2 ^ k
 block a j k = simp (pow-add, pow-succ', mul-assoc)
 
@@ -53,8 +57,13 @@ block a j k = simp (pow-add, pow-succ', mul-assoc)
 low-bit : (a n r k : ℕ) → k < n → (a * 2 ^ n + r) / 2 ^ k % 2 ≡ r / 2 ^ k % 2
 low-bit a n r k h =
     subst (λ (m : ℕ). (a * 2 ^ m + r) / 2 ^ k % 2 ≡ r / 2 ^ k % 2) (sub-add-cancel h)
-    (rw (block a (n - suc k) k, mul-add-div-right (pow-pos k) (a * 2 ^ (n - suc k) * 2) r, mul-add-mod-self-right (a * 2 ^ (n - suc k)) 2 (r / 2 ^ k)))
+    (rw (
+      block a (n - suc k) k,
+      mul-add-div-right (pow-pos k) (a * 2 ^ (n - suc k) * 2) r,
+      mul-add-mod-self-right (a * 2 ^ (n - suc k)) 2 (r / 2 ^ k),
+    ))
 
+-- The digit that stands above n bits is bit n.
 top-bit : (n : ℕ) (b : Bool) (r : ℕ) → r < 2 ^ n → bit (digit b * 2 ^ n + r) n ≡ b
 top-bit n b r h = rw (high (digit b) n h, mod-eq-of-lt (digit-less b)) (bit-digit b)
 

@@ -1,18 +1,20 @@
 -- What a word that passes the rules gives: every rule by itself, and every channel's elements inside the registers. Assumes nothing.
-use mathlib.Core.Path.{_≡_, refl, ap, _∙_, sym, subst}
+use mathlib.Core.Path.{_≡_, refl, ap, _∙_, subst}
 use mathlib.Core.Bool.{Bool, true, false, not, cond, _&&_, _||_, true≢false, false≢true}
 use mathlib.Core.List.{List, List·Memᴰ, List·Memᴰ·head, List·Memᴰ·tail}
 use Prim.Native.Nat.{ℕ, zero, suc, _+_, _-_, _*_, _/_, _%_, _^_, _≤_, _<_}
 use native.Mathlib.Omega.{arith}
 use native.Mathlib.Nat.{mul-le-mul-right, mod-lt, sub-add-cancel, suc-mul, add-mul, pow-suc}
 use lib.Dec.{ltb}
+use lib.ListN.{length}
 use lib.Pow.{pow-pos, shr-mono, ones-split, low, ones-lt}
 use borrow.Author.Tests.{ltb-false, leb-false, eqb-false, not-false}
 use Rattle.paper.specs.Limits.{registerBytes}
-use Rattle.paper.specs.Word.{Source, execSize, srcType, srcWidth, srcHorzStride, srcVertStride, dstType, dstStride, isImmediate}
-use Rattle.paper.specs.Operation.{Plain, Operation, plain, operation, sources}
-use Rattle.paper.specs.Region.{countOf, strideOf, channels, elementAt, srcOrigin, srcSize, srcElement, dstOrigin, dstSize, dstElement}
-use Rattle.paper.specs.Legal.{anyOf, someOperand, reservedSet, plainServed, isNull, operandRuleBroken, shapeBroken, srcShapeBroken, alignmentBroken, tooFar, lastChannel, reachBroken, later, refusalOf}
+use Rattle.paper.specs.Word.{Source, src0, src1, execSize, srcType, srcWidth, srcHorzStride, srcVertStride, dstType, dstStride, isImmediate}
+use Rattle.paper.specs.Operation.{Plain, plain, operation, sources}
+use Rattle.paper.specs.Region.{strideOf, channels, elementAt, srcOrigin, srcSize, srcElement, dstOrigin, dstSize, dstElement}
+use Rattle.paper.specs.Legal.{anyOf, someOperand, reservedSet, plainServed, isNull, operandRuleBroken, shapeBroken, srcShapeBroken, alignmentBroken}
+use Rattle.paper.specs.Legal.{tooFar, lastChannel, reachBroken, later, refusalOf}
 use Rattle.laws.specs.Values.{size-least}
 
 -- ---- the rules one by one
@@ -26,6 +28,7 @@ pub record LegalPlain (p : Plain) (w : ℕ) : Type 0 where
   pub alignment : alignmentBroken p w ≡ false
   pub reach : reachBroken p w ≡ false
 
+-- Where a rule and the later ones together give 0, the rule is not broken and the later ones give 0.
 passed-on : (b : Bool) (number rest : ℕ) → cond b (suc number) rest ≡ 0 → (b ≡ false) × (rest ≡ 0)
 passed-on true number rest e = absurd (let h : suc number ≡ 0 = e in omega arith)
 passed-on false number rest e = (refl, e)
@@ -47,18 +50,52 @@ legal-plain p w o e =
       operands = b .0;
       shape = c .0;
       alignment = d .0;
-      reach = f .0
+      reach = f .0;
     }
 
 -- ---- one rule over all operands
 
+-- Of a false disjunction both parts are false.
 or-false : (a b : Bool) → (a || b) ≡ false → (a ≡ false) × (b ≡ false)
 or-false true b e = absurd (true≢false e)
 or-false false b e = (refl, e)
 
+-- Of a false conjunction with a true first part the second is false.
 and-false : (a b : Bool) → (a && b) ≡ false → a ≡ true → b ≡ false
 and-false true b e h = e
 and-false false b e h = absurd (false≢true h)
+
+-- Every plain operation reads src0,
+pub first-source : (p : Plain) → List·Memᴰ src0 (sources p)
+first-source Plain.mov = List·Memᴰ·head refl
+first-source Plain.sel = List·Memᴰ·head refl
+first-source Plain.not = List·Memᴰ·head refl
+first-source Plain.and = List·Memᴰ·head refl
+first-source Plain.or = List·Memᴰ·head refl
+first-source Plain.xor = List·Memᴰ·head refl
+first-source Plain.shr = List·Memᴰ·head refl
+first-source Plain.shl = List·Memᴰ·head refl
+first-source Plain.asr = List·Memᴰ·head refl
+first-source Plain.cmp = List·Memᴰ·head refl
+first-source Plain.add = List·Memᴰ·head refl
+first-source Plain.mul = List·Memᴰ·head refl
+first-source Plain.avg = List·Memᴰ·head refl
+
+-- and one of two sources reads src1.
+pub second-source : (p : Plain) → length (sources p) ≡ 2 → List·Memᴰ src1 (sources p)
+second-source Plain.mov e = absurd (omega arith)
+second-source Plain.sel e = List·Memᴰ·tail (List·Memᴰ·head refl)
+second-source Plain.not e = absurd (omega arith)
+second-source Plain.and e = List·Memᴰ·tail (List·Memᴰ·head refl)
+second-source Plain.or e = List·Memᴰ·tail (List·Memᴰ·head refl)
+second-source Plain.xor e = List·Memᴰ·tail (List·Memᴰ·head refl)
+second-source Plain.shr e = List·Memᴰ·tail (List·Memᴰ·head refl)
+second-source Plain.shl e = List·Memᴰ·tail (List·Memᴰ·head refl)
+second-source Plain.asr e = List·Memᴰ·tail (List·Memᴰ·head refl)
+second-source Plain.cmp e = List·Memᴰ·tail (List·Memᴰ·head refl)
+second-source Plain.add e = List·Memᴰ·tail (List·Memᴰ·head refl)
+second-source Plain.mul e = List·Memᴰ·tail (List·Memᴰ·head refl)
+second-source Plain.avg e = List·Memᴰ·tail (List·Memᴰ·head refl)
 
 -- What no source of a list passes, each of them fails.
 pub none-of : (test : Source → Bool) {x : Source} {xs : List Source} → anyOf test xs ≡ false → List·Memᴰ x xs → test x ≡ false
@@ -83,6 +120,7 @@ pub record SourceShape (x : Source) (w : ℕ) : Type 0 where
   pub width : srcWidth x w ≤ 4
   pub wide : srcWidth x w ≤ execSize w
 
+-- Every register source of a legal word has such a shape.
 pub source-shape : (p : Plain) (w : ℕ) → shapeBroken p w ≡ false
     → (x : Source) → List·Memᴰ x (sources p) → isImmediate x w ≡ false → SourceShape x w
 unfolding shapeBroken
@@ -92,7 +130,7 @@ source-shape p w s x m i =
     record {
       vertical = ltb-false 6 (srcVertStride x w) (v .0);
       width = ltb-false 4 (srcWidth x w) (k .0);
-      wide = ltb-false (execSize w) (srcWidth x w) (k .1)
+      wide = ltb-false (execSize w) (srcWidth x w) (k .1);
     }
 
 -- ---- elements inside the registers
@@ -122,6 +160,10 @@ near origin element size h e =
     leb-false registerBytes (element + size - 1) (or-false (ltb (origin / 32 + 1) ((element + size - 1) / 32)) _ e .1) in
     omega arith
 
+-- An element that starts no later than another of its size ends no later.
+ends-before : (a b size end : ℕ) → a ≤ b → b + size ≤ end → a + size ≤ end
+ends-before a b size end h k = omega arith
+
 -- Every channel of a legal word reads its register sources inside the registers.
 pub source-inside : (p : Plain) (w : ℕ) → shapeBroken p w ≡ false → reachBroken p w ≡ false
     → (x : Source) → List·Memᴰ x (sources p) → isImmediate x w ≡ false
@@ -132,12 +174,9 @@ source-inside p w s r x m i n h =
     let reach : srcElement x w (lastChannel w) + srcSize x w ≤ registerBytes =
     near (srcOrigin x w) (srcElement x w (lastChannel w)) (srcSize x w) (size-least (srcType x w))
     (by-source p w _ (λ y. tooFar (srcOrigin y w) (srcElement y w (lastChannel w)) (srcSize y w)) r x m i) in
-    within _ _ _ _
+    ends-before _ _ _ _
     (element-last (srcOrigin x w) (strideOf (srcVertStride x w)) (strideOf (srcHorzStride x w)) (srcSize x w) (execSize w) (srcWidth x w) n wide h)
     reach
-  where
-    within : (a b size end : ℕ) → a ≤ b → b + size ≤ end → a + size ≤ end
-    within a b size end h k = omega arith
 
 -- Elements of a stride keep their order.
 ordered : (origin stride size m n : ℕ) → m ≤ n → origin + m * stride * size ≤ origin + n * stride * size
@@ -150,12 +189,9 @@ pub destination-inside : (p : Plain) (w : ℕ) → reachBroken p w ≡ false →
     → (n : ℕ) → n < channels w → dstElement w n + dstSize w ≤ registerBytes
 unfolding reachBroken
 destination-inside p w r d n h =
-    within _ _ _ _ (ordered (dstOrigin w) (strideOf (dstStride w)) (dstSize w) n (lastChannel w) (before (channels w) n h))
+    ends-before _ _ _ _ (ordered (dstOrigin w) (strideOf (dstStride w)) (dstSize w) n (lastChannel w) (before (channels w) n h))
     (near (dstOrigin w) (dstElement w (lastChannel w)) (dstSize w) (size-least (dstType w)) (by-destination p w _ _ r d))
   where
-    within : (a b size end : ℕ) → a ≤ b → b + size ≤ end → a + size ≤ end
-    within a b size end h k = omega arith
-
     before : (c n : ℕ) → n < c → n ≤ c - 1
     before c n h = omega arith
 
@@ -171,7 +207,7 @@ apart origin stride size m n hs h =
 -- A stride code other than 0 means a stride of 1 or more.
 pub stride-least : (c : ℕ) → (c ≡ 0 → ⊥) → 0 < strideOf c
 stride-least zero h = absurd (h refl)
-stride-least (suc c) h = rw (pow-suc) (omega (arith, pow-pos c))
+stride-least (suc c) h = rw pow-suc (omega (arith, pow-pos c))
 
 -- A legal word's destination has a stride.
 pub destination-strides : (p : Plain) (w : ℕ) → shapeBroken p w ≡ false → isNull w ≡ false → dstStride w ≡ 0 → ⊥

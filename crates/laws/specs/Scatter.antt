@@ -4,16 +4,24 @@ use mathlib.Core.Path.{_≡_, refl, ap, ap₂, _∙_, sym, subst}
 use mathlib.Core.Bool.{Bool, true, false, cond}
 use mathlib.Core.List.{List, [], _∷_}
 use mathlib.Core.Logic.{⊎-elim}
-use Prim.Native.Nat.{ℕ, zero, suc, _+_, _-_, _*_, _/_, _%_, _^_, _≤_, _<_}
+use Prim.Native.Nat.{ℕ, zero, suc, _+_, _*_, _/_, _%_, _^_, _≤_, _<_}
 use native.Mathlib.Omega.{arith}
-use native.Mathlib.Nat.{add-zero, add-suc, suc-add, pow-suc, mod-one, eq-or-lt-of-le, le-of-suc-le-suc}
+use native.Mathlib.Nat.{add-zero, add-suc, suc-add, pow-suc, mod-one, mod-eq-of-lt, eq-or-lt-of-le, le-of-suc-le-suc}
 use native.Mathlib.Numerals.{add-one}
-use lib.Dec.{lit<}
+use lib.Dec.{eqb, lit<}
 use lib.Arith.{mod-mul}
-use lib.ListN.{length, getD, set, drop, length-set}
+use lib.ListN.{length, getD, set, length-set}
 use lib.Seq.{getD-set-same, getD-set-other, drop-nil}
 use Rattle.paper.specs.Bits.{number, numberAt, putAt}
-use Rattle.paper.specs.Effect.{scattered}
+use Rattle.paper.specs.Limits.{registerBytes}
+use Rattle.paper.specs.Word.{dstType, saturate}
+use Rattle.paper.specs.Operation.{Plain}
+use Rattle.paper.specs.Region.{channels, dstSize, dstElement}
+use Rattle.paper.specs.Legal.{isNull}
+use Rattle.paper.specs.Enable.{Store}
+use Rattle.paper.specs.Effect.{scattered, channelResult, channelStores, isOn, registersAfter}
+use Rattle.laws.specs.Values.{size-patterns, stored-fits}
+use Rattle.laws.specs.Regions.{LegalPlain, destination-inside, destination-strides, destination-apart}
 
 -- ---- reading
 
@@ -22,12 +30,13 @@ numberAt-zero : (l : List ℕ) (a : ℕ) → numberAt l a 0 ≡ 0
 unfolding numberAt number
 numberAt-zero l a = refl
 
--- So is the number of bytes past a list's end.
+-- So is the number of bytes of an empty list.
 number-nil : (n : ℕ) → number n [] ≡ 0
 unfolding number
 number-nil zero = refl
 number-nil (suc n) = refl
 
+-- The number of bytes past a list's end is 0.
 numberAt-nil : (a n : ℕ) → numberAt [] a n ≡ 0
 unfolding numberAt
 numberAt-nil a n = rw (drop-nil {A = ℕ} a) (number-nil n)
@@ -63,6 +72,7 @@ putAt-other (suc n) l a v b h =
     putAt-other n (set l a (v % 256)) (a + 1) (v / 256) b (λ p q. h (omega arith) (omega arith))
     ∙ getD-set-other l a b (v % 256) 0 (λ e. h (omega arith) (omega arith))
 
+-- 256^n is not 0.
 bytes-pos : (n : ℕ) → 0 < 256 ^ n
 bytes-pos zero = lit< tt
 bytes-pos (suc n) = rw pow-suc (omega (arith, bytes-pos n))
@@ -75,12 +85,14 @@ numberAt-putAt (suc n) l a v h =
     let m : List ℕ = set l a (v % 256) in
     let e₀ : getD (putAt m (a + 1) n (v / 256)) a 0 ≡ v % 256 =
     putAt-other n m (a + 1) (v / 256) a (λ p q. omega arith) ∙ getD-set-same l a (v % 256) 0 (omega arith) in
-    let e₁ : numberAt (putAt m (a + 1) n (v / 256)) (a + 1) n ≡ v / 256 % 256 ^ n = numberAt-putAt n m (a + 1) (v / 256) (omega (arith, length-set l a (v % 256))) in
+    let e₁ : numberAt (putAt m (a + 1) n (v / 256)) (a + 1) n ≡ v / 256 % 256 ^ n =
+    numberAt-putAt n m (a + 1) (v / 256) (omega (arith, length-set l a (v % 256))) in
     numberAt-suc (putAt m (a + 1) n (v / 256)) a n
     ∙ rw (e₀, ← (add-one a), e₁, pow-suc) (omega (arith, mod-mul v {m = 256 ^ n} {c = 256} (bytes-pos n) (lit< tt)))
 
 -- ---- a store for each enabled channel
 
+-- What a function makes of a choice between two lists.
 chosen : (b : Bool) (x y : List ℕ) (v : ℕ) (f : List ℕ → ℕ) → (b ≡ true → f x ≡ v) → f y ≡ v → f (cond b x y) ≡ v
 chosen true x y v f h g = h refl
 chosen false x y v f h g = g
@@ -139,3 +151,40 @@ module _ (l : List ℕ) (element : ℕ → ℕ) (size : ℕ) where
       (λ j r. putAt-other size m (element n) (pattern n) (element k + j) (λ s t. omega (arith, apart k n q (omega arith)))) ∙ y)
       y)
       (eq-or-lt-of-le (le-of-suc-le-suc h))
+
+-- ---- what an instruction does to the registers
+
+module _ (p : Plain) (w : ℕ) (awake : List Bool) (st : Store) where
+  -- It keeps their length.
+  pub registers-length : length (registersAfter p w awake st) ≡ length (st .registers)
+  unfolding registersAfter
+  registers-length =
+      chosen (isNull w) (st .registers) _ (length (st .registers)) length (λ _. refl)
+      (length-scattered (st .registers) (dstElement w) (dstSize w) (isOn p w awake st) (channelStores p w st) (channels w))
+
+  -- It changes no byte but those of enabled channels' destination elements.
+  pub registers-kept : (b : ℕ)
+      → ((n : ℕ) → n < channels w → isOn p w awake st n ≡ true → dstElement w n ≤ b → b < dstElement w n + dstSize w → ⊥)
+      → getD (registersAfter p w awake st) b 0 ≡ getD (st .registers) b 0
+  unfolding registersAfter
+  registers-kept b h =
+      chosen (isNull w) (st .registers) _ (getD (st .registers) b 0) (λ l. getD l b 0) (λ _. refl)
+      (scattered-other (st .registers) (dstElement w) (dstSize w) (isOn p w awake st) (channelStores p w st) (channels w) b h)
+
+  -- A null destination changes none.
+  pub registers-null : isNull w ≡ true → registersAfter p w awake st ≡ st .registers
+  unfolding registersAfter
+  registers-null d = rw d
+
+  -- Every enabled channel of a legal word with a destination has stored its pattern, whole.
+  pub registers-hold : LegalPlain p w → isNull w ≡ false → length (st .registers) ≡ registerBytes
+      → (n : ℕ) → n < channels w → isOn p w awake st n ≡ true
+      → numberAt (registersAfter p w awake st) (dstElement w n) (dstSize w) ≡ channelStores p w st n
+  unfolding registersAfter
+  registers-hold legal d long n h on =
+      rw d
+      (scattered-holds (st .registers) (dstElement w) (dstSize w) (isOn p w awake st) (channelStores p w st) (channels w) n h on
+      (λ j q. rw long (destination-inside p w (legal .reach) d j q))
+      (λ i j q r. destination-apart w i j (destination-strides p w (legal .shape) d) q)
+      ∙ ap (λ (m : ℕ). channelStores p w st n % m) (size-patterns (dstType w))
+      ∙ mod-eq-of-lt (stored-fits (eqb (saturate w) 1) (dstType w) (channelResult p w st n)))

@@ -5,9 +5,9 @@ use mathlib.Core.Bool.{Bool, true, false, not, cond, _&&_}
 use Prim.Native.Nat.{ℕ, zero, suc, _+_, _*_, _-_, _/_, _%_, _^_, _<_, _≤_}
 use native.Mathlib.Nat.{mod-lt, mod-eq-of-lt, one-mul, div-add-mod'}
 use native.Mathlib.Omega.{arith}
-use lib.Dec.{T, ltb, leb, eqb, lit<, lit≤, le→leb}
+use lib.Dec.{T, ltb, leb, lit<, lit≤, le→leb}
 use lib.IntN.{ℤ, pos, negsuc, negℤ, subℕ, _+ℤ_, _*ℤ_}
-use lib.Signed.{ltZ, leZ, _≤ℤ_, leZ-yes, ltZ-no, ≤ℤ-refl}
+use lib.Signed.{ltZ, _≤ℤ_, leZ-yes, ltZ-no, ≤ℤ-refl}
 use lib.Pow.{pow-pos}
 use Rattle.paper.specs.Value.{width, sizeOf, isSigned, value, least, greatest, modZ, floorZ, clampTo, stored}
 use Rattle.laws.specs.Differences.{neg-of, is-neg, is-pos, sub-add, sub-mod}
@@ -41,6 +41,15 @@ size-most t = pick (ltb t 2) (ltb t 4)
     pick false true = lit≤ tt
     pick false false = lit≤ tt
 
+-- So many bytes hold so many patterns as the bits do.
+pub size-patterns : (t : ℕ) → 256 ^ sizeOf t ≡ 2 ^ width t
+size-patterns t = pick (ltb t 2) (ltb t 4)
+  where
+    pick : (p q : Bool) → 256 ^ cond p 4 (cond q 2 1) ≡ 2 ^ cond p 32 (cond q 16 8)
+    pick true q = refl
+    pick false true = refl
+    pick false false = refl
+
 -- ---- quotient and remainder
 
 -- A remainder is less than its divisor.
@@ -54,7 +63,8 @@ pub floor-mod : (v : ℤ) (m : ℕ) → 0 < m → floorZ v m *ℤ pos m +ℤ pos
 unfolding floorZ modZ
 floor-mod (pos a) m h = ap pos (div-add-mod' a m)
 floor-mod (negsuc a) m h =
-    ap₂ (λ (x y : ℤ). x +ℤ y) (neg-of (suc (a / m) * m) 0 (suc (a / m) * m) (omega arith)) (sym (is-pos (m - 1 - a % m) 0 (m - 1 - a % m) (omega arith)))
+    ap₂ (λ (x y : ℤ). x +ℤ y) (neg-of (suc (a / m) * m) 0 (suc (a / m) * m) (omega arith))
+    (sym (is-pos (m - 1 - a % m) 0 (m - 1 - a % m) (omega arith)))
     ∙ sub-add 0 (suc (a / m) * m) (m - 1 - a % m) 0
     ∙ is-neg (0 + (m - 1 - a % m)) (suc (a / m) * m + 0) a (omega (arith, div-add-mod' a m, mod-lt a h))
 
@@ -71,11 +81,14 @@ unfolding stored value modZ
 stored-value t n h = go (isSigned t && leb (2 ^ (width t - 1)) n)
   where
     go : (s : Bool) → modZ (cond s (subℕ n (2 ^ width t)) (pos n)) (2 ^ width t) ≡ n
-    go true = ap (λ (m : ℕ). modZ (subℕ n m) (2 ^ width t)) (sym (one-mul (2 ^ width t))) ∙ sub-mod n 1 (2 ^ width t) (pow-pos (width t)) ∙ mod-eq-of-lt h
+    go true =
+        ap (λ (m : ℕ). modZ (subℕ n m) (2 ^ width t)) (sym (one-mul (2 ^ width t)))
+        ∙ sub-mod n 1 (2 ^ width t) (pow-pos (width t)) ∙ mod-eq-of-lt h
     go false = mod-eq-of-lt h
 
 -- ---- clamping
 
+-- What is not above 0 is at most any natural number.
 below-zero : (n m : ℕ) → negℤ (pos n) ≤ℤ pos m
 below-zero zero m = leZ-yes (le→leb 0 m (omega arith))
 below-zero (suc n) m = leZ-yes tt
@@ -89,6 +102,7 @@ range-whole t = pick (isSigned t)
     pick true = below-zero (2 ^ (width t - 1)) (2 ^ (width t - 1) - 1)
     pick false = below-zero 0 (2 ^ width t - 1)
 
+-- What is not less than b is at least b.
 not-below : (a b : ℤ) → ltZ a b ≡ false → b ≤ℤ a
 not-below a b e = ltZ-no (subst (λ (s : Bool). T (not s)) (sym e) tt)
 
