@@ -1,13 +1,15 @@
--- Laws of shifts and products, at variable shifts, and of reading byte by byte. Assumes nothing.
+-- Laws of shifts and products, at variable shifts, of reading byte by byte, and of a channel's store. Assumes nothing.
 use mathlib.Core.Path.{_≡_, refl, ap, _∙_, sym}
 use Prim.Native.Nat.{ℕ, zero, suc, _+_, _-_, _*_, _/_, _%_, _^_, _≤_, _<_}
 use native.Mathlib.Omega.{arith}
 use native.Mathlib.Nat.{mod-eq-of-lt, mod-eq-sub-div-mul, div-add-mod', mul-le-mul, div-le-self, mod-le, one-mul}
+use mathlib.Core.Bool.{Bool, cond}
 use mathlib.Core.List.{List}
 use lib.Dec.{lit<}
 use lib.ListN.{getD}
 use lib.Pow.{shl-exact}
-use Rattle.paper.specs.Bits.{number, numberAt}
+use Rattle.paper.specs.Bits.{number, numberAt, putAt}
+use Rattle.paper.specs.Effect.{scattered}
 use Rattle.laws.specs.Bytes.{numberAt-suc}
 
 -- The code's 1 << k is 2^k.
@@ -48,3 +50,11 @@ pub read-is : (n : ℕ) (l : List ℕ) (from : ℕ) → readFrom l from n ≡ nu
 unfolding readFrom
 read-is zero l from = sym (numberAt-none l from)
 read-is (suc n) l from = ap (λ (x : ℕ). getD l from 0 + 256 * x) (read-is n l (from + 1)) ∙ sym (numberAt-suc l from n)
+
+-- One more channel scattered.
+pub scattered-step : (l before after : List ℕ) (element : ℕ → ℕ) (size : ℕ) (on : ℕ → Bool) (pattern : ℕ → ℕ) (k : ℕ)
+    → before ≡ scattered l element size on pattern k
+    → after ≡ cond (on k) (putAt before (element k) size (pattern k)) before
+    → after ≡ scattered l element size on pattern (suc k)
+unfolding scattered
+scattered-step l before after element size on pattern k e h = rw e at h

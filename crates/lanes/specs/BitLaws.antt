@@ -1,18 +1,18 @@
 -- What whole-word operations do to a number's bits: and, or, complement, shifts, a field of ones, the count of ones. Assumes nothing.
 use mathlib.Core.Path.{_≡_, refl, ap, _∙_, sym, subst}
 use mathlib.Core.Bool.{Bool, true, false, not, _&&_, _||_}
-use Prim.Native.Nat.{ℕ, zero, suc, _+_, _-_, _*_, _/_, _%_, _^_, _≤_, _<_, min, max}
+use Prim.Native.Nat.{ℕ, zero, suc, _+_, _-_, _*_, _/_, _%_, _^_, _<_, min, max}
 use native.Mathlib.Omega.{arith}
-use native.Mathlib.Nat.{pow-suc, zero-div, mul-add-mod-self-right, sub-add-cancel, mod-lt, mod-eq-of-lt, zero-add}
+use native.Mathlib.Nat.{pow-suc, zero-div, mul-add-mod-self-right, sub-add-cancel, mod-lt, zero-add}
 use lib.Dec.{ltb, eqb, lit<}
-use lib.Pow.{shl-shr, pow-mono, ones-split, ones-lt, pow-pos, high}
+use lib.Pow.{shl-shr, ones-split, ones-lt, pow-pos, high}
 use lib.Bits.{bitAnd, bitOr, and-shr, and-step, or-shr, or-step, and-lt}
 use lib.Count.{ones, ones-cat}
 use borrow.Author.Tests.{ltb-true, ltb-false, eq-eqb}
 use Rattle.paper.specs.Bits.{bits, bit}
 use Rattle.paper.specs.Enable.{digit, ofBits}
 use Rattle.laws.specs.Bits.{bits-above, bits-low}
-use Rattle.laws.specs.Masks.{digit-bit, bit-above, ofBits-less, bit-ofBits, ofBits-same, ofBits-mod, ofBits-bit, same-bits}
+use Rattle.laws.specs.Masks.{bit-above, ofBits-less, bit-ofBits, ofBits-mod, ofBits-bit, same-bits}
 use Rattle.lanes.specs.Masks.{howMany}
 
 -- ---- and, or

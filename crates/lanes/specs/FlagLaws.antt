@@ -1,13 +1,13 @@
 -- A flag after cmp, made by whole words. Assumes nothing.
-use mathlib.Core.Path.{_≡_, refl, ap, _∙_, sym, subst}
+use mathlib.Core.Path.{_≡_, refl, _∙_, sym, subst}
 use mathlib.Core.Bool.{Bool, true, false, not, cond, _&&_, _||_}
-use Prim.Native.Nat.{ℕ, _+_, _-_, _*_, _/_, _%_, _^_, _≤_, _<_}
+use Prim.Native.Nat.{ℕ, _+_, _-_, _*_, _^_, _≤_, _<_}
 use native.Mathlib.Omega.{arith}
 use native.Mathlib.Nat.{add-sub-of-le, lt-of-le-of-lt}
 use lib.Dec.{ltb, leb}
 use lib.Pow.{pow-mono, pow-pos, shl-lt}
 use lib.Bits.{bitAnd, bitOr, or-lt, and-le-r}
-use borrow.Author.Tests.{ltb-true, ltb-false, leb-true, leb-false, lt-ltb, le-ltb}
+use borrow.Author.Tests.{ltb-true, leb-true, leb-false, lt-ltb, le-ltb}
 use Rattle.paper.specs.Bits.{bit}
 use Rattle.paper.specs.Enable.{ofBits, flagBit, flagAfter}
 use Rattle.laws.specs.Differences.{ltb-by}

@@ -5,3 +5,4 @@ pub mod MaskLaws
 pub mod FlagLaws
 pub mod Regions
 pub mod Values
+pub mod Served

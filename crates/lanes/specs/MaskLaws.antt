@@ -1,20 +1,22 @@
 -- The masks are the paper's predicates and enabled channels. Assumes nothing.
 use mathlib.Core.Path.{_≡_, refl, ap, _∙_, sym}
-use mathlib.Core.Bool.{Bool, true, false, not, cond, _&&_, _||_}
-use mathlib.Core.List.{List, [], _∷_, map}
-use Prim.Native.Nat.{ℕ, zero, suc, _+_, _-_, _*_, _/_, _%_, _^_, _≤_, _<_}
+use mathlib.Core.Bool.{Bool, false, not, _||_}
+use mathlib.Core.List.{List, map}
+use Prim.Native.Nat.{ℕ, zero, suc, _+_, _*_, _^_, _≤_, _<_}
 use native.Mathlib.Omega.{arith}
 use lib.Dec.{eqb}
 use lib.Bits.{bitAnd}
-use lib.ListN.{length, getD}
+use lib.ListN.{getD, List·getD-map}
 use Rattle.paper.specs.Bits.{bit}
 use Rattle.paper.specs.Word.{weCtrl, qtrCtrl, predCtrl, predInv}
 use Rattle.paper.specs.Operation.{Plain}
-use Rattle.paper.specs.Enable.{Store, chosenFlag, holds, channelOf, unmasked, masks, enabled, ofBits}
+use Rattle.paper.specs.Enable.{Store, chosenFlag, holds, channelOf, masks, enabled}
 use Rattle.paper.specs.Effect.{isOn}
-use Rattle.laws.specs.Masks.{bit-above, ofBits-less, bit-ofBits}
-use Rattle.lanes.specs.Masks.{holdsOf, predicateMask, unmaskedMask, passedMask, enabledOf, enableMask, quarterMask, awakeFrom, awakeList}
-use Rattle.lanes.specs.BitLaws.{bit-shr, and-ofBits}
+use Rattle.paper.specs.Machine.{Channel, off, isAwake}
+use Rattle.paper.specs.State.{maskOf}
+use Rattle.laws.specs.Masks.{ofBits-less, bit-ofBits}
+use Rattle.lanes.specs.Masks.{holdsOf, predicateMask, unmaskedMask, passedMask, enabledOf, enableMask, quarterMask, raisedMask, awakeFrom, awakeList}
+use Rattle.lanes.specs.BitLaws.{bit-shr, bit-shl, and-ofBits}
 
 -- ---- masks in general
 
@@ -36,6 +38,10 @@ unmasked-passed weCtrl masks awake predicate = and-ofBits (λ m. eqb weCtrl 1 ||
 -- Bit n of a quarter's mask is the bit of the instruction's channel n.
 pub bit-quarter : (mask quarter n : ℕ) → bit (quarterMask mask quarter) n ≡ bit mask (8 * quarter + n)
 bit-quarter mask quarter n = bit-shr mask (8 * quarter) n
+
+-- Bit 8q + n of a raised mask is bit n of the instruction's own.
+pub bit-raised : (mask quarter n : ℕ) → bit (raisedMask mask quarter) (8 * quarter + n) ≡ bit mask n
+bit-raised mask quarter n = bit-shl mask (8 * quarter) n
 
 -- ---- predicates
 
@@ -98,3 +104,12 @@ getD-past mask n (suc c) (suc k) h = getD-past mask (suc n) c k (omega arith)
 pub getD-awakeList-above : (mask m : ℕ) → 16 ≤ m → getD (awakeList mask) m false ≡ false
 unfolding awakeList
 getD-awakeList-above mask m h = getD-past mask 0 16 m h
+
+-- The mask of a state's awake channels agrees with their list.
+pub awake-agrees : (cs : List Channel) (m : ℕ) → m < 16 → getD (map isAwake cs) m false ≡ bit (maskOf isAwake cs) m
+unfolding maskOf
+awake-agrees cs m h = List·getD-map isAwake cs m off ∙ sym (bit-ofBits (λ n. isAwake (getD cs n off)) 16 m h)
+
+-- Bit m of the enabled channels' mask, for the list of the awake mask's bits.
+pub bit-enable-list : (p : Plain) (w mask : ℕ) (st : Store) (m : ℕ) → m < 16 → bit (enableOf p w mask st) m ≡ enabled p w (awakeList mask) st m
+bit-enable-list p w mask st m h = bit-enable p w (awakeList mask) mask st m h (getD-awakeList mask m h)

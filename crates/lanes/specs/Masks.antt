@@ -1,6 +1,6 @@
 -- Masks: numbers of 16 bits, bit m being channel m's. Predicates and enabled channels as masks, by the numbers that a word's fields hold.
 -- Assumes nothing.
-use mathlib.Core.Bool.{Bool, true, false, not, cond, _&&_, _||_}
+use mathlib.Core.Bool.{Bool, true, not, cond, _&&_, _||_}
 use mathlib.Core.List.{List, [], _∷_}
 use Prim.Native.Nat.{ℕ, zero, suc, _+_, _*_, _/_, _^_}
 use lib.Dec.{eqb}
@@ -38,6 +38,10 @@ enableMask weCtrl masks awake predicate = ofBits (enabledOf weCtrl masks awake p
 -- A mask as an instruction of quarter q numbers its channels: bit n is bit 8q + n of the whole.
 abbrev pub quarterMask : ℕ → ℕ → ℕ
 quarterMask mask quarter = mask / 2 ^ (8 * quarter)
+
+-- The other way: bit 8q + n is bit n of an instruction's own mask.
+abbrev pub raisedMask : ℕ → ℕ → ℕ
+raisedMask mask quarter = mask * 2 ^ (8 * quarter)
 
 -- ---- awake channels
 

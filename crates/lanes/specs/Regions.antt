@@ -1,8 +1,6 @@
 -- What the code of regions and elements is asked for only where a legal word gives it. Assumes nothing.
-use mathlib.Core.Path.{_≡_, refl}
-use Prim.Native.Nat.{ℕ, _+_, _*_, _≤_, _<_, _^_}
-use native.Mathlib.Omega.{arith}
-use lib.Dec.{ltb}
+use mathlib.Core.Path.{_≡_}
+use Prim.Native.Nat.{ℕ, _≤_, _<_}
 
 -- An element of 1, 2 or 4 bytes.
 pub record Size (size : ℕ) : Type 0 where

@@ -1,6 +1,6 @@
 // Flags: numbers of 16 bits, bit m being channel m's.
 ghost use mathlib.Core.Path.{_≡_};
-ghost use Prim.Native.Nat.{ℕ, _+_, _<_, _≤_};
+ghost use Prim.Native.Nat.{_+_, _<_, _≤_};
 ghost use Rattle.paper.specs.Bits.{bit};
 ghost use Rattle.paper.specs.Enable.{flagAfter};
 

@@ -1,8 +1,8 @@
 // Masks of channels: numbers of 16 bits, bit m being channel m's.
 ghost use mathlib.Core.Path.{_≡_};
-ghost use Prim.Native.Nat.{ℕ, _+_, _*_, _<_};
+ghost use Prim.Native.Nat.{_*_, _<_};
 ghost use Rattle.paper.specs.Bits.{bit};
-ghost use Rattle.lanes.specs.Masks.{predicateMask, unmaskedMask, passedMask, enableMask, quarterMask, howMany};
+ghost use Rattle.lanes.specs.Masks.{predicateMask, unmaskedMask, passedMask, enableMask, quarterMask, raisedMask, howMany};
 
 // Bit k of a mask is 1.
 pub fn bit(mask: u64, k: u64) -> bool
@@ -58,6 +58,14 @@ pub fn quarter_mask(mask: u64, quarter: u64) -> u64
     ensures { λ r. ⌜ r ≡ quarterMask mask quarter ⌝ }
 {
     mask >> (8 * quarter)
+}
+
+// A mask of an instruction's own channels by channel number: bit 8q + n is its channel n's.
+pub fn raised_mask(mask: u64, quarter: u64) -> u64
+    requires { ⌜ (mask < 65536) × (quarter < 4) ⌝ }
+    ensures { λ r. ⌜ r ≡ raisedMask mask quarter ⌝ }
+{
+    mask << (8 * quarter)
 }
 
 // How many channels are awake.

@@ -1,6 +1,6 @@
 // Regions: at which byte each channel's element starts.
 ghost use mathlib.Core.Path.{_≡_};
-ghost use Prim.Native.Nat.{ℕ, _+_, _*_, _^_, _<_, _≤_};
+ghost use Prim.Native.Nat.{_+_, _*_, _^_, _<_, _≤_};
 ghost use Rattle.paper.specs.Region.{countOf, strideOf, elementAt};
 ghost use Rattle.lanes.specs.Regions.{Size, Small};
 

@@ -1,6 +1,6 @@
 -- For each size the bytes are read one by one, the lowest first, which is the number of those bytes. Assumes nothing.
 use borrow.Author.Needs.{needs}
-use mathlib.Core.Path.{_≡_, refl, _∙_}
+use mathlib.Core.Path.{_≡_}
 use native.Mathlib.Omega.{arith}
 use Rattle.lanes.proofs.Laws.{readFrom, read-is}
 use Rattle.lanes.proofs.load.read_element.Statement.{statement}

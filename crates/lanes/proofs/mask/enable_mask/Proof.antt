@@ -1,5 +1,5 @@
 -- The `&` of two numbers made of bits is made of the bits that both have. Assumes nothing.
-use mathlib.Core.Path.{_≡_, refl, sym}
+use mathlib.Core.Path.{refl}
 use borrow.Author.Needs.{needs}
 use Rattle.lanes.specs.MaskLaws.{enableMask-less, unmasked-passed}
 use Rattle.lanes.proofs.mask.enable_mask.Statement.{statement}

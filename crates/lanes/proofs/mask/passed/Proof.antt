@@ -1,5 +1,5 @@
 -- Where the predicate masks, its own 16 bits are left; where it does not, all ones. Assumes nothing.
-use mathlib.Core.Path.{_≡_, refl, sym}
+use mathlib.Core.Path.{sym}
 use Rattle.paper.specs.Enable.{ofBits}
 use Rattle.laws.specs.Masks.{ofBits-mod}
 use Rattle.lanes.specs.Masks.{passedMask}

@@ -1,5 +1,5 @@
 -- Each arm is an arm of the predicate: all ones, the complement of the flag's 16 bits, or these. Assumes nothing.
-use mathlib.Core.Path.{_≡_, refl, sym}
+use mathlib.Core.Path.{sym}
 use native.Mathlib.Omega.{arith}
 use lib.Dec.{lit<}
 use borrow.Author.Needs.{needs}

@@ -1,5 +1,5 @@
 -- WECtrl 1 gives all ones; else the mask's own 16 bits. Assumes nothing.
-use mathlib.Core.Path.{_≡_, refl, sym}
+use mathlib.Core.Path.{sym}
 use borrow.Author.Tests.{ne-eqb}
 use Rattle.paper.specs.Enable.{ofBits}
 use Rattle.laws.specs.Masks.{ofBits-mod}

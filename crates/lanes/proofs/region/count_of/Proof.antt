@@ -1,6 +1,5 @@
 -- 1 << code is 2^code, from 1 to 16. Assumes nothing.
-use mathlib.Core.Path.{_≡_, refl}
-use Prim.Native.Nat.{ℕ, _/_, _*_, _^_, _<_, _+_}
+use mathlib.Core.Path.{refl}
 use native.Mathlib.Omega.{arith}
 use lib.Pow.{pow-mono, pow-pos}
 use borrow.Author.Needs.{needs}

@@ -1,6 +1,4 @@
 -- 1 << code is 2^code, and at most 64. Assumes nothing.
-use mathlib.Core.Path.{_≡_, refl}
-use Prim.Native.Nat.{ℕ, _/_, _*_, _^_, _<_, _+_}
 use native.Mathlib.Omega.{arith}
 use lib.Pow.{pow-mono}
 use borrow.Author.Needs.{needs}

@@ -1,15 +1,14 @@
 -- The loop's invariant: the values of the channels passed are scattered, and the length is kept. Assumes nothing.
 use borrow.Author.Needs.{needs}
-use mathlib.Core.Path.{_≡_, refl, ap, _∙_}
-use mathlib.Core.Bool.{cond}
-use mathlib.Core.List.{List}
-use Prim.Native.Nat.{ℕ, _+_, _-_, _*_, _^_, _≤_, _<_}
+use mathlib.Core.Path.{_≡_, refl}
+use Prim.Native.Nat.{ℕ, _+_, _-_, _*_, _≤_}
 use native.Mathlib.Omega.{arith}
 use native.Mathlib.Nat.{mul-le-mul-left}
 use native.Mathlib.Numerals.{add-one}
 use lib.ListN.{length, getD}
-use Rattle.paper.specs.Bits.{bit, putAt}
+use Rattle.paper.specs.Bits.{bit}
 use Rattle.paper.specs.Effect.{scattered}
+use Rattle.lanes.proofs.Laws.{scattered-step}
 use Rattle.lanes.proofs.scatter.scatter.Statement.{statement}
 use Rattle.lanes.proofs.scatter.scatter.Tie as tie
 
@@ -60,16 +59,14 @@ loop-less : tie.Need-loop-less Inv-loop μ-loop
 loop-less c = search needs
 
 loop-again : tie.Need-loop-again Inv-loop μ-loop
-unfolding scattered
 loop-again c =
     let a = c .before .before .before .before .before .before .before .before .args in
     let k : ℕ = c .before .before .before .before .before .before .loop .k in (
       omega arith,
       (cc),
       rw (add-one k)
-          (c .before .before .store-channel .ensures
-          ∙ ap (λ (l : List ℕ). cond (bit (a .enable) k) (putAt l (a .origin + k * a .stride * a .size) (a .size) (getD (a .values .now) k 0)) l)
-          (c .before .before .before .before .before .before .loop .inv .2)),
+          (scattered-step (a .registers .now) _ _ (λ k. a .origin + k * a .stride * a .size) (a .size) (bit (a .enable)) (λ k. getD (a .values .now) k 0) k
+          (c .before .before .before .before .before .before .loop .inv .2) (c .before .before .store-channel .ensures)),
     )
 
 same-length : tie.Need-same-length Inv-loop μ-loop

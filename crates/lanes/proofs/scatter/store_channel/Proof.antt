@@ -1,7 +1,5 @@
 -- The branch is the choice that the contract names. Assumes nothing.
 use borrow.Author.Needs.{needs}
-use mathlib.Core.Path.{_≡_, refl}
-use native.Mathlib.Omega.{arith}
 use Rattle.lanes.proofs.scatter.store_channel.Statement.{statement}
 use Rattle.lanes.proofs.scatter.store_channel.Tie as tie
 

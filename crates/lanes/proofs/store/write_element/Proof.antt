@@ -1,6 +1,6 @@
 -- For each size the bytes are stored one by one, the lowest first, as `putAt` does. Assumes nothing.
 use borrow.Author.Needs.{needs}
-use mathlib.Core.Path.{_≡_, refl}
+use mathlib.Core.Path.{_≡_}
 use native.Mathlib.Omega.{arith}
 use lib.ListN.{length-set}
 use Rattle.paper.specs.Bits.{putAt}
