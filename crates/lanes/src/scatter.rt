@@ -31,7 +31,8 @@ pub fn scatter(
 )
     requires { ⌜ Size size × (n ≤ 16) ⌝ }
     requires { ⌜ ((k : ℕ) → k < n → origin + k * stride * size + size ≤ length (now registers)) ⌝ }
-    ensures { λ r. ⌜ now (registers .exit) ≡ scattered (now (registers .entry)) (λ k. origin + k * stride * size) size (bit enable) (λ k. getD (now (values .entry)) k 0) n ⌝ }
+    ensures { λ r. ⌜ now (registers .exit)
+        ≡ scattered (now (registers .entry)) (λ k. origin + k * stride * size) size (bit enable) (λ k. getD (now (values .entry)) k 0) n ⌝ }
 {
     let mut k = 0;
     while k < n {

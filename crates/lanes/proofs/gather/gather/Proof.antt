@@ -1,4 +1,4 @@
--- The loop's invariant: the values of the channels passed are gathered. Assumes nothing.
+-- The loop's invariant: the values of the channels passed are gathered. Its measure: the channels left. Assumes nothing.
 use borrow.Author.Needs.{needs}
 use mathlib.Core.Path.{_≡_, refl}
 use Prim.Native.Nat.{_-_, _≤_}
@@ -10,7 +10,8 @@ use Rattle.lanes.proofs.gather.gather.Statement.{statement}
 use Rattle.lanes.proofs.gather.gather.Tie as tie
 
 abbrev Inv-loop : tie.InvT-loop
-Inv-loop registers origin vert code horz size n values₀ k₀ values k = (k ≤ n) × (length values ≡ 16) × (values ≡ gathered registers origin vert code horz size k)
+Inv-loop registers origin vert code horz size n values₀ k₀ values k =
+    (k ≤ n) × (length values ≡ 16) × (values ≡ gathered registers origin vert code horz size k)
 
 abbrev μ-loop : tie.MeasureT-loop
 μ-loop registers origin vert code horz size n values₀ k₀ values k = n - k

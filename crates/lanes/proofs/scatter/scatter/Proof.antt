@@ -1,4 +1,5 @@
--- The loop's invariant: the values of the channels passed are scattered, and the length is kept. Assumes nothing.
+-- The loop's invariant: the values of the channels passed are scattered, and the length is kept.
+-- Its measure: the channels left. Assumes nothing.
 use borrow.Author.Needs.{needs}
 use mathlib.Core.Path.{_≡_, refl}
 use Prim.Native.Nat.{ℕ, _+_, _-_, _*_, _≤_}

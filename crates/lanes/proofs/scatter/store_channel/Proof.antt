@@ -14,7 +14,8 @@ same-length c = search needs
 
 returns : tie.Need-returns
 returns c =
-    rw (← (c .before .before .before .before .before .bit .ensures), c .before .before .before .before .if1 .taken) (c .before .before .write-element .ensures)
+    rw (← (c .before .before .before .before .before .bit .ensures), c .before .before .before .before .if1 .taken)
+    (c .before .before .write-element .ensures)
 
 returns-2 : tie.Need-returns-2
 returns-2 c = rw (← (c .before .bit .ensures), c .if1 .left)
