@@ -1,0 +1,64 @@
+-- The code's row and column are quotient and remainder by the width, and the bounds keep every product small. Assumes nothing.
+use mathlib.Core.Path.{_≡_}
+use Prim.Native.Nat.{_+_, _-_, _*_, _/_, _%_, _^_, _≤_}
+use native.Mathlib.Omega.{arith}
+use native.Mathlib.Nat.{div-add-mod'}
+use borrow.Author.Needs.{needs}
+use Rattle.paper.specs.Region.{elementAt}
+use Rattle.lanes.proofs.Laws.{floor-shl, rest-shl, row-le, column-le, offset-le}
+use Rattle.lanes.proofs.region.element_at.Statement.{statement}
+use Rattle.lanes.proofs.region.element_at.Tie as tie
+
+shr-row : tie.Need-shr-row
+shr-row c = search needs
+
+shl-column : tie.Need-shl-column
+shl-column c = search needs
+
+sub-column : tie.Need-sub-column
+sub-column c = let a = c .args in rw (floor-shl (a .n) (a .code) (omega arith)) (omega (arith, div-add-mod' (a .n) (2 ^ a .code)))
+
+row : (c : tie.Start) → c .args .n / 2 ^ c .args .code * c .args .vert ≤ 480
+row c = let a = c .args in row-le (a .n) (2 ^ a .code) (a .vert) (a .horz) (a .size) (omega arith) (omega arith) (omega arith) (omega arith)
+
+column : (c : tie.Start) → c .args .n % 2 ^ c .args .code * c .args .horz ≤ 480
+column c = let a = c .args in column-le (a .n) (2 ^ a .code) (a .vert) (a .horz) (a .size) (omega arith) (omega arith) (omega arith) (omega arith)
+
+offset : (c : tie.Start) → (c .args .n / 2 ^ c .args .code * c .args .vert + c .args .n % 2 ^ c .args .code * c .args .horz) * c .args .size ≤ 3840
+offset c = let a = c .args in offset-le (a .n) (2 ^ a .code) (a .vert) (a .horz) (a .size) (omega arith) (omega arith) (omega arith) (omega arith)
+
+rest : (c : tie.Start) → c .args .n - (c .args .n / 2 ^ c .args .code * 2 ^ c .args .code) % 2 ^ 64 ≡ c .args .n % 2 ^ c .args .code
+rest c = rest-shl (c .args .n) (c .args .code) (omega arith)
+
+mul-result : tie.Need-mul-result
+mul-result c = omega (arith, row c)
+
+mul-result-2 : tie.Need-mul-result-2
+mul-result-2 c = rw (rest c) (omega (arith, column c))
+
+add-result : tie.Need-add-result
+add-result c = rw (rest c) (omega (arith, row c, column c))
+
+mul-result-3 : tie.Need-mul-result-3
+mul-result-3 c = rw (rest c) (omega (arith, offset c))
+
+add-result-2 : tie.Need-add-result-2
+add-result-2 c = rw (rest c) (omega (arith, offset c))
+
+returns : tie.Need-returns
+unfolding elementAt
+returns c = (rw (rest c), rw (rest c) (omega (arith, offset c)))
+
+pub element-at-spec : {M : Type 1} → statement M
+element-at-spec =
+    tie.close
+    (tie.spec
+    shr-row
+    shl-column
+    sub-column
+    mul-result
+    mul-result-2
+    add-result
+    mul-result-3
+    add-result-2
+    returns)
