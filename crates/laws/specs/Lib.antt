@@ -1,1 +1,4 @@
 -- Theorems.
+pub mod Bits
+pub mod Rows
+pub mod Dictionary
