@@ -21,7 +21,7 @@ use Rattle.paper.specs.Expand.{
   expand,
 }
 use Rattle.laws.specs.Bits.{bits-low, bits-high, whole-lt}
-use Rattle.laws.specs.Rows.{span, Agrees, assemble-lt, assemble-self}
+use Rattle.laws.specs.Rows.{span, Agrees, RowAgrees, row-agrees, assemble-lt, assemble-self}
 
 -- The rows of the low half of short word s's expansion.
 abbrev pub lowOf : Dictionary → ℕ → List Row
@@ -79,10 +79,20 @@ module _ (D : Dictionary) (s : ℕ) where
   unfolding expandHigh
   high-agrees = assemble-self (highOf D (immediateForm (expandLow D s)) s)
 
+  -- So does each row, by its place in the list.
+  pub low-row : (i : ℕ) → RowAgrees i 0 (lowOf D s) (expandLow D s)
+  low-row = row-agrees (lowOf D s) 0 (expandLow D s) low-agrees
+
+  pub high-row : (immediate : Bool) → immediateForm (expandLow D s) ≡ immediate → (i : ℕ)
+      → RowAgrees i 0 (highOf D immediate s) (expandHigh D s)
+  high-row immediate e =
+      row-agrees (highOf D immediate s) 0 (expandHigh D s)
+      (subst (λ (form : Bool). Agrees 0 (highOf D form s) (expandHigh D s)) e high-agrees)
+
   -- The opcode, and so the operation, is the short word's.
   pub expand-opcode : opcode (expand D s) ≡ opcode s
   unfolding expand
-  expand-opcode = opcode-low (expandLow D s) (expandHigh D s) ∙ sym (low-agrees .0)
+  expand-opcode = opcode-low (expandLow D s) (expandHigh D s) ∙ sym (low-row 0)
 
   pub expand-operation : operation (expand D s) ≡ operation s
   expand-operation = ap operationOf expand-opcode
@@ -99,17 +109,13 @@ module _ (D : Dictionary) (s : ℕ) where
       let lo : ℕ = expandLow D s in
       let hi : ℕ = expandHigh D s in
       record {
-        bit-7 = bits-low 7 1 56 lo hi ∙ sym (low-agrees .1 .0);
-        bit-29 = bits-low 29 1 34 lo hi ∙ sym (low-agrees .1 .1 .1 .1 .1 .0);
-        bit-47 = bits-low 47 1 16 lo hi ∙ sym (low-agrees .1 .1 .1 .1 .1 .1 .1 .1 .1 .0);
-        bits-90 = bits-high 64 26 6 hi expandLow-lt ∙ sym (high-agrees .1 .1 .1 .1 .0)
+        bit-7 = bits-low 7 1 56 lo hi ∙ sym (low-row 1);
+        bit-29 = bits-low 29 1 34 lo hi ∙ sym (low-row 5);
+        bit-47 = bits-low 47 1 16 lo hi ∙ sym (low-row 9);
+        bits-90 = bits-high 64 26 6 hi expandLow-lt ∙ sym (high-row (immediateForm lo) refl 4)
       }
 
   -- Bits 127:121 are 0, but in immediate form.
   pub expand-top : immediateForm (expand D s) ≡ false → bits (expand D s) 121 7 ≡ 0
   unfolding expand
-  expand-top e =
-      let form : immediateForm (expandLow D s) ≡ false = sym expand-form ∙ e in
-      let agrees : Agrees 0 (highOf D false s) (expandHigh D s) =
-        subst (λ (f : Bool). Agrees 0 (highOf D f s) (expandHigh D s)) form high-agrees in
-      bits-high 64 57 7 (expandHigh D s) expandLow-lt ∙ sym (agrees .1 .1 .1 .1 .1 .1 .1 .1 .0)
+  expand-top e = bits-high 64 57 7 (expandHigh D s) expandLow-lt ∙ sym (high-row false (sym expand-form ∙ e) 8)

@@ -3,3 +3,4 @@ pub mod Bits
 pub mod Rows
 pub mod Dictionary
 pub mod Expand
+pub mod ShortWord

@@ -1,14 +1,14 @@
 -- Laws of numbers laid out by rows: such a number is another's field exactly if it is so row by row. Assumes nothing.
 use mathlib.Core.List.{List, [], _∷_}
-use mathlib.Core.Path.{_≡_, refl, sym, _∙_}
-use Prim.Native.Nat.{ℕ, _+_, _*_, _^_, _<_}
+use mathlib.Core.Path.{_≡_, refl, sym, subst, _∙_}
+use Prim.Native.Nat.{ℕ, zero, suc, _+_, _*_, _%_, _^_, _<_}
 use native.Mathlib.Nat.{add-comm, mul-comm, mod-one}
 use native.Mathlib.Omega.{arith}
 use lib.Arith.{digits-lt}
 use lib.Pow.{pow-add}
 use Rattle.paper.specs.Bits.{bits}
 use Rattle.paper.specs.Rows.{Row, row, assemble}
-use Rattle.laws.specs.Bits.{bits-lt, bits-all, bits-split, same-low, same-top}
+use Rattle.laws.specs.Bits.{bits-lt, bits-mod, bits-all, bits-split, same-low, same-top}
 
 -- How many bits the rows have together.
 abbrev pub span : List Row → ℕ
@@ -19,6 +19,18 @@ span (row n x lo ∷ rows) = n + span rows
 abbrev pub Agrees : ℕ → List Row → ℕ → Type 0
 Agrees k [] w = Unit
 Agrees k (row n x lo ∷ rows) w = (bits x lo n ≡ bits w k n) × Agrees (k + n) rows w
+
+-- What agreement says of row i, the first being row 0; of rows that are not there, nothing.
+abbrev pub RowAgrees : ℕ → ℕ → List Row → ℕ → Type 0
+RowAgrees i k [] w = Unit
+RowAgrees zero k (row n x lo ∷ rows) w = bits x lo n ≡ bits w k n
+RowAgrees (suc i) k (row n x lo ∷ rows) w = RowAgrees i (k + n) rows w
+
+-- Agreement holds of each row.
+pub row-agrees : (rows : List Row) (k w : ℕ) → Agrees k rows w → (i : ℕ) → RowAgrees i k rows w
+row-agrees [] k w m i = tt
+row-agrees (row n x lo ∷ rows) k w m zero = m .0
+row-agrees (row n x lo ∷ rows) k w m (suc i) = row-agrees rows (k + n) w (m .1) i
 
 -- If w agrees with the rows, then they lay out its field.
 pub assemble-agrees : (rows : List Row) (k w : ℕ) → Agrees k rows w → assemble rows ≡ bits w k (span rows)
@@ -44,3 +56,20 @@ assemble-lt (row n x lo ∷ rows) =
 -- What rows lay out agrees with them.
 pub assemble-self : (rows : List Row) → Agrees 0 rows (assemble rows)
 assemble-self rows = agrees-assemble rows 0 (assemble rows) (sym (bits-all (span rows) (assemble rows) (assemble-lt rows)))
+
+-- ---- agreement from bit 0 on
+
+-- A number that the rows lay out agrees with them.
+pub whole-agrees : (rows : List Row) (w : ℕ) → assemble rows ≡ w → Agrees 0 rows w
+whole-agrees rows w e = subst (λ (x : ℕ). Agrees 0 rows x) e (assemble-self rows)
+
+-- A number no wider than the rows that agrees with them is what they lay out.
+pub agrees-whole : (rows : List Row) (w : ℕ) → w < 2 ^ span rows → Agrees 0 rows w → assemble rows ≡ w
+agrees-whole rows w h m = assemble-agrees rows 0 w m ∙ bits-all (span rows) w h
+
+-- Agreement says what the number is modulo the rows' width.
+pub agrees-mod : (rows : List Row) (w : ℕ) → Agrees 0 rows w → w % 2 ^ span rows ≡ assemble rows
+agrees-mod rows w m = sym (assemble-agrees rows 0 w m ∙ bits-mod w (span rows))
+
+pub mod-agrees : (rows : List Row) (w : ℕ) → w % 2 ^ span rows ≡ assemble rows → Agrees 0 rows w
+mod-agrees rows w e = agrees-assemble rows 0 w (sym e ∙ sym (bits-mod w (span rows)))
