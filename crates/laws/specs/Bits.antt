@@ -1,5 +1,5 @@
 -- Laws of fields of bits: how wide they are, and how those of a number in two parts are those of its parts. Assumes nothing.
-use mathlib.Core.Path.{_≡_, refl, sym, ap, _∙_}
+use mathlib.Core.Path.{_≡_, sym, ap, _∙_}
 use Prim.Native.Nat.{ℕ, _+_, _*_, _/_, _%_, _^_, _<_}
 use native.Mathlib.Nat.{add-comm, mul-comm, mul-assoc, mod-lt, mod-eq-of-lt, div-one, add-mul-div-right, add-mul-mod-self-right}
 use lib.Arith.{digits-lt}

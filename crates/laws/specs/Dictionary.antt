@@ -1,13 +1,13 @@
 -- Laws of the dictionary's rule 2: the test says that each number fits its table. Assumes nothing.
 use mathlib.Core.Bool.{Bool, true, false, true≢false, _&&_}
-use mathlib.Core.Path.{_≡_, refl, sym, ap, subst, _∙_}
+use mathlib.Core.Path.{_≡_, refl, sym, subst}
 use Prim.Native.Nat.{ℕ, zero, suc, _^_, _<_}
 use native.Mathlib.Omega.{arith}
 use native.Mathlib.Decide.{decLt}
 use borrow.Author.Tests.{ltb-true, lt-ltb}
-use lib.Dec.{ltb}
 use Rattle.paper.specs.Dictionary.{Dictionary, tableWidth, fitBelow, inRange}
 
+-- Both sides of a true conjunction are true.
 and-left : (a b : Bool) → (a && b) ≡ true → a ≡ true
 and-left true b e = refl
 and-left false b e = e
@@ -39,5 +39,5 @@ pub in-range : (D : Dictionary) → inRange D ≡ true → (i : ℕ) → i < 128
 in-range D = fit-below D 128
 
 -- A dictionary each of whose numbers fits its table passes rule 2.
-pub range-in : (D : Dictionary) → ((i : ℕ) → i < 128 → D i < 2 ^ tableWidth i) → inRange D ≡ true
-range-in D = below-fit D 128
+pub all-in-range : (D : Dictionary) → ((i : ℕ) → i < 128 → D i < 2 ^ tableWidth i) → inRange D ≡ true
+all-in-range D = below-fit D 128

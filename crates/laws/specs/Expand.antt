@@ -4,10 +4,10 @@ use mathlib.Core.List.{List}
 use mathlib.Core.Path.{_≡_, refl, sym, ap, subst, _∙_}
 use Prim.Native.Nat.{ℕ, _+_, _*_, _^_, _<_}
 use Rattle.paper.specs.Bits.{bits}
-use Rattle.paper.specs.Rows.{Row, assemble}
+use Rattle.paper.specs.Rows.{Row}
 use Rattle.paper.specs.Word.{opcode, immediateForm}
 use Rattle.paper.specs.Dictionary.{Dictionary, control, datatype, subregister, source}
-use Rattle.paper.specs.Operation.{Operation, operation, operationOf}
+use Rattle.paper.specs.Operation.{operation, operationOf}
 use Rattle.paper.specs.Expand.{
   controlIndex,
   datatypeIndex,
@@ -112,7 +112,7 @@ module _ (D : Dictionary) (s : ℕ) where
         bit-7 = bits-low 7 1 56 lo hi ∙ sym (low-row 1);
         bit-29 = bits-low 29 1 34 lo hi ∙ sym (low-row 5);
         bit-47 = bits-low 47 1 16 lo hi ∙ sym (low-row 9);
-        bits-90 = bits-high 64 26 6 hi expandLow-lt ∙ sym (high-row (immediateForm lo) refl 4)
+        bits-90 = bits-high 64 26 6 hi expandLow-lt ∙ sym (high-row (immediateForm lo) refl 4);
       }
 
   -- Bits 127:121 are 0, but in immediate form.

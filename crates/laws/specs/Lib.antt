@@ -4,3 +4,4 @@ pub mod Rows
 pub mod Dictionary
 pub mod Expand
 pub mod ShortWord
+pub mod Shorten

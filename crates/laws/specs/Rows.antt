@@ -1,6 +1,6 @@
 -- Laws of numbers laid out by rows: such a number is another's field exactly if it is so row by row. Assumes nothing.
 use mathlib.Core.List.{List, [], _∷_}
-use mathlib.Core.Path.{_≡_, refl, sym, subst, _∙_}
+use mathlib.Core.Path.{_≡_, sym, subst, _∙_}
 use Prim.Native.Nat.{ℕ, zero, suc, _+_, _*_, _%_, _^_, _<_}
 use native.Mathlib.Nat.{add-comm, mul-comm, mod-one}
 use native.Mathlib.Omega.{arith}
@@ -41,9 +41,9 @@ assemble-agrees (row n x lo ∷ rows) k w (e, m) = rw (bits-split w k n (span ro
 pub agrees-assemble : (rows : List Row) (k w : ℕ) → assemble rows ≡ bits w k (span rows) → Agrees k rows w
 agrees-assemble [] k w e = tt
 agrees-assemble (row n x lo ∷ rows) k w e =
-    let f : bits x lo n + assemble rows * 2 ^ n ≡ bits w k n + bits w (k + n) (span rows) * 2 ^ n = e ∙ bits-split w k n (span rows) in
-    ( same-low n _ _ (bits-lt x lo n) (bits-lt w k n) f
-    , agrees-assemble rows (k + n) w (same-top n _ _ (bits-lt x lo n) (bits-lt w k n) f)
+    let f : bits x lo n + assemble rows * 2 ^ n ≡ bits w k n + bits w (k + n) (span rows) * 2 ^ n = e ∙ bits-split w k n (span rows) in (
+      same-low n _ _ (bits-lt x lo n) (bits-lt w k n) f,
+      agrees-assemble rows (k + n) w (same-top n _ _ (bits-lt x lo n) (bits-lt w k n) f),
     )
 
 -- What rows lay out is no wider than they are.

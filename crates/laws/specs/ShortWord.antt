@@ -26,7 +26,7 @@ use Rattle.paper.specs.Expand.{
   expand,
 }
 use Rattle.paper.specs.Shorten.{controlKey, datatypeKey, subregisterKey, headRows, tailRows, shortWord}
-use Rattle.laws.specs.Bits.{bits-lt, bits-mod, bits-all, bits-split, low-of, top-of, same-low, same-top}
+use Rattle.laws.specs.Bits.{bits-mod, bits-all, bits-split, low-of, top-of, same-low, same-top}
 use Rattle.laws.specs.Rows.{
   span,
   Agrees,
@@ -54,8 +54,8 @@ expands-rows D lo hi s hlo e =
     record {
       low = subst (λ (w : ℕ). Agrees 0 (lowOf D s) w) el (low-agrees D s);
       high =
-        subst (λ (form : Bool). Agrees 0 (highOf D form s) hi) (ap immediateForm el)
-        (subst (λ (w : ℕ). Agrees 0 (highOf D (immediateForm (expandLow D s)) s) w) eh (high-agrees D s))
+          subst (λ (form : Bool). Agrees 0 (highOf D form s) hi) (ap immediateForm el)
+          (subst (λ (w : ℕ). Agrees 0 (highOf D (immediateForm (expandLow D s)) s) w) eh (high-agrees D s));
     }
 
 -- What expands row by row expands to the word.
@@ -64,8 +64,8 @@ unfolding expand expandLow expandHigh
 rows-expand D lo hi s hlo hhi f =
     let el : expandLow D s ≡ lo = agrees-whole (lowOf D s) lo hlo (f .low) in
     let eh : expandHigh D s ≡ hi =
-      ap (λ (form : Bool). assemble (highOf D form s)) (ap immediateForm el)
-      ∙ agrees-whole (highOf D (immediateForm lo) s) hi (rw (high-span D (immediateForm lo) s) hhi) (f .high) in
+    ap (λ (form : Bool). assemble (highOf D form s)) (ap immediateForm el)
+    ∙ agrees-whole (highOf D (immediateForm lo) s) hi (rw (high-span D (immediateForm lo) s) hhi) (f .high) in
     cc
 
 -- ---- the 13-bit immediate
@@ -90,6 +90,7 @@ reach-extended d h l = by-sign (decLt (d % 8192) 4096)
     by-sign (yes k) = rw (lt-ltb (d % 8192) 4096 k) (omega arith)
     by-sign (no k) = rw (le-ltb (d % 8192) 4096 (omega arith)) (omega arith)
 
+-- src1's index and register have 13 bits together.
 under-13 : (s : ℕ) → src1Index s at 8 + src1Register s < 8192
 under-13 s = omega arith
 
@@ -130,13 +131,16 @@ module _ {D : Dictionary} {lo hi s : ℕ} (f : Expands D lo hi s) where
 
 -- ---- a 64-bit number by the short word's fields
 
+-- The rows of a short word's fields, bits 29:0, taken from itself.
 ownHead : ℕ → List Row
 ownHead s =
     row 7 s 0 ∷ row 1 s 7 ∷ row 5 s 8 ∷ row 5 s 13 ∷ row 5 s 18 ∷ row 1 s 23 ∷ row 4 s 24 ∷ row 1 s 28 ∷ row 1 s 29 ∷ []
 
+-- Bits 63:30.
 ownTail : ℕ → List Row
 ownTail s = row 5 s 30 ∷ row 5 s 35 ∷ row 8 s 40 ∷ row 8 s 48 ∷ row 8 s 56 ∷ []
 
+-- A 64-bit number is what these rows lay out.
 own : (s : ℕ) → s < 2 ^ 64 → assemble (ownHead s) + assemble (ownTail s) * 2 ^ 30 ≡ s
 unfolding ownHead ownTail
 own s h =
@@ -152,14 +156,15 @@ parts-le n h k = add-le-add h (mul-le-mul-right (2 ^ n) k)
 -- ---- the short word that is put together for the word of lo and hi
 
 module _ (lo hi c t b x y r : ℕ) where
-  abbrev built : ℕ
+  abbrev pub built : ℕ
   built = shortWord lo hi c t b x y r
 
+  -- It has 64 bits.
   pub built-lt : built < 2 ^ 64
   unfolding shortWord
   built-lt = omega arith
 
-  -- It has its fields.
+  -- It agrees with its rows.
   built-head : Agrees 0 (headRows lo hi c t b) built
   unfolding shortWord
   built-head =
@@ -173,6 +178,7 @@ module _ (lo hi c t b x y r : ℕ) where
       (sym (ap (λ (z : ℕ). z % 2 ^ 34) (top-of 30 (assemble (tailRows lo hi x y r)) (assemble-lt (headRows lo hi c t b)))
       ∙ mod-eq-of-lt (assemble-lt (tailRows lo hi x y r))))
 
+  -- So does each row, by its place in the list.
   pub head-at : (i : ℕ) → RowAgrees i 0 (headRows lo hi c t b) built
   head-at = row-agrees (headRows lo hi c t b) 0 built built-head
 
@@ -194,18 +200,53 @@ module _ (lo hi c t b x y r : ℕ) where
         let eb : b ≡ subregisterIndex built = sym (bits-all 5 b hb) ∙ head-at 4 in
         let ex : x ≡ src0Index built = sym (bits-all 5 x hx) ∙ tail-at 0 in
         let kc : Agrees 0 (controlKey lo) (control D (controlIndex built)) =
-          subst (λ (i : ℕ). Agrees 0 (controlKey lo) (control D i)) ec mc in
+        subst (λ (i : ℕ). Agrees 0 (controlKey lo) (control D i)) ec mc in
         let kt : Agrees 0 (datatypeKey lo) (datatype D (datatypeIndex built)) =
-          subst (λ (i : ℕ). Agrees 0 (datatypeKey lo) (datatype D i)) et mt in
+        subst (λ (i : ℕ). Agrees 0 (datatypeKey lo) (datatype D i)) et mt in
         let kb : Agrees 0 (subregisterKey true lo hi) (subregister D (subregisterIndex built)) =
-          subst (λ (i : ℕ). Agrees 0 (subregisterKey true lo hi) (subregister D i)) eb mb in
+        subst (λ (i : ℕ). Agrees 0 (subregisterKey true lo hi) (subregister D i)) eb mb in
         record {
-          low =
-            (sym (head-at 0), (sym z7, (sym (kc .0), (sym (head-at 6), (sym (head-at 5), (sym z29, (sym (head-at 1), (sym (kc .1 .0),
-            (sym (kt .0), (sym z47, (sym (kb .0), (sym (tail-at 2), (sym (kt .1 .0), tt)))))))))))));
-          high =
-            (sym (kb .1 .0), (sym (tail-at 3), (subst (λ (i : ℕ). bits (source D i) 0 12 ≡ bits hi 13 12) ex mx, (sym (head-at 7), (sym z90,
-            subst (λ (i : ℕ). Agrees 32 (topRows (immediateForm lo) built (subregister D i) (source D (src1Index built))) hi) eb top)))))
+          low = (
+            sym (head-at 0),
+            (
+              sym z7,
+              (
+                sym (kc .0),
+                (
+                  sym (head-at 6),
+                  (
+                    sym (head-at 5),
+                    (
+                      sym z29,
+                      (
+                        sym (head-at 1),
+                        (
+                          sym (kc .1 .0),
+                          (sym (kt .0), (sym z47, (sym (kb .0), (sym (tail-at 2), (sym (kt .1 .0), tt))))),
+                        ),
+                      ),
+                    ),
+                  ),
+                ),
+              ),
+            ),
+          );
+          high = (
+            sym (kb .1 .0),
+            (
+              sym (tail-at 3),
+              (
+                subst (λ (i : ℕ). bits (source D i) 0 12 ≡ bits hi 13 12) ex mx,
+                (
+                  sym (head-at 7),
+                  (
+                    sym z90,
+                    subst (λ (i : ℕ). Agrees 32 (topRows (immediateForm lo) built (subregister D i) (source D (src1Index built))) hi) eb top,
+                  ),
+                ),
+              ),
+            ),
+          );
         }
 
     -- It is at most any short word that expands to the word, if its indices and src1's register are.
