@@ -37,11 +37,13 @@ pub high-span : (D : Dictionary) (immediate : Bool) (s : ℕ) → span (highOf D
 high-span D true s = refl
 high-span D false s = refl
 
--- ---- a long word's form and opcode stand in its low half
+-- ---- a long word by its halves
 
+-- The opcode stands in the low half.
 pub opcode-low : (lo hi : ℕ) → opcode (lo + hi * 2 ^ 64) ≡ opcode lo
 opcode-low lo hi = bits-low 0 7 57 lo hi
 
+-- So does what tells the form.
 pub form-low : (lo hi : ℕ) → immediateForm (lo + hi * 2 ^ 64) ≡ immediateForm lo
 unfolding immediateForm
 form-low lo hi = rw (bits-low 37 2 25 lo hi, bits-low 42 2 20 lo hi)
@@ -54,11 +56,12 @@ pub record Reserved (w : ℕ) : Type 0 where
   pub bits-90 : bits w 90 6 ≡ 0
 
 module _ (D : Dictionary) (s : ℕ) where
-  -- Each half has 64 bits.
+  -- The low half of an expanded word has 64 bits.
   pub expandLow-lt : expandLow D s < 2 ^ 64
   unfolding expandLow
   expandLow-lt = assemble-lt (lowOf D s)
 
+  -- So has the high half.
   pub expandHigh-lt : expandHigh D s < 2 ^ 64
   unfolding expandHigh
   expandHigh-lt =
@@ -70,30 +73,33 @@ module _ (D : Dictionary) (s : ℕ) where
   unfolding expand
   expand-fits = whole-lt (expandLow D s) (expandHigh D s) expandLow-lt expandHigh-lt
 
-  -- Each half agrees with its rows.
+  -- The low half agrees with its rows.
   pub low-agrees : Agrees 0 (lowOf D s) (expandLow D s)
   unfolding expandLow
   low-agrees = assemble-self (lowOf D s)
 
+  -- So does the high half, in the form that the low half tells.
   pub high-agrees : Agrees 0 (highOf D (immediateForm (expandLow D s)) s) (expandHigh D s)
   unfolding expandHigh
   high-agrees = assemble-self (highOf D (immediateForm (expandLow D s)) s)
 
-  -- So does each row, by its place in the list.
+  -- The low half agrees with its row i.
   pub low-row : (i : ℕ) → RowAgrees i 0 (lowOf D s) (expandLow D s)
   low-row = row-agrees (lowOf D s) 0 (expandLow D s) low-agrees
 
+  -- The high half agrees with its row i in either form.
   pub high-row : (immediate : Bool) → immediateForm (expandLow D s) ≡ immediate → (i : ℕ)
       → RowAgrees i 0 (highOf D immediate s) (expandHigh D s)
   high-row immediate e =
       row-agrees (highOf D immediate s) 0 (expandHigh D s)
       (subst (λ (form : Bool). Agrees 0 (highOf D form s) (expandHigh D s)) e high-agrees)
 
-  -- The opcode, and so the operation, is the short word's.
+  -- The opcode is the short word's.
   pub expand-opcode : opcode (expand D s) ≡ opcode s
   unfolding expand
   expand-opcode = opcode-low (expandLow D s) (expandHigh D s) ∙ sym (low-row 0)
 
+  -- So the operation is, too.
   pub expand-operation : operation (expand D s) ≡ operation s
   expand-operation = ap operationOf expand-opcode
 

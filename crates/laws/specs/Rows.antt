@@ -20,6 +20,11 @@ abbrev pub Agrees : ℕ → List Row → ℕ → Type 0
 Agrees k [] w = Unit
 Agrees k (row n x lo ∷ rows) w = (bits x lo n ≡ bits w k n) × Agrees (k + n) rows w
 
+-- Agreement with the first row, and then with the others.
+infixr 20 _then_
+abbrev pub _then_ : {A B : Type 0} → A → B → A × B
+a then b = (a, b)
+
 -- What agreement says of row i, the first being row 0; of rows that are not there, nothing.
 abbrev pub RowAgrees : ℕ → ℕ → List Row → ℕ → Type 0
 RowAgrees i k [] w = Unit
@@ -71,5 +76,6 @@ agrees-whole rows w h m = assemble-agrees rows 0 w m ∙ bits-all (span rows) w 
 pub agrees-mod : (rows : List Row) (w : ℕ) → Agrees 0 rows w → w % 2 ^ span rows ≡ assemble rows
 agrees-mod rows w m = sym (assemble-agrees rows 0 w m ∙ bits-mod w (span rows))
 
+-- A number with that remainder agrees.
 pub mod-agrees : (rows : List Row) (w : ℕ) → w % 2 ^ span rows ≡ assemble rows → Agrees 0 rows w
 mod-agrees rows w e = agrees-assemble rows 0 w (sym e ∙ sym (bits-mod w (span rows)))

@@ -30,6 +30,7 @@ use Rattle.laws.specs.Bits.{bits-mod, bits-all, bits-split, low-of, top-
 use Rattle.laws.specs.Rows.{
   span,
   Agrees,
+  _then_,
   RowAgrees,
   row-agrees,
   assemble-agrees,
@@ -97,30 +98,35 @@ under-13 s = omega arith
 -- ---- what is known of a short word that expands to the word of lo and hi
 
 module _ {D : Dictionary} {lo hi s : ℕ} (f : Expands D lo hi s) where
-  -- Each half agrees with each row, by its place in the list.
+  -- The low half agrees with row i.
   pub low-at : (i : ℕ) → RowAgrees i 0 (lowOf D s) lo
   low-at = row-agrees (lowOf D s) 0 lo (f .low)
 
+  -- The high half agrees with row i in its form.
   pub high-at : (immediate : Bool) → immediateForm lo ≡ immediate → (i : ℕ) → RowAgrees i 0 (highOf D immediate s) hi
   high-at immediate e =
       row-agrees (highOf D immediate s) 0 hi (subst (λ (form : Bool). Agrees 0 (highOf D form s) hi) e (f .high))
 
-  -- Each of its dictionary numbers is what the word asks of the table.
+  -- Its control number is what the word asks of the table.
   pub control-asked : control D (controlIndex s) % 2 ^ 17 ≡ assemble (controlKey lo)
-  control-asked = agrees-mod (controlKey lo) _ (sym (low-at 2), (sym (low-at 7), tt))
+  control-asked = agrees-mod (controlKey lo) _ (sym (low-at 2) then sym (low-at 7) then tt)
 
+  -- So is its datatype number.
   pub datatype-asked : datatype D (datatypeIndex s) % 2 ^ 18 ≡ assemble (datatypeKey lo)
-  datatype-asked = agrees-mod (datatypeKey lo) _ (sym (low-at 8), (sym (low-at 12), tt))
+  datatype-asked = agrees-mod (datatypeKey lo) _ (sym (low-at 8) then sym (low-at 12) then tt)
 
+  -- So is its subregister number, as far as its form asks.
   pub subregister-asked : (immediate : Bool) → immediateForm lo ≡ immediate
       → subregister D (subregisterIndex s) % 2 ^ span (subregisterKey immediate lo hi) ≡ assemble (subregisterKey immediate lo hi)
-  subregister-asked true e = agrees-mod (subregisterKey true lo hi) _ (sym (low-at 10), (sym (high-at true e 0), tt))
+  subregister-asked true e = agrees-mod (subregisterKey true lo hi) _ (sym (low-at 10) then sym (high-at true e 0) then tt)
   subregister-asked false e =
-      agrees-mod (subregisterKey false lo hi) _ (sym (low-at 10), (sym (high-at false e 0), (sym (high-at false e 5), tt)))
+      agrees-mod (subregisterKey false lo hi) _ (sym (low-at 10) then sym (high-at false e 0) then sym (high-at false e 5) then tt)
 
+  -- So is its first source number.
   pub src0-asked : source D (src0Index s) % 2 ^ 12 ≡ bits hi 13 12
   src0-asked = sym (bits-mod _ 12) ∙ high-at (immediateForm lo) refl 2
 
+  -- So is its second source number, but in immediate form.
   pub src1-asked : immediateForm lo ≡ false → source D (src1Index s) % 2 ^ 12 ≡ bits hi 45 12
   src1-asked e = sym (bits-mod _ 12) ∙ high-at false e 7
 
@@ -145,8 +151,8 @@ own : (s : ℕ) → s < 2 ^ 64 → assemble (ownHead s) + assemble (ownTail s) *
 unfolding ownHead ownTail
 own s h =
     ap (λ (z : ℕ). z + assemble (ownTail s) * 2 ^ 30)
-    (assemble-agrees (ownHead s) 0 s (refl, (refl, (refl, (refl, (refl, (refl, (refl, (refl, (refl, tt))))))))))
-    ∙ ap (λ (z : ℕ). bits s 0 30 + z * 2 ^ 30) (assemble-agrees (ownTail s) 30 s (refl, (refl, (refl, (refl, (refl, tt))))))
+    (assemble-agrees (ownHead s) 0 s (refl then refl then refl then refl then refl then refl then refl then refl then refl then tt))
+    ∙ ap (λ (z : ℕ). bits s 0 30 + z * 2 ^ 30) (assemble-agrees (ownTail s) 30 s (refl then refl then refl then refl then refl then tt))
     ∙ sym (bits-split s 0 30 34) ∙ bits-all 64 s h
 
 -- Numbers in two parts are in order if both parts are.
@@ -156,6 +162,7 @@ parts-le n h k = add-le-add h (mul-le-mul-right (2 ^ n) k)
 -- ---- the short word that is put together for the word of lo and hi
 
 module _ (lo hi c t b x y r : ℕ) where
+  -- Its bits are those of `headRows` and `tailRows`.
   abbrev pub built : ℕ
   built = shortWord lo hi c t b x y r
 
@@ -164,13 +171,14 @@ module _ (lo hi c t b x y r : ℕ) where
   unfolding shortWord
   built-lt = omega arith
 
-  -- It agrees with its rows.
+  -- Bits 29:0 agree with their rows.
   built-head : Agrees 0 (headRows lo hi c t b) built
   unfolding shortWord
   built-head =
       agrees-assemble (headRows lo hi c t b) 0 built
       (sym (bits-mod built 30 ∙ low-of 30 (assemble (tailRows lo hi x y r)) (assemble-lt (headRows lo hi c t b))))
 
+  -- So do bits 63:30.
   built-tail : Agrees 30 (tailRows lo hi x y r) built
   unfolding shortWord
   built-tail =
@@ -178,10 +186,11 @@ module _ (lo hi c t b x y r : ℕ) where
       (sym (ap (λ (z : ℕ). z % 2 ^ 34) (top-of 30 (assemble (tailRows lo hi x y r)) (assemble-lt (headRows lo hi c t b)))
       ∙ mod-eq-of-lt (assemble-lt (tailRows lo hi x y r))))
 
-  -- So does each row, by its place in the list.
+  -- It agrees with row i of its bits 29:0.
   pub head-at : (i : ℕ) → RowAgrees i 0 (headRows lo hi c t b) built
   head-at = row-agrees (headRows lo hi c t b) 0 built built-head
 
+  -- It agrees with row i of its bits 63:30.
   pub tail-at : (i : ℕ) → RowAgrees i 30 (tailRows lo hi x y r) built
   tail-at = row-agrees (tailRows lo hi x y r) 30 built built-tail
 
@@ -206,47 +215,13 @@ module _ (lo hi c t b x y r : ℕ) where
         let kb : Agrees 0 (subregisterKey true lo hi) (subregister D (subregisterIndex built)) =
         subst (λ (i : ℕ). Agrees 0 (subregisterKey true lo hi) (subregister D i)) eb mb in
         record {
-          low = (
-            sym (head-at 0),
-            (
-              sym z7,
-              (
-                sym (kc .0),
-                (
-                  sym (head-at 6),
-                  (
-                    sym (head-at 5),
-                    (
-                      sym z29,
-                      (
-                        sym (head-at 1),
-                        (
-                          sym (kc .1 .0),
-                          (sym (kt .0), (sym z47, (sym (kb .0), (sym (tail-at 2), (sym (kt .1 .0), tt))))),
-                        ),
-                      ),
-                    ),
-                  ),
-                ),
-              ),
-            ),
-          );
-          high = (
-            sym (kb .1 .0),
-            (
-              sym (tail-at 3),
-              (
-                subst (λ (i : ℕ). bits (source D i) 0 12 ≡ bits hi 13 12) ex mx,
-                (
-                  sym (head-at 7),
-                  (
-                    sym z90,
-                    subst (λ (i : ℕ). Agrees 32 (topRows (immediateForm lo) built (subregister D i) (source D (src1Index built))) hi) eb top,
-                  ),
-                ),
-              ),
-            ),
-          );
+          low =
+              sym (head-at 0) then sym z7 then sym (kc .0) then sym (head-at 6) then sym (head-at 5) then sym z29 then sym (head-at 1)
+              then sym (kc .1 .0) then sym (kt .0) then sym z47 then sym (kb .0) then sym (tail-at 2) then sym (kt .1 .0) then tt;
+          high =
+              sym (kb .1 .0) then sym (tail-at 3) then subst (λ (i : ℕ). bits (source D i) 0 12 ≡ bits hi 13 12) ex mx
+              then sym (head-at 7) then sym z90
+              then subst (λ (i : ℕ). Agrees 32 (topRows (immediateForm lo) built (subregister D i) (source D (src1Index built))) hi) eb top;
         }
 
     -- It is at most any short word that expands to the word, if its indices and src1's register are.

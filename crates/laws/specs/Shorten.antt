@@ -39,7 +39,7 @@ use Rattle.paper.specs.Shorten.{
   shorten,
 }
 use Rattle.laws.specs.Bits.{bits-lt, bits-mod, bits-all, bits-below, halves}
-use Rattle.laws.specs.Rows.{Agrees, mod-agrees}
+use Rattle.laws.specs.Rows.{Agrees, _then_, mod-agrees}
 use Rattle.laws.specs.ShortWord.{
   Expands,
   expands-rows,
@@ -222,11 +222,9 @@ module _ (D : Dictionary) (lo hi : ℕ) (hlo : lo < 2 ^ 64) (hhi : hi < 2 ^ 64) 
         let joined : src1Index s at 8 + src1Register s ≡ r % 8192 =
         ap (λ (v : ℕ). v at 8 + src1Register s) (sym index) ∙ ap (λ (v : ℕ). bits y 0 5 at 8 + v) (sym register) ∙ dword-joined r in
         built-right b y r b-in (omega arith) (mod-agrees (subregisterKey true lo hi) _ (first .found b-in))
-        (subst (λ (form : Bool). Agrees 32 (topRows form s (subregister D b) (source D (src1Index s))) hi) (sym e) (
-          ap (λ (v : ℕ). bits (extended v) 0 32) joined ∙ reach-extended r (omega arith) near
-              ∙ sym (mod-eq-of-lt {n = r} {m = 2 ^ 32} (omega arith)),
-          tt,
-        ))
+        (subst (λ (form : Bool). Agrees 32 (topRows form s (subregister D b) (source D (src1Index s))) hi) (sym e)
+        ((ap (λ (v : ℕ). bits (extended v) 0 32) joined ∙ reach-extended r (omega arith) near
+        ∙ sym (mod-eq-of-lt {n = r} {m = 2 ^ 32} (omega arith))) then tt))
         (λ u f.
         let cut : (hi / 2 ^ 32 / 256 % 32 ≤ src1Index u) × (bits (hi / 2 ^ 32) 0 8 ≤ src1Register u) =
         dword-cut hi (src1Index u) (src1Register u) hhi (bits-lt u 35 5) (bits-lt u 56 8) (reach-asked f e .0) in
@@ -244,21 +242,17 @@ module _ (D : Dictionary) (lo hi : ℕ) (hlo : lo < 2 ^ 64) (hhi : hi < 2 ^ 64) 
         let mb : Agrees 0 (subregisterKey false lo hi) (subregister D b) = mod-agrees (subregisterKey false lo hi) _ (first-b .found b-in) in
         let ey : y ≡ src1Index s = sym (bits-all 5 y y-in) ∙ tail-at lo hi c t b x y r 1 in
         let my : bits (source D y) 0 12 ≡ bits hi 45 12 = bits-mod _ 12 ∙ first-y .found y-in in
-        built-right b y r b-in y-in (mb .0, (mb .1 .0, tt))
-        (subst (λ (form : Bool). Agrees 32 (topRows form s (subregister D b) (source D (src1Index s))) hi) (sym e) (
-          sym (mb .1 .1 .0),
-          (
-            sym (tail-at lo hi c t b x y r 4) ∙ bits-mod r 8,
-            (subst (λ (i : ℕ). bits (source D i) 0 12 ≡ bits hi 45 12) ey my, (sym z, tt)),
-          ),
-        ))
+        built-right b y r b-in y-in (mb .0 then mb .1 .0 then tt)
+        (subst (λ (form : Bool). Agrees 32 (topRows form s (subregister D b) (source D (src1Index s))) hi) (sym e)
+        (sym (mb .1 .1 .0) then (sym (tail-at lo hi c t b x y r 4) ∙ bits-mod r 8)
+        then subst (λ (i : ℕ). bits (source D i) 0 12 ≡ bits hi 45 12) ey my then sym z then tt))
         (λ u f. (
           first-le first-b _ (subregister-asked f false e),
           first-le first-y _ (src1-asked f e),
           le-of-eq (bits-mod r 8 ∙ sym (high-at f false e 6)),
         ))
 
-    -- So each form's function is right.
+    -- So the function is right in immediate form.
     immediate-right : immediateForm lo ≡ true → Shortest D (lo + hi * 2 ^ 64) (shortenImmediate D lo hi c t x)
     unfolding shortenImmediate
     immediate-right e =
@@ -270,6 +264,7 @@ module _ (D : Dictionary) (lo hi : ℕ) (hlo : lo < 2 ^ 64) (hhi : hi < 2 ^ 64) 
         (λ n. refused (λ s f. first-none first (ltb-false _ _ n) _ (bits-lt s 18 5) (subregister-asked f true e))))
         (λ n. refused (λ s f. dword-near hi hhi (ltb-false _ _ n) (reach-asked f e .1)))
 
+    -- And with src1 in a register.
     register-right : immediateForm lo ≡ false → Shortest D (lo + hi * 2 ^ 64) (shortenRegister D lo hi c t x)
     unfolding shortenRegister
     register-right e =
