@@ -1,7 +1,30 @@
--- Theorems.
+-- Theorems about the paper's definitions.
 pub mod Bits
 pub mod Rows
 pub mod Dictionary
 pub mod Expand
 pub mod ShortWord
 pub mod Shorten
+pub mod Put
+pub mod Names
+pub mod Rename
+pub mod Places
+pub mod Runs
+pub mod Moved
+pub mod Same
+pub mod Back
+pub mod Bytes
+pub mod Walk
+pub mod Judged
+pub mod Items
+pub mod Kept
+pub mod Parse
+pub mod Differences
+pub mod Values
+pub mod Masks
+pub mod Regions
+pub mod Scatter
+pub mod Halfwords
+pub mod StateBytes
+pub mod Calls
+pub mod ComputeHundred

@@ -21,4 +21,6 @@ pub mod Packing
 pub mod Calls
 pub mod Assembler
 pub mod Sheet
+pub mod SheetMore
+pub mod SheetRefusals
 pub mod SheetHolds

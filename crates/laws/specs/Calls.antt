@@ -1,0 +1,245 @@
+-- What the calls leave alone: a refusal changes nothing that was lent, a step at the end changes nothing, and of a lent buffer only the result's
+-- bytes are written. Assumes nothing.
+use mathlib.Core.Path.{_≡_, refl, ap, _∙_, sym}
+use mathlib.Core.Bool.{Bool, true, false, not, cond, _&&_, _||_}
+use mathlib.Core.List.{List, [], _++_}
+use mathlib.Core.Option.{Option, none, some}
+use mathlib.Core.Logic.{_⊎_, inl, inr, ⊎-elim}
+use Prim.Native.Nat.{ℕ, zero, suc, _*_, _≤_}
+use native.Mathlib.Omega.{arith}
+use lib.Dec.{ltb, eqb}
+use lib.ListN.{length, drop, length-append, length-drop}
+use lib.Seq.{drop-append-seam}
+use borrow.Author.Tests.{ltb-false, eqb-true}
+use Rattle.paper.specs.Bits.{bytesOf, numberAt}
+use Rattle.paper.specs.Limits.{dictionaryBytes, stateLength, budgetLimit}
+use Rattle.paper.specs.Dictionary.{dictionaryOf, inRange}
+use Rattle.paper.specs.Expand.{isShort, expand}
+use Rattle.paper.specs.Shorten.{shorten}
+use Rattle.paper.specs.Operation.{operation, isListed, isBranch}
+use Rattle.paper.specs.Kernel.{Instr, longAndShort, longOnly, Parsed, bad, good}
+use Rattle.paper.specs.Jump.{fetch}
+use Rattle.paper.specs.Machine.{State, step, stops, stopsOn, runWith, run, startFrom, start}
+use Rattle.paper.specs.State.{stateOf, stateLegal, stateBytes}
+use Rattle.paper.specs.Packing.{Form, relay}
+use Rattle.paper.specs.Calls.{Answer, refusal, verdict, Written, kept, deliver, judgedKernel, accepted, relaid, packCall, unpackCall, oneWord}
+use Rattle.paper.specs.Calls.{shortened, shortenCall, expandCall}
+use Rattle.paper.specs.Calls.{Decoded, undecoded, decoded, decodeAt, decodedAs, decodeCall, partOf, decodePart, startCall}
+use Rattle.paper.specs.Calls.{Changed, unchanged, allSized, onState, steppedAs, stepCall, ranAs, runCall}
+use Rattle.laws.specs.StateBytes.{length-stateBytes}
+
+-- ---- calls that write a result into a lent buffer
+
+-- What such a call leaves of the buffer `out`: all of it unless the answer is 0; what stands past the count's bytes, and its length, in any case.
+pub record Confined (out : List ℕ) (r : Written) : Type 0 where
+  pub refused : (r .answer .number ≡ 0 → ⊥) → r .output ≡ out
+  pub fits : r .answer .count ≤ length out
+  pub rest : drop (r .answer .count) (r .output) ≡ drop (r .answer .count) out
+  pub same : length (r .output) ≡ length out
+
+-- A refusal leaves all.
+confined-refusal : (number offset : ℕ) (out : List ℕ) → Confined out (kept (refusal number offset) out)
+confined-refusal number offset out = record { refused = λ _. refl; fits = omega arith; rest = refl; same = refl }
+
+-- A choice between two answers leaves what both leave.
+confined-cond : (out : List ℕ) (b : Bool) (x y : Written) → Confined out x → Confined out y → Confined out (cond b x y)
+confined-cond out true x y h g = h
+confined-cond out false x y h g = g
+
+-- A result that fits takes the place of the first bytes only.
+delivered : (result out : List ℕ) → length result ≤ length out
+    → Confined out (record { answer = verdict 0 (length result); output = result ++ drop (length result) out })
+delivered result out h =
+    record {
+      refused = λ n. absurd (n refl);
+      fits = h;
+      rest = drop-append-seam result (drop (length result) out);
+      same = simp (length-append, length-drop) (omega arith);
+    }
+
+-- Delivering a result, or 14.
+confined-deliver : (result out : List ℕ) → Confined out (deliver result out)
+unfolding deliver
+confined-deliver result out = pick (ltb (length out) (length result)) refl
+  where
+    pick : (b : Bool) → ltb (length out) (length result) ≡ b
+        → Confined out (cond b (kept (refusal 14 0) out) (record { answer = verdict 0 (length result); output = result ++ drop (length result) out }))
+    pick true e = confined-refusal 14 0 out
+    pick false e = delivered result out (ltb-false (length out) (length result) e)
+
+-- A kernel laid out again, or its refusal.
+confined-relaid : (form : Form) (out : List ℕ) (parsed : Parsed) → Confined out (relaid form out parsed)
+confined-relaid form out (bad number offset) = confined-refusal number offset out
+confined-relaid form out (good k) = confined-deliver (relay form k) out
+
+-- Packing writes no byte of `out` past the packed kernel, and none at all on refusal.
+pub pack-confined : (dictionary kernel out : List ℕ) → Confined out (packCall dictionary kernel out)
+unfolding packCall
+pack-confined dictionary kernel out = confined-relaid (shorten (dictionaryOf dictionary)) out (accepted longOnly dictionary kernel)
+
+-- Unpacking likewise.
+pub unpack-confined : (dictionary kernel out : List ℕ) → Confined out (unpackCall dictionary kernel out)
+unfolding unpackCall
+unpack-confined dictionary kernel out = confined-relaid (λ _. none) out (accepted longAndShort dictionary kernel)
+
+-- The checks of a single word leave what its form leaves.
+confined-word : (dictionary : List ℕ) (fits : Bool) (w : ℕ) (out : List ℕ) (further : Written)
+    → Confined out further → Confined out (oneWord dictionary fits w out further)
+unfolding oneWord
+confined-word dictionary fits w out further h =
+    confined-cond out (not (eqb (length dictionary) dictionaryBytes && fits)) _ _ (confined-refusal 1 0 out)
+    (confined-cond out (not (inRange (dictionaryOf dictionary))) _ _ (confined-refusal 2 0 out)
+    (confined-cond out (not (isListed (operation w))) _ _ (confined-refusal 4 0 out) h))
+
+-- A short word, or 13.
+confined-shortened : (s : Option ℕ) (out : List ℕ) → Confined out (shortened s out)
+confined-shortened none out = confined-refusal 13 0 out
+confined-shortened (some s) out = confined-deliver (bytesOf 8 s) out
+
+-- Shortening writes no byte past the short word, and none at all on refusal.
+pub shorten-confined : (dictionary word out : List ℕ) → Confined out (shortenCall dictionary word out)
+unfolding shortenCall
+shorten-confined dictionary word out =
+    confined-word dictionary (eqb (length word) 16) (numberAt word 0 16) out _
+    (confined-cond out (isShort (numberAt word 0 16)) _ _ (confined-refusal 5 0 out)
+    (confined-shortened (shorten (dictionaryOf dictionary) (numberAt word 0 16)) out))
+
+-- Expanding writes no byte past the long word, and none at all on refusal.
+pub expand-confined : (dictionary word out : List ℕ) → Confined out (expandCall dictionary word out)
+unfolding expandCall
+expand-confined dictionary word out =
+    let s = numberAt word 0 8 in
+    confined-word dictionary (eqb (length word) 8) s out _
+    (confined-cond out (not (isShort s) || isBranch (operation s)) _ _ (confined-refusal 5 0 out)
+    (confined-deliver (bytesOf 16 (expand (dictionaryOf dictionary) s)) out))
+
+-- ---- decode
+
+-- A refused decode lends out no bytes.
+pub decode-refused : (dictionary kernel : List ℕ) (place : ℕ) → (decodeCall dictionary kernel place .number ≡ 0 → ⊥)
+    → decodePart dictionary kernel place ≡ []
+unfolding decodeCall decodePart
+decode-refused dictionary kernel place = go (decodeAt dictionary kernel place)
+  where
+    go : (d : Decoded) → (decodedAs d .number ≡ 0 → ⊥) → partOf kernel (8 * place) d ≡ []
+    go (undecoded number offset) h = refl
+    go (decoded size w) h = absurd (h refl)
+
+-- ---- start
+
+-- A start has as many channels as are asked for.
+sixteen : (mask n c : ℕ) → length (startFrom mask n c) ≡ c
+unfolding startFrom
+sixteen mask n zero = refl
+sixteen mask n (suc c) = ap suc (sixteen mask (suc n) c)
+
+-- What a start leaves of the state's bytes: all of them unless the answer is 0, and their length in any case.
+pub record StartConfined (bytes : List ℕ) (r : Written) : Type 0 where
+  pub refused : (r .answer .number ≡ 0 → ⊥) → r .output ≡ bytes
+  pub same : length (r .output) ≡ length bytes
+
+-- A refused start leaves the state as it was, and any start its length.
+pub start-confined : (mask flag0 flag1 : ℕ) (bytes : List ℕ) → StartConfined bytes (startCall mask flag0 flag1 bytes)
+unfolding startCall
+start-confined mask flag0 flag1 bytes = pick (eqb (length bytes) stateLength) refl
+  where
+    begun : State
+    begun = start (record { registers = []; flag0 = flag0; flag1 = flag1 }) mask
+
+    pick : (b : Bool) → eqb (length bytes) stateLength ≡ b
+        → StartConfined bytes (cond b (record { answer = verdict 0 0; output = stateBytes begun }) (kept (refusal 1 0) bytes))
+    pick true e =
+        record {
+          refused = λ n. absurd (n refl);
+          same = length-stateBytes begun (sixteen mask 0 16) ∙ sym (eqb-true (length bytes) stateLength e);
+        }
+    pick false e = record { refused = λ _. refl; same = refl }
+
+-- ---- step and run
+
+-- Registers and state hold what they held.
+pub record Unchanged (registers bytes : List ℕ) (r : Changed) : Type 0 where
+  pub sameRegisters : r .registers ≡ registers
+  pub sameState : r .state ≡ bytes
+
+-- What holds of two outcomes holds of a choice between them.
+by-cond : (Q : Changed → Type 0) (b : Bool) (x y : Changed) → Q x → Q y → Q (cond b x y)
+by-cond Q true x y h g = h
+by-cond Q false x y h g = g
+
+-- What holds of every answer that changes nothing, and of what is done with an accepted kernel and a state, holds of a call on a state.
+on-state : (Q : Changed → Type 0) (registers bytes : List ℕ) (go : List Instr → State → Changed)
+    → ((a : Answer) → Q (unchanged a registers bytes)) → ((k : List Instr) (s : State) → Q (go k s))
+    → (parsed : Parsed) → Q (onState registers bytes go parsed)
+on-state Q registers bytes go h g (bad number offset) = h (refusal number offset)
+on-state Q registers bytes go h g (good k) =
+    by-cond Q (stateLegal k registers bytes) _ _ (g k (stateOf registers bytes)) (h (refusal 15 0))
+
+-- An answer that changes nothing.
+same : (registers bytes : List ℕ) (a : Answer) → Unchanged registers bytes (unchanged a registers bytes)
+same registers bytes a = record { sameRegisters = refl; sameState = refl }
+
+-- A step that does not answer 0 changes nothing: a refusal does not, nor does 20, the end.
+pub step-unchanged : (dictionary kernel registers bytes : List ℕ)
+    → (stepCall dictionary kernel registers bytes .answer .number ≡ 0 → ⊥)
+    → Unchanged registers bytes (stepCall dictionary kernel registers bytes)
+unfolding stepCall
+step-unchanged dictionary kernel registers bytes =
+    by-cond Q (allSized dictionary kernel registers bytes) _ _
+    (on-state Q registers bytes (λ k s. steppedAs (stops k s) registers bytes (step k s)) (λ a n. same registers bytes a)
+    (λ k s. stepped (stops k s) (step k s)) (judgedKernel longAndShort dictionary kernel))
+    (λ n. same registers bytes (refusal 1 0))
+  where
+    Q : Changed → Type 0
+    Q r = (r .answer .number ≡ 0 → ⊥) → Unchanged registers bytes r
+
+    stepped : (o : Option ℕ) (after : State) → Q (steppedAs o registers bytes after)
+    stepped none after n = absurd (n refl)
+    stepped (some number) after n = same registers bytes (verdict number 0)
+
+module _ (stop : State → Option ℕ) (next : State → State) where
+  -- At a state that stops it with v, a run says v.
+  stopped : (n v : ℕ) (s : State) → stop s ≡ some v → runWith stop next n s .verdict ≡ v
+  unfolding runWith
+  stopped zero v s e = rw e
+  stopped (suc n) v s e = rw (e, runWith)
+
+  -- At a state that does not stop it, a run with no budget says 21,
+  spent : (s : State) → stop s ≡ none → runWith stop next zero s .verdict ≡ 21
+  unfolding runWith
+  spent s e = rw e
+
+  -- and one with a budget says what it says after a step.
+  goes-on : (n : ℕ) (s : State) → stop s ≡ none → runWith stop next (suc n) s .verdict ≡ runWith stop next n (next s) .verdict
+  unfolding runWith
+  goes-on n s e = rw (e, runWith)
+
+-- A run's verdict is 20 or 21.
+pub run-verdict : (k : List Instr) (n : ℕ) (s : State) → (run k n s .verdict ≡ 20) ⊎ (run k n s .verdict ≡ 21)
+run-verdict k zero s = go (fetch k (s .place)) refl
+  where
+    go : (o : Option Instr) → fetch k (s .place) ≡ o → (run k zero s .verdict ≡ 20) ⊎ (run k zero s .verdict ≡ 21)
+    go none e = inl (stopped (stops k) (step k) zero 20 s (ap stopsOn e))
+    go (some i) e = inr (spent (stops k) (step k) s (ap stopsOn e))
+run-verdict k (suc n) s = go (run-verdict k n (step k s)) (fetch k (s .place)) refl
+  where
+    go : (run k n (step k s) .verdict ≡ 20) ⊎ (run k n (step k s) .verdict ≡ 21)
+        → (o : Option Instr) → fetch k (s .place) ≡ o → (run k (suc n) s .verdict ≡ 20) ⊎ (run k (suc n) s .verdict ≡ 21)
+    go later none e = inl (stopped (stops k) (step k) (suc n) 20 s (ap stopsOn e))
+    go (inl v) (some i) e = inl (goes-on (stops k) (step k) n s (ap stopsOn e) ∙ v)
+    go (inr v) (some i) e = inr (goes-on (stops k) (step k) n s (ap stopsOn e) ∙ v)
+
+-- A run that answers neither 20 nor 21 changes nothing.
+pub run-unchanged : (dictionary kernel : List ℕ) (budget : ℕ) (registers bytes : List ℕ)
+    → (runCall dictionary kernel budget registers bytes .answer .number ≡ 20 → ⊥)
+    → (runCall dictionary kernel budget registers bytes .answer .number ≡ 21 → ⊥)
+    → Unchanged registers bytes (runCall dictionary kernel budget registers bytes)
+unfolding runCall
+run-unchanged dictionary kernel budget registers bytes =
+    by-cond Q (not (allSized dictionary kernel registers bytes)) _ _ (λ e t. same registers bytes (refusal 1 0))
+    (by-cond Q (ltb budgetLimit budget) _ _ (λ e t. same registers bytes (refusal 16 0))
+    (on-state Q registers bytes (λ k s. ranAs (run k budget s)) (λ a e t. same registers bytes a)
+    (λ k s e t. absurd (⊎-elim e t (run-verdict k budget s))) (judgedKernel longAndShort dictionary kernel)))
+  where
+    Q : Changed → Type 0
+    Q r = (r .answer .number ≡ 20 → ⊥) → (r .answer .number ≡ 21 → ⊥) → Unchanged registers bytes r

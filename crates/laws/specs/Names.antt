@@ -1,0 +1,105 @@
+-- Which instruction a place names, a state read so, and a kernel's program: what is left of it without its places. Assumes nothing.
+use mathlib.Core.Path.{_≡_}
+use mathlib.Core.Bool.{true}
+use mathlib.Core.List.{List, [], _∷_, map}
+use mathlib.Core.Option.{none}
+use Prim.Native.Nat.{ℕ, _+_, _<_}
+use lib.ListN.{length}
+use Rattle.paper.specs.Bits.{put}
+use Rattle.paper.specs.Operation.{Operation, plain, nop, branch, unlisted, operation}
+use Rattle.paper.specs.Kernel.{Instr}
+use Rattle.paper.specs.Jump.{nextOf, distanceOf, targetOf, jumpLands}
+use Rattle.paper.specs.Machine.{Channel, off, awake, waiting, State, Outcome, placeOf}
+use Rattle.paper.specs.Packing.{index, Piece, Form, piece, newSize, startOf, rewritten}
+
+-- ---- sound kernels
+
+-- The instructions stand one after the other, the first at place a, and none is empty.
+unfoldable pub Laid : ℕ → List Instr → Type 0
+Laid a [] = Unit {0}
+Laid a (i ∷ rest) = (i .place ≡ a) × (0 < i .size) × Laid (nextOf i) rest
+
+-- Each jump of the instructions `rest` lands in kernel k: on an instruction's start, or on the end.
+unfoldable pub AllLand : List Instr → List Instr → Type 0
+AllLand k [] = Unit {0}
+AllLand k (i ∷ rest) = (jumpLands k (targetOf i) ≡ true) × AllLand k rest
+
+-- What a check leaves: the instructions stand one after the other from place 0, and every jump lands.
+pub record Sound (k : List Instr) : Type 0 where
+  pub laid : Laid 0 k
+  pub land : AllLand k k
+
+-- ---- states by instruction numbers
+
+-- A channel whose waiting place is replaced by φ of it.
+unfoldable pub renameC : (ℕ → ℕ) → Channel → Channel
+renameC φ off = off
+renameC φ awake = awake
+renameC φ (waiting p) = waiting (φ p)
+
+-- A state with φ of each place that it holds.
+abbrev pub rename : (ℕ → ℕ) → State → State
+rename φ s = record { store = s .store; channels = map (renameC φ) (s .channels); place = φ (s .place) }
+
+-- A state with each place replaced by the number of the instruction that it names, the end being one past the last.
+abbrev pub named : List Instr → State → State
+named k s = rename (index k) s
+
+-- A run's outcome, its state read so.
+abbrev pub namedOutcome : List Instr → Outcome → Outcome
+namedOutcome k o = record { verdict = o .verdict; steps = o .steps; state = named k (o .state) }
+
+-- ---- programs
+
+-- A branch with its distance replaced by 0; any other word as it is.
+unfoldable pub blanked : Operation → ℕ → ℕ
+blanked (plain p) w = w
+blanked nop w = w
+blanked (branch b) w = put w (distanceOf b .lo) (distanceOf b .width) 0
+blanked unlisted w = w
+
+abbrev pub blank : ℕ → ℕ
+blank w = blanked (operation w) w
+
+-- An instruction without its place: its word without its distance, and the number of the instruction that it leads to.
+pub record Line : Type 0 where
+  pub word : ℕ
+  pub goal : ℕ
+
+abbrev pub lineOf : List Instr → Instr → Line
+lineOf k i = record { word = blank (i .word); goal = index k (placeOf (targetOf i)) }
+
+-- A kernel without its places.
+abbrev pub program : List Instr → List Line
+program k = map (lineOf k) k
+
+-- ---- a kernel laid out anew
+
+-- Where piece p of the pieces ps of kernel k comes to stand, if that is place a.
+abbrev pub movedTo : List Instr → List Piece → ℕ → Piece → Instr
+movedTo k ps a p = record { place = a; size = newSize p; word = rewritten k ps a p }
+
+-- The instructions that the pieces `rest` become, the first at place a.
+unfoldable pub moved : List Instr → List Piece → ℕ → List Piece → List Instr
+moved k ps a [] = []
+moved k ps a (p ∷ rest) = movedTo k ps a p ∷ moved k ps (a + newSize p) rest
+
+-- The pieces into which `form` cuts a kernel, and the place past the last of them.
+abbrev pub piecesOf : Form → List Instr → List Piece
+piecesOf form k = map (piece form) k
+
+abbrev pub newEnd : Form → List Instr → ℕ
+newEnd form k = startOf 0 (piecesOf form k) (length (piecesOf form k))
+
+-- The instructions of the kernel that a relayout by `form` writes.
+abbrev pub relaidBy : Form → List Instr → List Instr
+relaidBy form k = moved k (piecesOf form k) 0 (piecesOf form k)
+
+-- The form that unpacking gives: every word is long.
+abbrev pub longForm : Form
+longForm w = none
+
+-- Every instruction is long already.
+unfoldable pub AllLong : List Instr → Type 0
+AllLong [] = Unit {0}
+AllLong (i ∷ rest) = (i .size ≡ 2) × AllLong rest

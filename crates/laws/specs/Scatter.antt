@@ -1,0 +1,190 @@
+-- Storing into a list of bytes: what a store keeps, what it changes, what is read back; and the same of one element for each enabled channel.
+-- Assumes nothing.
+use mathlib.Core.Path.{_≡_, refl, ap, ap₂, _∙_, sym, subst}
+use mathlib.Core.Bool.{Bool, true, false, cond}
+use mathlib.Core.List.{List, [], _∷_}
+use mathlib.Core.Logic.{⊎-elim}
+use Prim.Native.Nat.{ℕ, zero, suc, _+_, _*_, _/_, _%_, _^_, _≤_, _<_}
+use native.Mathlib.Omega.{arith}
+use native.Mathlib.Nat.{add-zero, add-suc, suc-add, pow-suc, mod-one, mod-eq-of-lt, eq-or-lt-of-le, le-of-suc-le-suc}
+use native.Mathlib.Numerals.{add-one}
+use lib.Dec.{eqb, lit<}
+use lib.Arith.{mod-mul}
+use lib.ListN.{length, getD, set, length-set}
+use lib.Seq.{getD-set-same, getD-set-other, drop-nil}
+use Rattle.paper.specs.Bits.{number, numberAt, putAt}
+use Rattle.paper.specs.Limits.{registerBytes}
+use Rattle.paper.specs.Word.{dstType, saturate}
+use Rattle.paper.specs.Operation.{Plain}
+use Rattle.paper.specs.Region.{channels, dstSize, dstElement}
+use Rattle.paper.specs.Legal.{isNull}
+use Rattle.paper.specs.Enable.{Store}
+use Rattle.paper.specs.Effect.{scattered, channelResult, channelStores, isOn, registersAfter}
+use Rattle.laws.specs.Values.{size-patterns, stored-fits}
+use Rattle.laws.specs.Regions.{LegalPlain, destination-inside, destination-strides, destination-apart}
+
+-- ---- reading
+
+-- The number of no bytes is 0.
+numberAt-zero : (l : List ℕ) (a : ℕ) → numberAt l a 0 ≡ 0
+unfolding numberAt number
+numberAt-zero l a = refl
+
+-- So is the number of bytes of an empty list.
+number-nil : (n : ℕ) → number n [] ≡ 0
+unfolding number
+number-nil zero = refl
+number-nil (suc n) = refl
+
+-- The number of bytes past a list's end is 0.
+numberAt-nil : (a n : ℕ) → numberAt [] a n ≡ 0
+unfolding numberAt
+numberAt-nil a n = rw (drop-nil {A = ℕ} a) (number-nil n)
+
+-- A number's first byte and the rest of it.
+numberAt-suc : (l : List ℕ) (a n : ℕ) → numberAt l a (suc n) ≡ getD l a 0 + 256 * numberAt l (suc a) n
+unfolding numberAt number
+numberAt-suc [] a n = rw (numberAt-nil a (suc n), numberAt-nil (suc a) n)
+numberAt-suc (b ∷ l) zero n = refl
+numberAt-suc (b ∷ l) (suc a) n = numberAt-suc l a n
+
+-- An element whose bytes are the same in two lists is the same number.
+pub numberAt-same : (n : ℕ) (l m : List ℕ) (a : ℕ) → ((j : ℕ) → j < n → getD l (a + j) 0 ≡ getD m (a + j) 0) → numberAt l a n ≡ numberAt m a n
+numberAt-same zero l m a h = numberAt-zero l a ∙ sym (numberAt-zero m a)
+numberAt-same (suc n) l m a h =
+    let e₀ : getD l a 0 ≡ getD m a 0 = rw add-zero at (h zero (omega arith)) in
+    let e₁ : numberAt l (suc a) n ≡ numberAt m (suc a) n = numberAt-same n l m (suc a) (λ j q. rw (suc-add, ← add-suc) (h (suc j) (omega arith))) in
+    numberAt-suc l a n ∙ ap₂ (λ (x y : ℕ). x + 256 * y) e₀ e₁ ∙ sym (numberAt-suc m a n)
+
+-- ---- one store
+
+-- A store keeps the length.
+pub length-putAt : (n : ℕ) (l : List ℕ) (a v : ℕ) → length (putAt l a n v) ≡ length l
+unfolding putAt
+length-putAt zero l a v = refl
+length-putAt (suc n) l a v = length-putAt n (set l a (v % 256)) (a + 1) (v / 256) ∙ length-set l a (v % 256)
+
+-- A store changes no byte but the n from a on.
+pub putAt-other : (n : ℕ) (l : List ℕ) (a v b : ℕ) → (a ≤ b → b < a + n → ⊥) → getD (putAt l a n v) b 0 ≡ getD l b 0
+unfolding putAt
+putAt-other zero l a v b h = refl
+putAt-other (suc n) l a v b h =
+    putAt-other n (set l a (v % 256)) (a + 1) (v / 256) b (λ p q. h (omega arith) (omega arith))
+    ∙ getD-set-other l a b (v % 256) 0 (λ e. h (omega arith) (omega arith))
+
+-- 256^n is not 0.
+bytes-pos : (n : ℕ) → 0 < 256 ^ n
+bytes-pos zero = lit< tt
+bytes-pos (suc n) = rw pow-suc (omega (arith, bytes-pos n))
+
+-- What was stored inside the list is read back, modulo its n bytes.
+pub numberAt-putAt : (n : ℕ) (l : List ℕ) (a v : ℕ) → a + n ≤ length l → numberAt (putAt l a n v) a n ≡ v % 256 ^ n
+unfolding putAt
+numberAt-putAt zero l a v h = numberAt-zero l a ∙ sym (mod-one v)
+numberAt-putAt (suc n) l a v h =
+    let m : List ℕ = set l a (v % 256) in
+    let e₀ : getD (putAt m (a + 1) n (v / 256)) a 0 ≡ v % 256 =
+    putAt-other n m (a + 1) (v / 256) a (λ p q. omega arith) ∙ getD-set-same l a (v % 256) 0 (omega arith) in
+    let e₁ : numberAt (putAt m (a + 1) n (v / 256)) (a + 1) n ≡ v / 256 % 256 ^ n =
+    numberAt-putAt n m (a + 1) (v / 256) (omega (arith, length-set l a (v % 256))) in
+    numberAt-suc (putAt m (a + 1) n (v / 256)) a n
+    ∙ rw (e₀, ← (add-one a), e₁, pow-suc) (omega (arith, mod-mul v {m = 256 ^ n} {c = 256} (bytes-pos n) (lit< tt)))
+
+-- ---- a store for each enabled channel
+
+-- What a function makes of a choice between two lists.
+chosen : (b : Bool) (x y : List ℕ) (v : ℕ) (f : List ℕ → ℕ) → (b ≡ true → f x ≡ v) → f y ≡ v → f (cond b x y) ≡ v
+chosen true x y v f h g = h refl
+chosen false x y v f h g = g
+
+module _ (l : List ℕ) (element : ℕ → ℕ) (size : ℕ) where
+  -- It keeps the length.
+  pub length-scattered : (on : ℕ → Bool) (pattern : ℕ → ℕ) (n : ℕ) → length (scattered l element size on pattern n) ≡ length l
+  unfolding scattered
+  length-scattered on pattern zero = refl
+  length-scattered on pattern (suc n) =
+      let m : List ℕ = scattered l element size on pattern n in
+      chosen (on n) (putAt m (element n) size (pattern n)) m (length l) length
+      (λ e. length-putAt size m (element n) (pattern n) ∙ length-scattered on pattern n)
+      (length-scattered on pattern n)
+
+  -- Only channels below n count.
+  pub scattered-same : (on on′ : ℕ → Bool) (pattern pattern′ : ℕ → ℕ) (n : ℕ)
+      → ((k : ℕ) → k < n → on k ≡ on′ k) → ((k : ℕ) → k < n → pattern k ≡ pattern′ k)
+      → scattered l element size on pattern n ≡ scattered l element size on′ pattern′ n
+  unfolding scattered
+  scattered-same on on′ pattern pattern′ zero h g = refl
+  scattered-same on on′ pattern pattern′ (suc n) h g =
+      cc (h n (omega arith), g n (omega arith), scattered-same on on′ pattern pattern′ n (λ k q. h k (omega arith)) (λ k q. g k (omega arith)))
+
+  -- A byte that lies in no enabled channel's element stays as it was.
+  pub scattered-other : (on : ℕ → Bool) (pattern : ℕ → ℕ) (n b : ℕ)
+      → ((k : ℕ) → k < n → on k ≡ true → element k ≤ b → b < element k + size → ⊥)
+      → getD (scattered l element size on pattern n) b 0 ≡ getD l b 0
+  unfolding scattered
+  scattered-other on pattern zero b h = refl
+  scattered-other on pattern (suc n) b h =
+      let m : List ℕ = scattered l element size on pattern n in
+      let y : getD m b 0 ≡ getD l b 0 = scattered-other on pattern n b (λ k q. h k (omega arith)) in
+      chosen (on n) (putAt m (element n) size (pattern n)) m (getD l b 0) (λ m. getD m b 0)
+      (λ e. putAt-other size m (element n) (pattern n) b (h n (omega arith) e) ∙ y)
+      y
+
+  -- An enabled channel's element holds its pattern afterwards, if the elements lie inside the list and apart.
+  pub scattered-holds : (on : ℕ → Bool) (pattern : ℕ → ℕ) (n k : ℕ) → k < n → on k ≡ true
+      → ((j : ℕ) → j < n → element j + size ≤ length l)
+      → ((i j : ℕ) → i < j → j < n → element i + size ≤ element j)
+      → numberAt (scattered l element size on pattern n) (element k) size ≡ pattern k % 256 ^ size
+  unfolding scattered
+  scattered-holds on pattern zero k h e inside apart = absurd (omega arith)
+  scattered-holds on pattern (suc n) k h e inside apart =
+      let m : List ℕ = scattered l element size on pattern n in
+      let lm : length m ≡ length l = length-scattered on pattern n in
+      ⊎-elim
+      (λ q. let e′ : on n ≡ true = subst (λ (i : ℕ). on i ≡ true) q e in
+      subst (λ (i : ℕ). numberAt (cond (on n) (putAt m (element n) size (pattern n)) m) (element i) size ≡ pattern i % 256 ^ size) (sym q)
+      (rw e′ (numberAt-putAt size m (element n) (pattern n) (omega (arith, lm, inside n (omega arith))))))
+      (λ q. let y : numberAt m (element k) size ≡ pattern k % 256 ^ size =
+      scattered-holds on pattern n k q e (λ j r. inside j (omega arith)) (λ i j r s. apart i j r (omega arith)) in
+      chosen (on n) (putAt m (element n) size (pattern n)) m (pattern k % 256 ^ size) (λ t. numberAt t (element k) size)
+      (λ _. numberAt-same size (putAt m (element n) size (pattern n)) m (element k)
+      (λ j r. putAt-other size m (element n) (pattern n) (element k + j) (λ s t. omega (arith, apart k n q (omega arith)))) ∙ y)
+      y)
+      (eq-or-lt-of-le (le-of-suc-le-suc h))
+
+-- ---- what an instruction does to the registers
+
+module _ (p : Plain) (w : ℕ) (awake : List Bool) (st : Store) where
+  -- It keeps their length.
+  pub registers-length : length (registersAfter p w awake st) ≡ length (st .registers)
+  unfolding registersAfter
+  registers-length =
+      chosen (isNull w) (st .registers) _ (length (st .registers)) length (λ _. refl)
+      (length-scattered (st .registers) (dstElement w) (dstSize w) (isOn p w awake st) (channelStores p w st) (channels w))
+
+  -- It changes no byte but those of enabled channels' destination elements.
+  pub registers-kept : (b : ℕ)
+      → ((n : ℕ) → n < channels w → isOn p w awake st n ≡ true → dstElement w n ≤ b → b < dstElement w n + dstSize w → ⊥)
+      → getD (registersAfter p w awake st) b 0 ≡ getD (st .registers) b 0
+  unfolding registersAfter
+  registers-kept b h =
+      chosen (isNull w) (st .registers) _ (getD (st .registers) b 0) (λ l. getD l b 0) (λ _. refl)
+      (scattered-other (st .registers) (dstElement w) (dstSize w) (isOn p w awake st) (channelStores p w st) (channels w) b h)
+
+  -- A null destination changes none.
+  pub registers-null : isNull w ≡ true → registersAfter p w awake st ≡ st .registers
+  unfolding registersAfter
+  registers-null d = rw d
+
+  -- Every enabled channel of a legal word with a destination has stored its pattern, whole.
+  pub registers-hold : LegalPlain p w → isNull w ≡ false → length (st .registers) ≡ registerBytes
+      → (n : ℕ) → n < channels w → isOn p w awake st n ≡ true
+      → numberAt (registersAfter p w awake st) (dstElement w n) (dstSize w) ≡ channelStores p w st n
+  unfolding registersAfter
+  registers-hold legal d long n h on =
+      rw d
+      (scattered-holds (st .registers) (dstElement w) (dstSize w) (isOn p w awake st) (channelStores p w st) (channels w) n h on
+      (λ j q. rw long (destination-inside p w (legal .reach) d j q))
+      (λ i j q r. destination-apart w i j (destination-strides p w (legal .shape) d) q)
+      ∙ ap (λ (m : ℕ). channelStores p w st n % m) (size-patterns (dstType w))
+      ∙ mod-eq-of-lt (stored-fits (eqb (saturate w) 1) (dstType w) (channelResult p w st n)))

@@ -1,0 +1,132 @@
+-- Laws of types and values: quotient and remainder belong together, a stored pattern fits its type and gives back the value that it means, a
+-- clamped value lies in its type's range. Assumes nothing.
+use mathlib.Core.Path.{_≡_, refl, sym, _∙_, ap, ap₂, subst}
+use mathlib.Core.Bool.{Bool, true, false, not, cond, _&&_}
+use Prim.Native.Nat.{ℕ, zero, suc, _+_, _*_, _-_, _/_, _%_, _^_, _<_, _≤_}
+use native.Mathlib.Nat.{mod-lt, mod-eq-of-lt, one-mul, div-add-mod'}
+use native.Mathlib.Omega.{arith}
+use lib.Dec.{T, ltb, leb, lit<, lit≤, le→leb}
+use lib.IntN.{ℤ, pos, negsuc, negℤ, subℕ, _+ℤ_, _*ℤ_}
+use lib.Signed.{ltZ, _≤ℤ_, leZ-yes, ltZ-no, ≤ℤ-refl}
+use lib.Pow.{pow-pos}
+use Rattle.paper.specs.Value.{width, sizeOf, isSigned, value, least, greatest, modZ, floorZ, clampTo, stored}
+use Rattle.laws.specs.Differences.{neg-of, is-neg, is-pos, sub-add, sub-mod}
+
+-- ---- sizes
+
+-- A type's bits are eight times its bytes.
+pub width-size : (t : ℕ) → width t ≡ 8 * sizeOf t
+width-size t = pick (ltb t 2) (ltb t 4)
+  where
+    pick : (p q : Bool) → cond p 32 (cond q 16 8) ≡ 8 * cond p 4 (cond q 2 1)
+    pick true q = refl
+    pick false true = refl
+    pick false false = refl
+
+-- A type has one byte at least.
+pub size-least : (t : ℕ) → 0 < sizeOf t
+size-least t = pick (ltb t 2) (ltb t 4)
+  where
+    pick : (p q : Bool) → 0 < cond p 4 (cond q 2 1)
+    pick true q = lit< tt
+    pick false true = lit< tt
+    pick false false = lit< tt
+
+-- And four at most.
+pub size-most : (t : ℕ) → sizeOf t ≤ 4
+size-most t = pick (ltb t 2) (ltb t 4)
+  where
+    pick : (p q : Bool) → cond p 4 (cond q 2 1) ≤ 4
+    pick true q = lit≤ tt
+    pick false true = lit≤ tt
+    pick false false = lit≤ tt
+
+-- So many bytes hold so many patterns as the bits do.
+pub size-patterns : (t : ℕ) → 256 ^ sizeOf t ≡ 2 ^ width t
+size-patterns t = pick (ltb t 2) (ltb t 4)
+  where
+    pick : (p q : Bool) → 256 ^ cond p 4 (cond q 2 1) ≡ 2 ^ cond p 32 (cond q 16 8)
+    pick true q = refl
+    pick false true = refl
+    pick false false = refl
+
+-- ---- quotient and remainder
+
+-- A remainder is less than its divisor.
+pub mod-less : (v : ℤ) (m : ℕ) → 0 < m → modZ v m < m
+unfolding modZ
+mod-less (pos a) m h = mod-lt a h
+mod-less (negsuc a) m h = omega arith
+
+-- v is its quotient times m and its remainder. With `mod-less` this says what the two are.
+pub floor-mod : (v : ℤ) (m : ℕ) → 0 < m → floorZ v m *ℤ pos m +ℤ pos (modZ v m) ≡ v
+unfolding floorZ modZ
+floor-mod (pos a) m h = ap pos (div-add-mod' a m)
+floor-mod (negsuc a) m h =
+    ap₂ (λ (x y : ℤ). x +ℤ y) (neg-of (suc (a / m) * m) 0 (suc (a / m) * m) (omega arith))
+    (sym (is-pos (m - 1 - a % m) 0 (m - 1 - a % m) (omega arith)))
+    ∙ sub-add 0 (suc (a / m) * m) (m - 1 - a % m) 0
+    ∙ is-neg (0 + (m - 1 - a % m)) (suc (a / m) * m + 0) a (omega (arith, div-add-mod' a m, mod-lt a h))
+
+-- ---- what is stored
+
+-- A stored pattern has its type's bits.
+pub stored-fits : (s : Bool) (t : ℕ) (v : ℤ) → stored s t v < 2 ^ width t
+unfolding stored
+stored-fits s t v = mod-less (cond s (clampTo t v) v) (2 ^ width t) (pow-pos (width t))
+
+-- A pattern's value is stored as that pattern: patterns and values are one to one, at every type.
+pub stored-value : (t n : ℕ) → n < 2 ^ width t → stored false t (value t n) ≡ n
+unfolding stored value modZ
+stored-value t n h = go (isSigned t && leb (2 ^ (width t - 1)) n)
+  where
+    go : (s : Bool) → modZ (cond s (subℕ n (2 ^ width t)) (pos n)) (2 ^ width t) ≡ n
+    go true =
+        ap (λ (m : ℕ). modZ (subℕ n m) (2 ^ width t)) (sym (one-mul (2 ^ width t)))
+        ∙ sub-mod n 1 (2 ^ width t) (pow-pos (width t)) ∙ mod-eq-of-lt h
+    go false = mod-eq-of-lt h
+
+-- ---- clamping
+
+-- What is not above 0 is at most any natural number.
+below-zero : (n m : ℕ) → negℤ (pos n) ≤ℤ pos m
+below-zero zero m = leZ-yes (le→leb 0 m (omega arith))
+below-zero (suc n) m = leZ-yes tt
+
+-- A type's range is not empty.
+pub range-whole : (t : ℕ) → least t ≤ℤ greatest t
+unfolding least greatest
+range-whole t = pick (isSigned t)
+  where
+    pick : (s : Bool) → cond s (negℤ (pos (2 ^ (width t - 1)))) (pos 0) ≤ℤ cond s (pos (2 ^ (width t - 1) - 1)) (pos (2 ^ width t - 1))
+    pick true = below-zero (2 ^ (width t - 1)) (2 ^ (width t - 1) - 1)
+    pick false = below-zero 0 (2 ^ width t - 1)
+
+-- What is not less than b is at least b.
+not-below : (a b : ℤ) → ltZ a b ≡ false → b ≤ℤ a
+not-below a b e = ltZ-no (subst (λ (s : Bool). T (not s)) (sym e) tt)
+
+-- A clamped value is no less than the least of its type.
+pub clamp-least : (t : ℕ) (v : ℤ) → least t ≤ℤ clampTo t v
+unfolding clampTo
+clamp-least t v = pick (ltZ v (least t)) (ltZ (greatest t) v) refl
+  where
+    pick : (p q : Bool) → ltZ v (least t) ≡ p → least t ≤ℤ cond p (least t) (cond q (greatest t) v)
+    pick true q e = ≤ℤ-refl (least t)
+    pick false true e = range-whole t
+    pick false false e = not-below v (least t) e
+
+-- And no greater than the greatest.
+pub clamp-greatest : (t : ℕ) (v : ℤ) → clampTo t v ≤ℤ greatest t
+unfolding clampTo
+clamp-greatest t v = pick (ltZ v (least t)) (ltZ (greatest t) v) refl
+  where
+    pick : (p q : Bool) → ltZ (greatest t) v ≡ q → cond p (least t) (cond q (greatest t) v) ≤ℤ greatest t
+    pick true q e = range-whole t
+    pick false true e = ≤ℤ-refl (greatest t)
+    pick false false e = not-below (greatest t) v e
+
+-- A value that lies in its type's range is not changed by clamping.
+pub clamp-inside : (t : ℕ) (v : ℤ) → ltZ v (least t) ≡ false → ltZ (greatest t) v ≡ false → clampTo t v ≡ v
+unfolding clampTo
+clamp-inside t v p q = rw (p, q)

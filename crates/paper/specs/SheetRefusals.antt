@@ -1,0 +1,143 @@
+-- Each refusal once, with the offset of its instruction. Assumes nothing.
+use mathlib.Core.Bool.{Bool, true, false}
+use mathlib.Core.List.{List, [], _∷_, _++_, map}
+use Prim.Native.Nat.{ℕ, zero, suc, _+_, _-_, _*_, _^_}
+use lib.ListN.{replicate, take, set, length}
+use Rattle.paper.specs.Bits.{_at_, bytesOf}
+use Rattle.paper.specs.Kernel.{walk, judgeAt, parse, longAndShort}
+use Rattle.paper.specs.Jump.{withJumps}
+use Rattle.paper.specs.Calls.{Written, Changed, checkedAs, checkCall, packCall, unpackCall, shortenCall, expandCall, decodeCall, decodePart, startCall, stepCall, runCall}
+use Rattle.paper.specs.Assembler.{to, from0, from1, immediate0, immediate1, op, structuredTo, jmpiTo, nopWord, long, copies, numbers, zeros, blankDictionary, dictionaryA, clear, begin}
+use Rattle.paper.specs.Sheet.{Row, _gives_, shown, written, room, longA, shortA}
+use Rattle.paper.specs.SheetMore.{stateIs}
+
+-- The check of a nop and then the given bytes: what is refused stands at byte 16.
+unfoldable pub second : List ℕ → List ℕ
+second bytes = shown (checkCall blankDictionary (long (nopWord ∷ []) ++ bytes))
+
+-- The same for one long word, without the dictionary's own rule.
+unfoldable pub secondWord : ℕ → List ℕ
+secondWord w = shown (checkedAs (withJumps (parse longAndShort (λ _. 0) (long (nopWord ∷ w ∷ [])))))
+
+-- mov(8) of r2's dwords into r4, with something more.
+unfoldable pub movWith : ℕ → ℕ
+movWith more = op 0x01 3 + to 1 4 0 + from0 1 2 0 4 3 1 + more
+
+-- A short nop.
+unfoldable pub shortNop : List ℕ
+shortNop = bytesOf 8 (nopWord + 1 at 29)
+
+-- add(8) r4:d, r2:d, r3:d with the given subregister of src0 and width code of src1.
+unfoldable pub addWith : ℕ → ℕ → ℕ
+addWith sub wide = op 0x40 3 + to 1 4 0 + from0 1 2 sub 4 3 1 + from1 1 3 0 4 wide 1
+
+unfoldable pub rowsKernel : List Row
+rowsKernel =
+    (shown (checkCall (take 511 blankDictionary) []) gives 1 ∷ 0 ∷ 0 ∷ [])
+    ∷ (shown (checkCall blankDictionary (replicate 16385 0)) gives 1 ∷ 0 ∷ 0 ∷ [])
+    ∷ (shown (checkCall (numbers (set zeros 0 (2 ^ 17))) []) gives 2 ∷ 0 ∷ 0 ∷ [])
+    ∷ (shown (checkCall (numbers (set zeros 0 (2 ^ 17 - 1))) []) gives 0 ∷ 0 ∷ 0 ∷ [])
+    -- 17 before 3, shown at a limit of two
+    ∷ (shown (checkedAs (walk (judgeAt longAndShort (λ _. 0) (long (nopWord ∷ nopWord ∷ []) ++ (1 ∷ []))) 33 2 0)) gives 17 ∷ 32 ∷ 0 ∷ [])
+    ∷ (second (1 ∷ 2 ∷ 3 ∷ []) gives 3 ∷ 16 ∷ 0 ∷ [])
+    ∷ (second (bytesOf 12 nopWord) gives 3 ∷ 16 ∷ 0 ∷ [])
+    ∷ (secondWord 0x03 gives 4 ∷ 16 ∷ 0 ∷ [])
+    ∷ (second (bytesOf 8 (0x22 + 1 at 29)) gives 5 ∷ 16 ∷ 0 ∷ [])
+    ∷ (second shortNop gives 0 ∷ 0 ∷ 2 ∷ [])
+    ∷ []
+
+unfoldable pub rowsWord : List Row
+rowsWord =
+    (secondWord (movWith 0) gives 0 ∷ 0 ∷ 2 ∷ [])
+    -- 6: reserved bits
+    ∷ (secondWord (nopWord + 1 at 7) gives 6 ∷ 16 ∷ 0 ∷ [])
+    ∷ (secondWord (movWith (1 at 47)) gives 6 ∷ 16 ∷ 0 ∷ [])
+    ∷ (secondWord (movWith (1 at 95)) gives 6 ∷ 16 ∷ 0 ∷ [])
+    ∷ (secondWord (movWith (1 at 121)) gives 6 ∷ 16 ∷ 0 ∷ [])
+    ∷ (secondWord (op 0x01 3 + to 1 4 0 + immediate0 1 0xFFFFFFFF) gives 0 ∷ 0 ∷ 2 ∷ [])
+    -- 7: AccessMode, AccWrCtrl, ExecSize, QtrCtrl, PredCtrl, CondModifier, Saturate; file, AddrMode, type; a branch's own needs
+    ∷ (secondWord (movWith (1 at 8)) gives 7 ∷ 16 ∷ 0 ∷ [])
+    ∷ (secondWord (movWith (1 at 28)) gives 7 ∷ 16 ∷ 0 ∷ [])
+    ∷ (secondWord (movWith (2 at 21)) gives 7 ∷ 16 ∷ 0 ∷ [])
+    ∷ (secondWord (movWith (2 at 12)) gives 7 ∷ 16 ∷ 0 ∷ [])
+    ∷ (secondWord (movWith (2 at 16)) gives 7 ∷ 16 ∷ 0 ∷ [])
+    ∷ (secondWord (movWith (1 at 24)) gives 7 ∷ 16 ∷ 0 ∷ [])
+    ∷ (secondWord (addWith 0 3 + 1 at 31) gives 0 ∷ 0 ∷ 2 ∷ [])
+    ∷ (secondWord (op 0x04 3 + to 1 4 0 + from0 1 2 0 4 3 1 + 1 at 31) gives 7 ∷ 16 ∷ 0 ∷ [])
+    ∷ (secondWord (movWith (1 at 33)) gives 7 ∷ 16 ∷ 0 ∷ [])
+    ∷ (secondWord (movWith (1 at 63)) gives 7 ∷ 16 ∷ 0 ∷ [])
+    ∷ (secondWord (movWith (1 at 79)) gives 7 ∷ 16 ∷ 0 ∷ [])
+    ∷ (secondWord (movWith (5 at 39)) gives 7 ∷ 16 ∷ 0 ∷ [])
+    ∷ (secondWord (structuredTo 0x25 2 + 1 at 9) gives 7 ∷ 16 ∷ 0 ∷ [])
+    ∷ (secondWord (op 0x20 0 + immediate1 0 0) gives 7 ∷ 16 ∷ 0 ∷ [])
+    -- 8: mul with dwords; an immediate that is not last; unequal halves; a modifier on a src0 immediate, on logic; signs of shifts; sel
+    ∷ (secondWord (op 0x41 3 + to 1 4 0 + from0 1 2 0 4 3 1 + from1 3 3 0 4 3 1) gives 8 ∷ 16 ∷ 0 ∷ [])
+    ∷ (secondWord (op 0x40 3 + to 1 4 0 + immediate0 1 5 + 1 at 42 + 1 at 44) gives 8 ∷ 16 ∷ 0 ∷ [])
+    ∷ (secondWord (op 0x01 3 + to 1 4 0 + immediate0 3 5) gives 8 ∷ 16 ∷ 0 ∷ [])
+    ∷ (secondWord (op 0x01 3 + to 1 4 0 + immediate0 3 0x00050005) gives 0 ∷ 0 ∷ 2 ∷ [])
+    ∷ (secondWord (op 0x01 3 + to 1 4 0 + immediate0 1 5 + 1 at 77) gives 8 ∷ 16 ∷ 0 ∷ [])
+    ∷ (secondWord (movWith (2 at 77)) gives 0 ∷ 0 ∷ 2 ∷ [])
+    ∷ (secondWord (op 0x04 3 + to 1 4 0 + from0 1 2 0 4 3 1 + 2 at 77) gives 8 ∷ 16 ∷ 0 ∷ [])
+    ∷ (secondWord (op 0x08 3 + to 1 4 0 + from0 1 2 0 4 3 1 + immediate1 0 1) gives 8 ∷ 16 ∷ 0 ∷ [])
+    ∷ (secondWord (op 0x0C 3 + to 1 4 0 + from0 0 2 0 4 3 1 + immediate1 0 1) gives 8 ∷ 16 ∷ 0 ∷ [])
+    ∷ (secondWord (op 0x02 3 + to 1 4 0 + from0 1 2 0 4 3 1 + immediate1 0 1) gives 8 ∷ 16 ∷ 0 ∷ [])
+    -- 9 comes before 10, whichever operand breaks it
+    ∷ (secondWord (addWith 0 4) gives 9 ∷ 16 ∷ 0 ∷ [])
+    ∷ (secondWord (addWith 1 3) gives 10 ∷ 16 ∷ 0 ∷ [])
+    ∷ (secondWord (addWith 1 4) gives 9 ∷ 16 ∷ 0 ∷ [])
+    ∷ (secondWord (movWith 0 - 1 at 61) gives 9 ∷ 16 ∷ 0 ∷ [])
+    ∷ (secondWord (op 0x01 3 + to 1 4 2 + from0 1 2 0 4 3 1) gives 10 ∷ 16 ∷ 0 ∷ [])
+    -- 11: row J, on a source and on a destination
+    ∷ (secondWord (op 0x01 4 + to 1 4 0 + from0 1 2 0 4 3 1) gives 0 ∷ 0 ∷ 2 ∷ [])
+    ∷ (secondWord (op 0x01 4 + to 1 4 0 + from0 1 2 4 4 3 1) gives 11 ∷ 16 ∷ 0 ∷ [])
+    ∷ (secondWord (op 0x01 4 + to 1 4 0 + from0 1 127 0 4 3 1) gives 11 ∷ 16 ∷ 0 ∷ [])
+    ∷ (secondWord (op 0x01 3 + to 1 4 0 + from0 1 127 0 4 3 1) gives 0 ∷ 0 ∷ 2 ∷ [])
+    ∷ (secondWord (op 0x01 4 + to 1 127 0 + from0 1 2 0 4 3 1) gives 11 ∷ 16 ∷ 0 ∷ [])
+    -- 12: into the middle of a long instruction, before the start, past the end; the end itself is no fault
+    ∷ (secondWord (jmpiTo (2 ^ 32 - 1)) gives 12 ∷ 16 ∷ 0 ∷ [])
+    ∷ (secondWord (structuredTo 0x22 (2 ^ 16 - 3)) gives 12 ∷ 16 ∷ 0 ∷ [])
+    ∷ (secondWord (jmpiTo 2) gives 12 ∷ 16 ∷ 0 ∷ [])
+    ∷ (secondWord (jmpiTo 0) gives 0 ∷ 0 ∷ 2 ∷ [])
+    ∷ (secondWord (jmpiTo (2 ^ 32 - 4)) gives 0 ∷ 0 ∷ 2 ∷ [])
+    ∷ []
+
+-- A run of no steps over a nop, from the given state.
+unfoldable pub from : List ℕ → List ℕ
+from state = shown (runCall blankDictionary (long (nopWord ∷ [])) 0 clear state .answer)
+
+unfoldable pub rowsCall : List Row
+rowsCall =
+    -- 1, 16, 15
+    (shown (runCall blankDictionary [] 0 (take 4095 clear) (begin 0 0 0) .answer) gives 1 ∷ 0 ∷ 0 ∷ [])
+    ∷ (shown (runCall blankDictionary [] 0 clear (take 41 (begin 0 0 0)) .answer) gives 1 ∷ 0 ∷ 0 ∷ [])
+    ∷ (shown (runCall blankDictionary [] 1000001 clear (begin 0 0 0) .answer) gives 16 ∷ 0 ∷ 0 ∷ [])
+    ∷ (from (stateIs 0 0 2 0 0xFFFF 0 2) gives 20 ∷ 0 ∷ 0 ∷ [])
+    ∷ (from (stateIs 0 0 1 0 0 0 0) gives 15 ∷ 0 ∷ 0 ∷ [])
+    ∷ (from (stateIs 0 0 0 0 0xFF00 0 1) gives 15 ∷ 0 ∷ 0 ∷ [])
+    ∷ (from (stateIs 0 0 0 0x8000 0xFF00 0 0) gives 15 ∷ 0 ∷ 0 ∷ [])
+    ∷ (from (stateIs 0 0 0 0 0xFF00 2 0) gives 15 ∷ 0 ∷ 0 ∷ [])
+    -- a step at the end is 20
+    ∷ (shown (stepCall blankDictionary [] clear (begin 1 0 0) .answer) gives 20 ∷ 0 ∷ 0 ∷ [])
+    -- one word: 1, 2, 4, 5, 14
+    ∷ (written (shortenCall dictionaryA (bytesOf 15 longA) (room 8)) gives 1 ∷ 0 ∷ 0 ∷ room 8)
+    ∷ (written (expandCall dictionaryA (bytesOf 16 shortA) (room 16)) gives 1 ∷ 0 ∷ 0 ∷ room 16)
+    ∷ (written (shortenCall (numbers (set zeros 127 (2 ^ 12))) (bytesOf 16 longA) (room 8)) gives 2 ∷ 0 ∷ 0 ∷ room 8)
+    ∷ (written (shortenCall dictionaryA (bytesOf 16 0x03) (room 8)) gives 4 ∷ 0 ∷ 0 ∷ room 8)
+    ∷ (written (shortenCall dictionaryA (bytesOf 16 (0x7E + 1 at 29)) (room 8)) gives 5 ∷ 0 ∷ 0 ∷ room 8)
+    ∷ (written (expandCall dictionaryA (bytesOf 8 0x7E) (room 16)) gives 5 ∷ 0 ∷ 0 ∷ room 16)
+    ∷ (written (expandCall dictionaryA (bytesOf 8 (0x24 + 1 at 29)) (room 16)) gives 5 ∷ 0 ∷ 0 ∷ room 16)
+    ∷ (written (shortenCall dictionaryA (bytesOf 16 (jmpiTo 0)) (room 8)) gives 13 ∷ 0 ∷ 0 ∷ room 8)
+    ∷ (written (shortenCall dictionaryA (bytesOf 16 longA) (room 7)) gives 14 ∷ 0 ∷ 0 ∷ room 7)
+    ∷ (written (packCall dictionaryA (bytesOf 16 longA) (room 7)) gives 14 ∷ 0 ∷ 0 ∷ room 7)
+    -- packing takes long words only
+    ∷ (written (packCall dictionaryA (bytesOf 8 shortA) (room 16)) gives 5 ∷ 0 ∷ 0 ∷ room 16)
+    -- decoding: any place, 3 with offset 0 at or past the end
+    ∷ (shown (decodeCall dictionaryA (bytesOf 16 longA ++ bytesOf 8 shortA) 2) gives 0 ∷ 0 ∷ 8 ∷ [])
+    ∷ (decodePart dictionaryA (bytesOf 16 longA ++ bytesOf 8 shortA) 2 gives bytesOf 8 shortA)
+    ∷ (shown (decodeCall dictionaryA (bytesOf 16 longA) 2) gives 3 ∷ 0 ∷ 0 ∷ [])
+    ∷ (shown (decodeCall dictionaryA (bytesOf 16 longA) (2 ^ 64 - 1)) gives 3 ∷ 0 ∷ 0 ∷ [])
+    ∷ (shown (decodeCall dictionaryA (bytesOf 12 longA) 1) gives 3 ∷ 8 ∷ 0 ∷ [])
+    -- the start
+    ∷ (written (startCall 0xA5A5 0x1234 0x5678 (room 42)) gives 0 ∷ 0 ∷ 0 ∷ stateIs 0x1234 0x5678 0 0xA5A5 0 0 0)
+    ∷ (written (startCall 0xA5A5 0 0 (room 41)) gives 1 ∷ 0 ∷ 0 ∷ room 41)
+    ∷ []

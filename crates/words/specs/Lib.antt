@@ -1,0 +1,2 @@
+-- What the crate's types mean in the paper's terms.
+pub mod Operations

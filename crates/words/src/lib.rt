@@ -1,0 +1,2 @@
+// Words: operations, fields, bytes, the dictionary, expansion and shortening.
+pub mod operation;
