@@ -1,2 +1,4 @@
--- What the crate's types mean in the paper's terms.
+-- What the crate's types mean in the paper's terms, and laws that its proofs and its callers cite.
 pub mod Operations
+pub mod Words
+pub mod Bytes

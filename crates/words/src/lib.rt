@@ -1,2 +1,3 @@
 // Words: operations, fields, bytes, the dictionary, expansion and shortening.
 pub mod operation;
+pub mod bytes;
