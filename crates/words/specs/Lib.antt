@@ -2,3 +2,5 @@
 pub mod Operations
 pub mod Words
 pub mod Bytes
+pub mod Fields
+pub mod Ranges

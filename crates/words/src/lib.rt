@@ -1,3 +1,5 @@
 // Words: operations, fields, bytes, the dictionary, expansion and shortening.
 pub mod operation;
 pub mod bytes;
+pub mod dictionary;
+pub mod fields;

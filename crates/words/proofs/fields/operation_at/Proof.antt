@@ -1,0 +1,22 @@
+use borrow.Author.Needs.{needs}
+use Rattle.words.proofs.fields.operation_at.Statement.{statement}
+use Rattle.words.proofs.fields.operation_at.Tie as tie
+use Rattle.words.proofs.fields.operation_at.Reads as reads
+use Rattle.words.proofs.fields.operation_at.Lts as lts
+use Rattle.words.proofs.fields.opcode.Reads as opcode-reads
+use Rattle.words.proofs.operation.operation_of.Reads as operation-of-reads
+
+-- src/fields.rt:356:18
+opcode-requires : tie.Need-opcode-requires
+opcode-requires c κs = search needs
+
+-- src/fields.rt:356:5
+operation-of-requires : tie.Need-operation-of-requires
+operation-of-requires c κs = search needs
+
+-- src/fields.rt:353:1
+returns : tie.Need-returns
+returns c = cc
+
+pub operation-at-spec : {M : Type 1} → statement M
+operation-at-spec = tie.close (tie.spec opcode-requires operation-of-requires returns)
