@@ -4,3 +4,4 @@ pub mod Words
 pub mod Bytes
 pub mod Fields
 pub mod Ranges
+pub mod Shorter

@@ -3,3 +3,5 @@ pub mod operation;
 pub mod bytes;
 pub mod dictionary;
 pub mod fields;
+pub mod expand;
+pub mod shorten;
