@@ -5,3 +5,5 @@ pub mod Bytes
 pub mod Fields
 pub mod Ranges
 pub mod Shorter
+pub mod Wrote
+pub mod Meaning

@@ -5,3 +5,5 @@ pub mod dictionary;
 pub mod fields;
 pub mod expand;
 pub mod shorten;
+pub mod calls;
+pub mod decoded;
