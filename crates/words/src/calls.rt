@@ -1,10 +1,19 @@
 // Shortening and expanding one word, lent as bytes. A refusal leaves the output as it was.
-use crate::bytes::{Word, read8, read16, write8, write16};
+use crate::bytes::Word;
+use crate::bytes::read8;
+use crate::bytes::read16;
+use crate::bytes::write8;
+use crate::bytes::write16;
 use crate::dictionary::in_range;
-use crate::operation::{is_branch, is_listed};
-use crate::fields::{cmpt_ctrl, is_short, operation, operation_in};
 use crate::expand::expand;
-use crate::shorten::{Shorter, shorten};
+use crate::fields::cmpt_ctrl;
+use crate::fields::is_short;
+use crate::fields::operation;
+use crate::fields::operation_in;
+use crate::operation::is_branch;
+use crate::operation::is_listed;
+use crate::shorten::Shorter;
+use crate::shorten::shorten;
 ghost use mathlib.Core.Path.{_≡_};
 ghost use Rattle.paper.specs.Bits.{bytesOf};
 ghost use Rattle.paper.specs.Calls.{deliver, shortened, shortenCall, expandCall};
@@ -20,7 +29,8 @@ pub enum Wrote {
 
 // The eight bytes of v as the output's first; 14 where it is shorter.
 pub fn deliver8(out: &mut [u8], v: u64) -> Wrote
-    ensures { λ r. ⌜ (wroteAs r ≡ deliver (bytesOf 8 v) (now (out .entry)) .answer) × (now (out .exit) ≡ deliver (bytesOf 8 v) (now (out .entry)) .output) ⌝ }
+    ensures { λ r. ⌜ (wroteAs r ≡ deliver (bytesOf 8 v) (now (out .entry)) .answer)
+        × (now (out .exit) ≡ deliver (bytesOf 8 v) (now (out .entry)) .output) ⌝ }
 {
     if out.len() < 8 {
         return Wrote::Refused(14, 0);
@@ -31,7 +41,8 @@ pub fn deliver8(out: &mut [u8], v: u64) -> Wrote
 
 // The sixteen bytes of w as the output's first; 14 where it is shorter.
 pub fn deliver16(out: &mut [u8], w: Word) -> Wrote
-    ensures { λ r. ⌜ (wroteAs r ≡ deliver (bytesOf 16 (toWord w)) (now (out .entry)) .answer) × (now (out .exit) ≡ deliver (bytesOf 16 (toWord w)) (now (out .entry)) .output) ⌝ }
+    ensures { λ r. ⌜ (wroteAs r ≡ deliver (bytesOf 16 (toWord w)) (now (out .entry)) .answer)
+        × (now (out .exit) ≡ deliver (bytesOf 16 (toWord w)) (now (out .entry)) .output) ⌝ }
 {
     if out.len() < 16 {
         return Wrote::Refused(14, 0);
@@ -42,7 +53,8 @@ pub fn deliver16(out: &mut [u8], w: Word) -> Wrote
 
 // A short word's bytes, or 13 where there is none.
 fn deliver_shorter(out: &mut [u8], a: Shorter) -> Wrote
-    ensures { λ r. ⌜ (wroteAs r ≡ shortened (shorterIs a) (now (out .entry)) .answer) × (now (out .exit) ≡ shortened (shorterIs a) (now (out .entry)) .output) ⌝ }
+    ensures { λ r. ⌜ (wroteAs r ≡ shortened (shorterIs a) (now (out .entry)) .answer)
+        × (now (out .exit) ≡ shortened (shorterIs a) (now (out .entry)) .output) ⌝ }
 {
     match a {
         Shorter::Short(s) => deliver8(out, s),
@@ -52,7 +64,8 @@ fn deliver_shorter(out: &mut [u8], a: Shorter) -> Wrote
 
 // The smallest short word that expands to the word, as eight bytes.
 pub fn shorten_word(dictionary: &[u8], word: &[u8], out: &mut [u8]) -> Wrote
-    ensures { λ r. ⌜ (wroteAs r ≡ shortenCall (now (dictionary .entry)) (now (word .entry)) (now (out .entry)) .answer) × (now (out .exit) ≡ shortenCall (now (dictionary .entry)) (now (word .entry)) (now (out .entry)) .output) ⌝ }
+    ensures { λ r. ⌜ (wroteAs r ≡ shortenCall (now (dictionary .entry)) (now (word .entry)) (now (out .entry)) .answer)
+        × (now (out .exit) ≡ shortenCall (now (dictionary .entry)) (now (word .entry)) (now (out .entry)) .output) ⌝ }
 {
     if dictionary.len() != 512 {
         return Wrote::Refused(1, 0);
@@ -76,7 +89,8 @@ pub fn shorten_word(dictionary: &[u8], word: &[u8], out: &mut [u8]) -> Wrote
 
 // The long word that the short word stands for, as sixteen bytes.
 pub fn expand_word(dictionary: &[u8], word: &[u8], out: &mut [u8]) -> Wrote
-    ensures { λ r. ⌜ (wroteAs r ≡ expandCall (now (dictionary .entry)) (now (word .entry)) (now (out .entry)) .answer) × (now (out .exit) ≡ expandCall (now (dictionary .entry)) (now (word .entry)) (now (out .entry)) .output) ⌝ }
+    ensures { λ r. ⌜ (wroteAs r ≡ expandCall (now (dictionary .entry)) (now (word .entry)) (now (out .entry)) .answer)
+        × (now (out .exit) ≡ expandCall (now (dictionary .entry)) (now (word .entry)) (now (out .entry)) .output) ⌝ }
 {
     if dictionary.len() != 512 {
         return Wrote::Refused(1, 0);

@@ -1,10 +1,32 @@
 // What a word says, field by field.
 use crate::bytes::Word;
+use crate::fields::Source;
+use crate::fields::cond_modifier;
+use crate::fields::dst_file;
+use crate::fields::dst_register;
+use crate::fields::dst_stride;
+use crate::fields::dst_subregister;
+use crate::fields::dst_type;
+use crate::fields::exec_size;
+use crate::fields::flag_choice;
+use crate::fields::immediate_value;
+use crate::fields::long_distance;
+use crate::fields::operation;
+use crate::fields::pred_ctrl;
+use crate::fields::pred_inv;
+use crate::fields::qtr_ctrl;
+use crate::fields::saturate;
+use crate::fields::short_distance;
+use crate::fields::src_file;
+use crate::fields::src_horz_stride;
+use crate::fields::src_modifier;
+use crate::fields::src_register;
+use crate::fields::src_subregister;
+use crate::fields::src_type;
+use crate::fields::src_vert_stride;
+use crate::fields::src_width;
+use crate::fields::we_ctrl;
 use crate::operation::Operation;
-use crate::fields::{Source, operation, exec_size, qtr_ctrl, pred_ctrl, pred_inv, flag_choice, cond_modifier, saturate, we_ctrl};
-use crate::fields::{dst_file, dst_type, dst_register, dst_subregister, dst_stride};
-use crate::fields::{src_file, src_type, src_register, src_subregister, src_modifier, src_vert_stride, src_width, src_horz_stride};
-use crate::fields::{immediate_value, short_distance, long_distance};
 ghost use Rattle.words.specs.Words.{toWord, sourceIs};
 ghost use Rattle.words.specs.Meaning.{ControlMeans, DestinationMeans, OperandMeans, Means};
 
@@ -110,5 +132,14 @@ pub fn decode(w: Word) -> Decoded
     let immediate = immediate_value(w);
     let near = short_distance(w);
     let far = long_distance(w);
-    Decoded { operation: o, control: control, destination: destination, first: first, second: second, immediate: immediate, near: near, far: far }
+    Decoded {
+        operation: o,
+        control: control,
+        destination: destination,
+        first: first,
+        second: second,
+        immediate: immediate,
+        near: near,
+        far: far,
+    }
 }

@@ -1,6 +1,7 @@
 // The fields of a word that are judged or executed, one function a field.
 use crate::bytes::Word;
-use crate::operation::{Operation, operation_of};
+use crate::operation::Operation;
+use crate::operation::operation_of;
 ghost use mathlib.Core.Path.{_≡_};
 ghost use Prim.Native.Nat.{_+_, _<_, _≤_, _^_};
 ghost use Rattle.paper.specs.Bits.{bits};

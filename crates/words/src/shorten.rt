@@ -1,8 +1,10 @@
 // The smallest short word that expands to a word.
 use crate::bytes::Word;
 use crate::dictionary::number;
+use crate::fields::form_of;
+use crate::fields::operation_in;
+use crate::fields::part;
 use crate::operation::is_branch;
-use crate::fields::{part, form_of, operation_in};
 ghost use mathlib.Core.Path.{_≡_};
 ghost use Prim.Native.Nat.{ℕ, _+_, _<_, _≤_, _^_};
 ghost use mathlib.Core.Bool.{true, false};

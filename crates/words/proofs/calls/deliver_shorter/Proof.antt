@@ -1,31 +1,23 @@
+-- The two cases are those of `shortened`. Assumes nothing.
 use borrow.Author.Needs.{needs}
 use Rattle.words.proofs.calls.deliver_shorter.Statement.{statement}
 use Rattle.words.proofs.calls.deliver_shorter.Tie as tie
-use Rattle.words.proofs.calls.deliver_shorter.Reads as reads
-use Rattle.words.proofs.calls.deliver_shorter.Lts as lts
-use Rattle.words.proofs.calls.deliver8.Reads as deliver8-reads
 
--- src/calls.rt:48:24
 enum-known-a : tie.Need-enum-known-a
 enum-known-a c = search needs
 
--- src/calls.rt:48:30
 deliver8-requires : tie.Need-deliver8-requires
 deliver8-requires c κs = search needs
 
--- src/calls.rt:49:29
 enum-told : tie.Need-enum-told
 enum-told c = search needs
 
--- src/calls.rt:44:1
 same-length : tie.Need-same-length
 same-length c = search needs
 
--- src/calls.rt:44:1
 returns : tie.Need-returns
 returns c = rw (c .before .before .before .before .before .a .given .1) (c .before .before .deliver8 .ensures)
 
--- src/calls.rt:44:1
 returns-2 : tie.Need-returns-2
 returns-2 c = search needs
 

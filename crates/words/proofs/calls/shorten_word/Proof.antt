@@ -1,75 +1,53 @@
-use lib.Dec.{eqb}
-use Prim.Native.Nat.{ℕ}
-use Rattle.words.proofs.Calling.{as-written, as-called, shorten-size, shorten-length, shorten-range, shorten-unlisted, shorten-marked, shorten-answer}
-use Rattle.paper.specs.Operation.{isListed}
-use borrow.Author.Tests.{not-true, not-false, eq-eqb, ne-eqb}
+-- Each return is a case of `shortenCall`: 1 twice, 2, 4, 5, and what `shortened` says. Assumes nothing.
 use mathlib.Core.Path.{sym, ap, _∙_}
+use Prim.Native.Nat.{ℕ}
+use lib.Dec.{eqb}
+use borrow.Author.Tests.{not-true, not-false, eq-eqb, ne-eqb}
 use borrow.Author.Needs.{needs}
+use Rattle.paper.specs.Operation.{isListed}
+use Rattle.words.proofs.Calling.{as-written, as-called, shorten-size, shorten-length, shorten-range, shorten-unlisted, shorten-marked, shorten-answer}
 use Rattle.words.proofs.calls.shorten_word.Statement.{statement}
 use Rattle.words.proofs.calls.shorten_word.Tie as tie
-use Rattle.words.proofs.calls.shorten_word.Reads as reads
-use Rattle.words.proofs.calls.shorten_word.Lts as lts
-use Rattle.words.proofs.bytes.read16.Reads as read16-reads
-use Rattle.words.proofs.calls.deliver_shorter.Reads as deliver-shorter-reads
-use Rattle.words.proofs.dictionary.in_range.Reads as in-range-reads
-use Rattle.words.proofs.fields.cmpt_ctrl.Reads as cmpt-ctrl-reads
-use Rattle.words.proofs.fields.operation.Reads as operation-reads
-use Rattle.words.proofs.operation.is_listed.Reads as is-listed-reads
-use Rattle.words.proofs.shorten.shorten.Reads as shorten-reads
 
--- src/calls.rt:58:9
 returns : tie.Need-returns
 returns c = as-written _ _ _ (shorten-size _ _ _ (c .if1 .taken))
 
--- src/calls.rt:61:9
 returns-2 : tie.Need-returns-2
 returns-2 c = as-written _ _ _ (shorten-length _ _ _ (c .before .if1 .left) (c .if2 .taken))
 
--- src/calls.rt:63:9
 in-range-requires : tie.Need-in-range-requires
 in-range-requires c κs = search needs
 
--- src/calls.rt:64:9
 returns-3 : tie.Need-returns-3
 returns-3 c = as-written _ _ _ (shorten-range _ _ _ (c .before .before .before .if1 .left) (c .before .before .if2 .left) (sym (c .before .in-range .ensures) ∙ not-true _ (c .if3 .taken)))
 
--- src/calls.rt:66:9
 read16-requires : tie.Need-read16-requires
 read16-requires c κs = search needs
 
--- src/calls.rt:67:19
 operation-requires : tie.Need-operation-requires
 operation-requires c κs = search needs
 
--- src/calls.rt:67:9
 is-listed-requires : tie.Need-is-listed-requires
 is-listed-requires c κs = search needs
 
--- src/calls.rt:68:9
 returns-4 : tie.Need-returns-4
 returns-4 c = as-written _ _ _ (shorten-unlisted _ _ _ (c .before .before .before .before .before .before .before .if1 .left) (c .before .before .before .before .before .before .if2 .left) (sym (c .before .before .before .before .before .in-range .ensures) ∙ not-false _ (c .before .before .before .before .if3 .left)) _ (c .before .before .before .read16 .ensures) (sym (c .before .is-listed .ensures ∙ ap isListed (c .before .before .operation .ensures)) ∙ not-true _ (c .if4 .taken)))
 
--- src/calls.rt:70:8
 cmpt-ctrl-requires : tie.Need-cmpt-ctrl-requires
 cmpt-ctrl-requires c κs = search needs
 
--- src/calls.rt:71:9
 returns-5 : tie.Need-returns-5
 returns-5 c = as-written _ _ _ (shorten-marked _ _ _ (c .before .before .before .before .before .before .before .before .before .if1 .left) (c .before .before .before .before .before .before .before .before .if2 .left) (sym (c .before .before .before .before .before .before .before .in-range .ensures) ∙ not-false _ (c .before .before .before .before .before .before .if3 .left)) _ (c .before .before .before .before .before .read16 .ensures) (sym (c .before .before .before .is-listed .ensures ∙ ap isListed (c .before .before .before .before .operation .ensures)) ∙ not-false _ (c .before .before .if4 .left)) (ap (λ (x : ℕ). eqb x 1) (sym (c .before .cmpt-ctrl .ensures .0)) ∙ eq-eqb _ _ (c .if5 .taken)))
 
--- src/calls.rt:73:9
 shorten-requires : tie.Need-shorten-requires
 shorten-requires c κs = search needs
 
--- src/calls.rt:74:5
 deliver-shorter-requires : tie.Need-deliver-shorter-requires
 deliver-shorter-requires c κs = search needs
 
--- src/calls.rt:54:1
 same-length : tie.Need-same-length
 same-length c = search needs
 
--- src/calls.rt:54:1
 returns-6 : tie.Need-returns-6
 returns-6 c = as-called _ _ _ _ (shorten-answer _ _ _ (c .before .before .before .before .before .before .before .before .before .before .before .before .before .before .if1 .left) (c .before .before .before .before .before .before .before .before .before .before .before .before .before .if2 .left) (sym (c .before .before .before .before .before .before .before .before .before .before .before .before .in-range .ensures) ∙ not-false _ (c .before .before .before .before .before .before .before .before .before .before .before .if3 .left)) _ (c .before .before .before .before .before .before .before .before .before .before .read16 .ensures) (sym (c .before .before .before .before .before .before .before .before .is-listed .ensures ∙ ap isListed (c .before .before .before .before .before .before .before .before .before .operation .ensures)) ∙ not-false _ (c .before .before .before .before .before .before .before .if4 .left)) (ap (λ (x : ℕ). eqb x 1) (sym (c .before .before .before .before .before .before .cmpt-ctrl .ensures .0)) ∙ ne-eqb _ _ (c .before .before .before .before .before .if5 .left))) (rw (c .before .before .before .before .shorten .ensures) at (c .before .before .deliver-shorter .ensures))
 

@@ -1,19 +1,15 @@
+-- The test is that of `extended`. Assumes nothing.
 use borrow.Author.Tests.{lt-ltb, le-ltb}
 use borrow.Author.Needs.{needs}
 use Rattle.words.proofs.expand.sign_extended.Statement.{statement}
 use Rattle.words.proofs.expand.sign_extended.Tie as tie
-use Rattle.words.proofs.expand.sign_extended.Reads as reads
-use Rattle.words.proofs.expand.sign_extended.Lts as lts
 
--- src/expand.rt:35:9
 returns : tie.Need-returns
 returns c = (simp (lt-ltb _ _ (c .if1 .taken)), search needs)
 
--- src/expand.rt:37:5
 add-result : tie.Need-add-result
 add-result c = search needs
 
--- src/expand.rt:30:1
 returns-2 : tie.Need-returns-2
 returns-2 c = (simp (le-ltb _ _ (c .if1 .left)), search needs)
 

@@ -1,44 +1,33 @@
+-- In each form the sum of shifted fields is what the rows lay out. Assumes nothing.
 use native.Mathlib.Omega.{arith}
 use borrow.Author.Needs.{needs}
 use Rattle.words.proofs.expand.top_bits.Statement.{statement}
 use Rattle.words.proofs.expand.top_bits.Tie as tie
-use Rattle.words.proofs.expand.top_bits.Reads as reads
-use Rattle.words.proofs.expand.top_bits.Lts as lts
-use Rattle.words.proofs.expand.sign_extended.Reads as sign-extended-reads
 
--- src/expand.rt:45:30
 mul-sign-extended : tie.Need-mul-sign-extended
 mul-sign-extended c = search needs
 
--- src/expand.rt:45:30
 add-sign-extended : tie.Need-add-sign-extended
 add-sign-extended c = search needs
 
--- src/expand.rt:45:9
 sign-extended-requires : tie.Need-sign-extended-requires
 sign-extended-requires c κs = search needs
 
--- src/expand.rt:45:9
 returns : tie.Need-returns
 returns c = rw (c .before .if1 .taken) (omega arith)
 
--- src/expand.rt:47:22
 mul-result : tie.Need-mul-result
 mul-result c = search needs
 
--- src/expand.rt:47:5
 add-result : tie.Need-add-result
 add-result c = search needs
 
--- src/expand.rt:47:62
 mul-result-2 : tie.Need-mul-result-2
 mul-result-2 c = search needs
 
--- src/expand.rt:47:5
 add-result-2 : tie.Need-add-result-2
 add-result-2 c = search needs
 
--- src/expand.rt:41:1
 returns-2 : tie.Need-returns-2
 returns-2 c = rw (c .if1 .left) (omega arith)
 

@@ -1,15 +1,13 @@
-use Rattle.words.proofs.Shortening.{index-is}
-use Rattle.paper.specs.Dictionary.{dictionaryOf}
-use borrow.Author.Needs.{needs}
-use borrow.Author.Count.{below-more}
+-- The loop's invariant: at no index passed is the number the key. So what is returned is the first index, of which there is only one. The measure is how many are left. Assumes nothing.
 use mathlib.Core.Path.{_≡_}
 use Prim.Native.Nat.{ℕ, _+_, _≤_, _<_, _-_, _%_}
 use native.Mathlib.Omega.{arith}
+use borrow.Author.Needs.{needs}
+use borrow.Author.Count.{below-more}
+use Rattle.paper.specs.Dictionary.{dictionaryOf}
+use Rattle.words.proofs.Shortening.{index-is}
 use Rattle.words.proofs.shorten.index_of.Statement.{statement}
 use Rattle.words.proofs.shorten.index_of.Tie as tie
-use Rattle.words.proofs.shorten.index_of.Reads as reads
-use Rattle.words.proofs.shorten.index_of.Lts as lts
-use Rattle.words.proofs.dictionary.number.Reads as number-reads
 
 abbrev Inv-loop : tie.InvT-loop
 Inv-loop dictionary base modulus key i₀ i = (i ≤ 32) × ((k : ℕ) → k < i → dictionaryOf dictionary (base + k) % modulus ≡ key → ⊥)
@@ -17,39 +15,30 @@ Inv-loop dictionary base modulus key i₀ i = (i ≤ 32) × ((k : ℕ) → k < i
 abbrev μ-loop : tie.MeasureT-loop
 μ-loop dictionary base modulus key i₀ i = 32 - i
 
--- src/shorten.rt:31:5
 loop-holds : tie.Need-loop-holds Inv-loop μ-loop
 loop-holds c = (omega arith, λ k h e. absurd (omega arith))
 
--- src/shorten.rt:32:31
 add-number : tie.Need-add-number Inv-loop μ-loop
 add-number c = search needs
 
--- src/shorten.rt:32:12
 number-requires : tie.Need-number-requires Inv-loop μ-loop
 number-requires c κs = search needs
 
--- src/shorten.rt:32:12
 rem-if1 : tie.Need-rem-if1 Inv-loop μ-loop
 rem-if1 c = search needs
 
--- src/shorten.rt:33:13
 returns : tie.Need-returns Inv-loop μ-loop
 returns c = index-is _ _ _ _ (record { within = search needs; before = c .before .before .before .loop .inv .1; found = λ h. (cc) })
 
--- src/shorten.rt:35:9
 add-i : tie.Need-add-i Inv-loop μ-loop
 add-i c = search needs
 
--- src/shorten.rt:31:5
 loop-less : tie.Need-loop-less Inv-loop μ-loop
 loop-less c = search needs
 
--- src/shorten.rt:31:5
 loop-again : tie.Need-loop-again Inv-loop μ-loop
 loop-again c = (search needs, below-more _ _ (c .before .before .before .loop .inv .1) (λ e. c .if1 .left (cc)))
 
--- src/shorten.rt:26:1
 returns-2 : tie.Need-returns-2 Inv-loop μ-loop
 returns-2 c = index-is _ _ _ _ (record { within = omega arith; before = λ k h. c .before .loop .inv .1 k (omega arith); found = λ h. absurd (omega arith) })
 

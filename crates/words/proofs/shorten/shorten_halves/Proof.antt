@@ -1,82 +1,57 @@
-use borrow.Author.Tests.{not-true, not-false}
+-- Each return is a case of `shortenHalves`: not allowed, one of three numbers missing, one of the two forms. Assumes nothing.
 use mathlib.Core.Bool.{true, false}
 use mathlib.Core.Path.{sym, _∙_}
-use Rattle.words.proofs.Shortening.{halves-closed, control-missing, datatype-missing, source-missing, form-decides}
+use borrow.Author.Tests.{not-true, not-false}
 use borrow.Author.Needs.{needs}
+use Rattle.words.proofs.Shortening.{halves-closed, control-missing, datatype-missing, source-missing, form-decides}
 use Rattle.words.proofs.shorten.shorten_halves.Statement.{statement}
 use Rattle.words.proofs.shorten.shorten_halves.Tie as tie
-use Rattle.words.proofs.shorten.shorten_halves.Reads as reads
-use Rattle.words.proofs.shorten.shorten_halves.Lts as lts
-use Rattle.words.proofs.fields.form_of.Reads as form-of-reads
-use Rattle.words.proofs.fields.part.Reads as part-reads
-use Rattle.words.proofs.shorten.control_key.Reads as control-key-reads
-use Rattle.words.proofs.shorten.datatype_key.Reads as datatype-key-reads
-use Rattle.words.proofs.shorten.index_of.Reads as index-of-reads
-use Rattle.words.proofs.shorten.may_shorten.Reads as may-shorten-reads
-use Rattle.words.proofs.shorten.shorten_immediate.Reads as shorten-immediate-reads
-use Rattle.words.proofs.shorten.shorten_register.Reads as shorten-register-reads
 
--- src/shorten.rt:169:9
 may-shorten-requires : tie.Need-may-shorten-requires
 may-shorten-requires c κs = search needs
 
--- src/shorten.rt:170:9
 returns : tie.Need-returns
 returns c = halves-closed _ _ _ (sym (c .before .may-shorten .ensures) ∙ not-true _ (c .if1 .taken))
 
--- src/shorten.rt:172:47
 control-key-requires : tie.Need-control-key-requires
 control-key-requires c κs = search needs
 
--- src/shorten.rt:172:9
 index-of-requires : tie.Need-index-of-requires
 index-of-requires c κs = search needs
 
--- src/shorten.rt:174:9
 returns-2 : tie.Need-returns-2
 returns-2 c = control-missing _ _ _ (sym (c .before .before .before .before .may-shorten .ensures) ∙ not-false _ (c .before .before .before .if1 .left)) _ _ (c .before .before .control-key .ensures) (c .before .index-of .ensures) (c .if2 .taken)
 
--- src/shorten.rt:176:48
 datatype-key-requires : tie.Need-datatype-key-requires
 datatype-key-requires c κs = search needs
 
--- src/shorten.rt:176:9
 index-of-requires-2 : tie.Need-index-of-requires-2
 index-of-requires-2 c κs = search needs
 
--- src/shorten.rt:178:9
 returns-3 : tie.Need-returns-3
 returns-3 c = datatype-missing _ _ _ (sym (c .before .before .before .before .before .before .before .may-shorten .ensures) ∙ not-false _ (c .before .before .before .before .before .before .if1 .left)) _ _ (c .before .before .before .before .before .control-key .ensures) (c .before .before .before .before .index-of .ensures) (c .before .before .before .if2 .left) _ _ (c .before .before .datatype-key .ensures) (c .before .index-of2 .ensures) (c .if3 .taken)
 
--- src/shorten.rt:180:46
 part-requires : tie.Need-part-requires
 part-requires c κs = search needs
 
--- src/shorten.rt:180:9
 index-of-requires-3 : tie.Need-index-of-requires-3
 index-of-requires-3 c κs = search needs
 
--- src/shorten.rt:182:9
 returns-4 : tie.Need-returns-4
 returns-4 c = source-missing _ _ _ (sym (c .before .before .before .before .before .before .before .before .before .before .may-shorten .ensures) ∙ not-false _ (c .before .before .before .before .before .before .before .before .before .if1 .left)) _ _ (c .before .before .before .before .before .before .before .before .control-key .ensures) (c .before .before .before .before .before .before .before .index-of .ensures) (c .before .before .before .before .before .before .if2 .left) _ _ (c .before .before .before .before .before .datatype-key .ensures) (c .before .before .before .before .index-of2 .ensures) (c .before .before .before .if3 .left) _ _ (c .before .before .part .ensures .0) (c .before .index-of3 .ensures) (c .if4 .taken)
 
--- src/shorten.rt:184:8
 form-of-requires : tie.Need-form-of-requires
 form-of-requires c κs = search needs
 
--- src/shorten.rt:185:9
 shorten-immediate-requires : tie.Need-shorten-immediate-requires
 shorten-immediate-requires c κs = search needs
 
--- src/shorten.rt:185:9
 returns-5 : tie.Need-returns-5
 returns-5 c = c .shorten-immediate .ensures ∙ form-decides _ _ _ (sym (c .before .before .before .before .before .before .before .before .before .before .before .before .before .may-shorten .ensures) ∙ not-false _ (c .before .before .before .before .before .before .before .before .before .before .before .before .if1 .left)) _ _ (c .before .before .before .before .before .before .before .before .before .before .before .control-key .ensures) (c .before .before .before .before .before .before .before .before .before .before .index-of .ensures) (c .before .before .before .before .before .before .before .before .before .if2 .left) _ _ (c .before .before .before .before .before .before .before .before .datatype-key .ensures) (c .before .before .before .before .before .before .before .index-of2 .ensures) (c .before .before .before .before .before .before .if3 .left) _ _ (c .before .before .before .before .before .part .ensures .0) (c .before .before .before .before .index-of3 .ensures) true (c .before .before .before .if4 .left) (sym (c .before .if5 .taken) ∙ c .before .before .form-of .ensures)
 
--- src/shorten.rt:187:5
 shorten-register-requires : tie.Need-shorten-register-requires
 shorten-register-requires c κs = search needs
 
--- src/shorten.rt:165:1
 returns-6 : tie.Need-returns-6
 returns-6 c = c .shorten-register .ensures ∙ form-decides _ _ _ (sym (c .before .before .before .before .before .before .before .before .before .before .before .before .before .may-shorten .ensures) ∙ not-false _ (c .before .before .before .before .before .before .before .before .before .before .before .before .if1 .left)) _ _ (c .before .before .before .before .before .before .before .before .before .before .before .control-key .ensures) (c .before .before .before .before .before .before .before .before .before .before .index-of .ensures) (c .before .before .before .before .before .before .before .before .before .if2 .left) _ _ (c .before .before .before .before .before .before .before .before .datatype-key .ensures) (c .before .before .before .before .before .before .before .index-of2 .ensures) (c .before .before .before .before .before .before .if3 .left) _ _ (c .before .before .before .before .before .part .ensures .0) (c .before .before .before .before .index-of3 .ensures) false (c .before .before .before .if4 .left) (sym (c .before .if5 .left) ∙ c .before .before .form-of .ensures)
 

@@ -1,52 +1,37 @@
+-- Each return is a case of `shortenRegister`: a bit set, no number, no second source, the short word. Assumes nothing.
 use mathlib.Core.Path.{sym, _∙_}
-use Rattle.words.proofs.Shortening.{register-top, register-missing, second-missing, register-found}
 use borrow.Author.Needs.{needs}
+use Rattle.words.proofs.Shortening.{register-top, register-missing, second-missing, register-found}
 use Rattle.words.proofs.shorten.shorten_register.Statement.{statement}
 use Rattle.words.proofs.shorten.shorten_register.Tie as tie
-use Rattle.words.proofs.shorten.shorten_register.Reads as reads
-use Rattle.words.proofs.shorten.shorten_register.Lts as lts
-use Rattle.words.proofs.fields.part.Reads as part-reads
-use Rattle.words.proofs.shorten.index_of.Reads as index-of-reads
-use Rattle.words.proofs.shorten.short_word.Reads as short-word-reads
-use Rattle.words.proofs.shorten.wide_key.Reads as wide-key-reads
 
--- src/shorten.rt:127:8
 part-requires : tie.Need-part-requires
 part-requires c κs = search needs
 
--- src/shorten.rt:128:9
 returns : tie.Need-returns
 returns c = register-top _ _ _ _ _ _ (λ e. c .if1 .taken (c .before .part .ensures .0 ∙ e))
 
--- src/shorten.rt:130:9
 wide-key-requires : tie.Need-wide-key-requires
 wide-key-requires c κs = search needs
 
--- src/shorten.rt:131:9
 index-of-requires : tie.Need-index-of-requires
 index-of-requires c κs = search needs
 
--- src/shorten.rt:133:9
 returns-2 : tie.Need-returns-2
 returns-2 c = register-missing _ _ _ _ _ _ (sym (c .before .before .before .before .part .ensures .0) ∙ c .before .before .before .if1 .left) _ _ (c .before .before .wide-key .ensures) (c .before .index-of .ensures) (c .if2 .taken)
 
--- src/shorten.rt:135:9
 part-requires-2 : tie.Need-part-requires-2
 part-requires-2 c κs = search needs
 
--- src/shorten.rt:136:9
 index-of-requires-2 : tie.Need-index-of-requires-2
 index-of-requires-2 c κs = search needs
 
--- src/shorten.rt:138:9
 returns-3 : tie.Need-returns-3
 returns-3 c = second-missing _ _ _ _ _ _ (sym (c .before .before .before .before .before .before .before .part .ensures .0) ∙ c .before .before .before .before .before .before .if1 .left) _ _ (c .before .before .before .before .before .wide-key .ensures) (c .before .before .before .before .index-of .ensures) (c .before .before .before .if2 .left) _ _ (c .before .before .part2 .ensures .0) (c .before .index-of2 .ensures) (c .if3 .taken)
 
--- src/shorten.rt:140:20
 short-word-requires : tie.Need-short-word-requires
 short-word-requires c κs = search needs
 
--- src/shorten.rt:123:1
 returns-4 : tie.Need-returns-4
 returns-4 c = rw (c .short-word .ensures) (register-found _ _ _ _ _ _ (sym (c .before .before .before .before .before .before .before .before .part .ensures .0) ∙ c .before .before .before .before .before .before .before .if1 .left) _ _ (c .before .before .before .before .before .before .wide-key .ensures) (c .before .before .before .before .before .index-of .ensures) (c .before .before .before .before .if2 .left) _ _ (c .before .before .before .part2 .ensures .0) (c .before .before .index-of2 .ensures) (c .before .if3 .left))
 
