@@ -1,10 +1,9 @@
 -- Laws of the calls on one word as the code goes through them, test by test. Assumes nothing.
-use mathlib.Core.Bool.{Bool, true, false, not, cond, _||_}
+use mathlib.Core.Bool.{Bool, true, false}
 use mathlib.Core.List.{List}
 use mathlib.Core.Path.{_≡_, sym, ap, _∙_}
 use Prim.Native.Nat.{ℕ, _≤_, _<_}
 use borrow.Author.Tests.{lt-ltb, le-ltb, eq-eqb, ne-eqb}
-use lib.Dec.{eqb}
 use lib.ListN.{length}
 use Rattle.paper.specs.Bits.{bytesOf, numberAt, putAt}
 use Rattle.paper.specs.Dictionary.{dictionaryOf, inRange}

@@ -1,17 +1,16 @@
 -- Laws of shortening as the code goes through it, test by test. Assumes nothing.
-use mathlib.Core.Bool.{Bool, true, false, not, cond, _&&_}
+use mathlib.Core.Bool.{Bool, true, false, cond, _&&_}
 use mathlib.Core.Option.{Option, none, some}
-use mathlib.Core.Path.{_≡_, refl, sym, _∙_}
+use mathlib.Core.Path.{_≡_, refl}
 use Prim.Native.Nat.{ℕ, _+_, _*_, _/_, _%_, _^_, _≤_, _<_}
 use native.Mathlib.Omega.{arith}
 use native.Mathlib.Decide.{decLt}
 use native.Mathlib.Nat.{le-antisymm}
 use borrow.Author.Tests.{lt-ltb, le-ltb, eq-eqb, ne-eqb}
-use lib.Dec.{eqb, ltb}
+use lib.Dec.{ltb}
 use Rattle.paper.specs.Bits.{bits}
 use Rattle.paper.specs.Rows.{assemble}
 use Rattle.paper.specs.Word.{immediateForm}
-use Rattle.paper.specs.Operation.{operation, isBranch}
 use Rattle.paper.specs.Dictionary.{Dictionary, control, datatype, subregister, source}
 use Rattle.paper.specs.Shorten.{controlKey, datatypeKey, subregisterKey, indexOf, shortWord, provided}
 use Rattle.paper.specs.Shorten.{shortenImmediate, shortenRegister, shortenHalves, shorten}

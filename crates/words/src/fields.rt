@@ -7,7 +7,9 @@ ghost use Prim.Native.Nat.{_+_, _<_, _≤_, _^_};
 ghost use Rattle.paper.specs.Bits.{bits};
 ghost use Rattle.paper.specs.Expand.{isShort};
 ghost use Rattle.paper.specs.Operation.{operation};
-ghost use Rattle.paper.specs.Word.{accWrCtrl, accessMode, cmptCtrl, condModifier, dstAddrMode, dstFile, dstRegister, dstStride, dstSubregister, dstType, execSize, flagChoice, immediate, immediateForm, isImmediate, opcode, predCtrl, predInv, qtrCtrl, saturate, shiftOf, srcAddrMode, srcFile, srcHorzStride, srcModifier, srcRegister, srcSubregister, srcType, srcVertStride, srcWidth, weCtrl};
+ghost use Rattle.paper.specs.Word.{accWrCtrl, accessMode, cmptCtrl, condModifier, execSize, flagChoice, opcode, predCtrl, predInv, qtrCtrl, saturate, weCtrl};
+ghost use Rattle.paper.specs.Word.{dstAddrMode, dstFile, dstRegister, dstStride, dstSubregister, dstType};
+ghost use Rattle.paper.specs.Word.{immediate, immediateForm, isImmediate, shiftOf, srcAddrMode, srcFile, srcHorzStride, srcModifier, srcRegister, srcSubregister, srcType, srcVertStride, srcWidth};
 ghost use Rattle.words.specs.Operations.{operationIs};
 ghost use Rattle.words.specs.Words.{toWord, sourceIs};
 
