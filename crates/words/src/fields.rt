@@ -350,7 +350,7 @@ pub fn operation_in(s: u64) -> Operation
 }
 
 // The operation of a word.
-pub fn operation_at(w: Word) -> Operation
+pub fn operation(w: Word) -> Operation
     ensures { λ r. ⌜ operationIs r ≡ operation (toWord w) ⌝ }
 {
     operation_of(opcode(w))

@@ -1,8 +1,8 @@
 use borrow.Author.Needs.{needs}
-use Rattle.words.proofs.fields.operation_at.Statement.{statement}
-use Rattle.words.proofs.fields.operation_at.Tie as tie
-use Rattle.words.proofs.fields.operation_at.Reads as reads
-use Rattle.words.proofs.fields.operation_at.Lts as lts
+use Rattle.words.proofs.fields.operation.Statement.{statement}
+use Rattle.words.proofs.fields.operation.Tie as tie
+use Rattle.words.proofs.fields.operation.Reads as reads
+use Rattle.words.proofs.fields.operation.Lts as lts
 use Rattle.words.proofs.fields.opcode.Reads as opcode-reads
 use Rattle.words.proofs.operation.operation_of.Reads as operation-of-reads
 
@@ -18,5 +18,5 @@ operation-of-requires c κs = search needs
 returns : tie.Need-returns
 returns c = cc
 
-pub operation-at-spec : {M : Type 1} → statement M
-operation-at-spec = tie.close (tie.spec opcode-requires operation-of-requires returns)
+pub operation-spec : {M : Type 1} → statement M
+operation-spec = tie.close (tie.spec opcode-requires operation-of-requires returns)

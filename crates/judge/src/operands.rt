@@ -1,0 +1,88 @@
+// Rule 8: the operands that an operation takes.
+use words::bytes::Word;
+use words::operation::Plain;
+use words::fields::{Source, pred_ctrl, src_type, src_modifier, is_immediate, low_half, high_half};
+use crate::logic::{both, either, negated};
+use crate::traits::{reads_two, any_source, takes_modifiers};
+ghost use mathlib.Core.Path.{_≡_};
+ghost use Rattle.paper.specs.Word.{src0, src1};
+ghost use Rattle.paper.specs.Operation.{mul, shr, sel};
+ghost use Rattle.paper.specs.Legal.{unequalHalves, badModifier, ownRuleBroken, operandRuleBroken};
+ghost use Rattle.words.specs.Operations.{plainIs};
+ghost use Rattle.words.specs.Words.{toWord, sourceIs};
+
+// A word immediate's two halves differ.
+pub fn unequal_halves(x: Source, w: Word) -> bool
+    ensures { λ r. ⌜ r ≡ unequalHalves (toWord w) (sourceIs x) ⌝ }
+{
+    let differ = negated(low_half(w) == high_half(w));
+    both(is_immediate(x, w), both(2 <= src_type(x, w), differ))
+}
+
+// A modifier on src0 where none is allowed: on an immediate, and on logic and shifts.
+pub fn bad_first_modifier(p: Plain, w: Word) -> bool
+    ensures { λ r. ⌜ r ≡ badModifier (plainIs p) (toWord w) src0 ⌝ }
+{
+    let some = negated(src_modifier(Source::First, w) == 0);
+    both(either(is_immediate(Source::First, w), negated(takes_modifiers(p))), some)
+}
+
+// The same on src1, which has none as an immediate.
+pub fn bad_second_modifier(p: Plain, w: Word) -> bool
+    ensures { λ r. ⌜ r ≡ badModifier (plainIs p) (toWord w) src1 ⌝ }
+{
+    let some = negated(src_modifier(Source::Second, w) == 0);
+    both(both(negated(is_immediate(Source::Second, w)), negated(takes_modifiers(p))), some)
+}
+
+// A source is a dword.
+pub fn takes_dwords(w: Word) -> bool
+    ensures { λ r. ⌜ r ≡ ownRuleBroken mul (toWord w) ⌝ }
+{
+    either(src_type(Source::First, w) < 2, src_type(Source::Second, w) < 2)
+}
+
+// src0 is signed.
+pub fn takes_signed(w: Word) -> bool
+    ensures { λ r. ⌜ r ≡ ownRuleBroken shr (toWord w) ⌝ }
+{
+    src_type(Source::First, w) % 2 == 1
+}
+
+// There is no predicate to choose by.
+pub fn unpredicated(w: Word) -> bool
+    ensures { λ r. ⌜ r ≡ ownRuleBroken sel (toWord w) ⌝ }
+{
+    negated(pred_ctrl(w) == 1)
+}
+
+// mul takes no dword sources, shr an unsigned and asr a signed src0, sel a predicate.
+pub fn own_rule_broken(p: Plain, w: Word) -> bool
+    ensures { λ r. ⌜ r ≡ ownRuleBroken (plainIs p) (toWord w) ⌝ }
+{
+    match p {
+        Plain::Mov => false,
+        Plain::Sel => unpredicated(w),
+        Plain::Not => false,
+        Plain::And => false,
+        Plain::Or => false,
+        Plain::Xor => false,
+        Plain::Shr => takes_signed(w),
+        Plain::Shl => false,
+        Plain::Asr => negated(takes_signed(w)),
+        Plain::Cmp => false,
+        Plain::Add => false,
+        Plain::Mul => takes_dwords(w),
+        Plain::Avg => false,
+    }
+}
+
+// 8: an immediate that is not last, halves that differ, a modifier too many, or an operation's own rule.
+pub fn operand_rule_broken(p: Plain, w: Word) -> bool
+    ensures { λ r. ⌜ r ≡ operandRuleBroken (plainIs p) (toWord w) ⌝ }
+{
+    let misplaced = both(reads_two(p), is_immediate(Source::First, w));
+    let halves = any_source(p, unequal_halves(Source::First, w), unequal_halves(Source::Second, w));
+    let modifiers = any_source(p, bad_first_modifier(p, w), bad_second_modifier(p, w));
+    either(misplaced, either(halves, either(modifiers, own_rule_broken(p, w))))
+}

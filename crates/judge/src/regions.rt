@@ -1,0 +1,108 @@
+// Rules 9, 10 and 11: the register operands' shapes, alignment and reach.
+use words::bytes::Word;
+use words::operation::Plain;
+use words::fields::{Source, exec_size, dst_type, dst_subregister, dst_register, dst_stride, is_immediate};
+use words::fields::{src_type, src_subregister, src_register, src_horz_stride, src_width, src_vert_stride};
+use crate::logic::{both, either, negated};
+use crate::traits::any_source;
+use crate::served::is_null;
+ghost use mathlib.Core.Path.{_≡_};
+ghost use Prim.Native.Nat.{_<_, _≤_, _+_, _^_};
+ghost use Rattle.paper.specs.Value.{sizeOf};
+ghost use Rattle.paper.specs.Word.{dstSubregister, srcSubregister};
+ghost use Rattle.paper.specs.Region.{strideOf, dstSize, srcSize, elementAt};
+ghost use Rattle.paper.specs.Legal.{srcShapeBroken, shapeBroken, unaligned, alignmentBroken, tooFar, reachBroken};
+ghost use Rattle.judge.specs.Rules.{operandTest, srcFar, dstFar};
+ghost use Rattle.words.specs.Operations.{plainIs};
+ghost use Rattle.words.specs.Words.{toWord, sourceIs};
+
+// The destination is not null and breaks a rule; or a source does that is read from registers.
+pub fn some_operand(p: Plain, w: Word, dst: bool, first: bool, second: bool) -> bool
+    ensures { λ r. ⌜ r ≡ operandTest (plainIs p) (toWord w) dst first second ⌝ }
+{
+    let one = both(negated(is_immediate(Source::First, w)), first);
+    let two = both(negated(is_immediate(Source::Second, w)), second);
+    either(both(negated(is_null(w)), dst), any_source(p, one, two))
+}
+
+// ---- 9
+
+// A stride or width code is undefined, or ExecSize lies under Width.
+pub fn src_shape_broken(x: Source, w: Word) -> bool
+    ensures { λ r. ⌜ r ≡ srcShapeBroken (toWord w) (sourceIs x) ⌝ }
+{
+    let width = src_width(x, w);
+    either(6 < src_vert_stride(x, w), either(4 < width, exec_size(w) < width))
+}
+
+pub fn shape_broken(p: Plain, w: Word) -> bool
+    ensures { λ r. ⌜ r ≡ shapeBroken (plainIs p) (toWord w) ⌝ }
+{
+    let first = src_shape_broken(Source::First, w);
+    let second = src_shape_broken(Source::Second, w);
+    some_operand(p, w, dst_stride(w) == 0, first, second)
+}
+
+// ---- 10
+
+// The element size of a type.
+pub fn size_of(kind: u64) -> u64
+    ensures { λ r. ⌜ (r ≡ sizeOf kind) × (0 < r) × (r ≤ 4) ⌝ }
+{
+    if kind < 2 {
+        return 4;
+    }
+    if kind < 4 {
+        return 2;
+    }
+    1
+}
+
+// A subregister is no multiple of the element size.
+pub fn is_unaligned(subregister: u64, size: u64) -> bool
+    requires { ⌜ 0 < size ⌝ }
+    ensures { λ r. ⌜ r ≡ unaligned subregister size ⌝ }
+{
+    negated(subregister % size == 0)
+}
+
+// The destination's is none.
+pub fn dst_unaligned(w: Word) -> bool
+    ensures { λ r. ⌜ r ≡ unaligned (dstSubregister (toWord w)) (dstSize (toWord w)) ⌝ }
+{
+    is_unaligned(dst_subregister(w), size_of(dst_type(w)))
+}
+
+// A source's is none.
+pub fn src_unaligned(x: Source, w: Word) -> bool
+    ensures { λ r. ⌜ r ≡ unaligned (srcSubregister (sourceIs x) (toWord w)) (srcSize (sourceIs x) (toWord w)) ⌝ }
+{
+    is_unaligned(src_subregister(x, w), size_of(src_type(x, w)))
+}
+
+pub fn alignment_broken(p: Plain, w: Word) -> bool
+    ensures { λ r. ⌜ r ≡ alignmentBroken (plainIs p) (toWord w) ⌝ }
+{
+    let first = src_unaligned(Source::First, w);
+    let second = src_unaligned(Source::Second, w);
+    some_operand(p, w, dst_unaligned(w), first, second)
+}
+
+// ---- 11
+
+// Stride codes 0, 1, 2, … mean 0, 1, 2, 4, ….
+pub fn stride_of(code: u64) -> u64
+    requires { ⌜ code ≤ 15 ⌝ }
+    ensures { λ r. ⌜ (r ≡ strideOf code) × (r ≤ 16384) ⌝ }
+{
+    (1 << code) >> 1
+}
+
+// The first and the last byte lie in registers more than one apart, or past r127.
+pub fn too_far(origin: u64, element: u64, size: u64) -> bool
+    requires { ⌜ (origin ≤ 8192) × (element ≤ 4294967296) × (0 < size) × (size ≤ 4) ⌝ }
+    ensures { λ r. ⌜ r ≡ tooFar origin element size ⌝ }
+{
+    let last = element + size - 1;
+    either(origin / 32 + 1 < last / 32, 4096 <= last)
+}
