@@ -4,3 +4,4 @@ pub mod traits;
 pub mod served;
 pub mod operands;
 pub mod regions;
+pub mod refusal;

@@ -5,9 +5,11 @@ use words::fields::{Source, pred_ctrl, src_type, src_modifier, is_immediate, low
 use crate::logic::{both, either, negated};
 use crate::traits::{reads_two, any_source, takes_modifiers};
 ghost use mathlib.Core.Path.{_≡_};
-ghost use Rattle.paper.specs.Word.{src0, src1};
+ghost use mathlib.Core.Bool.{_&&_};
+ghost use Rattle.paper.specs.Word.{src0, src1, isImmediate};
 ghost use Rattle.paper.specs.Operation.{mul, shr, sel};
 ghost use Rattle.paper.specs.Legal.{unequalHalves, badModifier, ownRuleBroken, operandRuleBroken};
+ghost use Rattle.judge.specs.Sources.{readsTwo, anySource};
 ghost use Rattle.words.specs.Operations.{plainIs};
 ghost use Rattle.words.specs.Words.{toWord, sourceIs};
 
@@ -77,12 +79,31 @@ pub fn own_rule_broken(p: Plain, w: Word) -> bool
     }
 }
 
+// An immediate stands elsewhere than as last source.
+pub fn is_misplaced(p: Plain, w: Word) -> bool
+    ensures { λ r. ⌜ r ≡ (readsTwo (plainIs p) && isImmediate src0 (toWord w)) ⌝ }
+{
+    both(reads_two(p), is_immediate(Source::First, w))
+}
+
+// Halves differ in a source that is read.
+pub fn halves_broken(p: Plain, w: Word) -> bool
+    ensures { λ r. ⌜ r ≡ anySource (plainIs p) (unequalHalves (toWord w) src0) (unequalHalves (toWord w) src1) ⌝ }
+{
+    any_source(p, unequal_halves(Source::First, w), unequal_halves(Source::Second, w))
+}
+
+// A modifier is too many in a source that is read.
+pub fn modifiers_broken(p: Plain, w: Word) -> bool
+    ensures { λ r. ⌜ r ≡ anySource (plainIs p) (badModifier (plainIs p) (toWord w) src0) (badModifier (plainIs p) (toWord w) src1) ⌝ }
+{
+    any_source(p, bad_first_modifier(p, w), bad_second_modifier(p, w))
+}
+
 // 8: an immediate that is not last, halves that differ, a modifier too many, or an operation's own rule.
 pub fn operand_rule_broken(p: Plain, w: Word) -> bool
     ensures { λ r. ⌜ r ≡ operandRuleBroken (plainIs p) (toWord w) ⌝ }
 {
-    let misplaced = both(reads_two(p), is_immediate(Source::First, w));
-    let halves = any_source(p, unequal_halves(Source::First, w), unequal_halves(Source::Second, w));
-    let modifiers = any_source(p, bad_first_modifier(p, w), bad_second_modifier(p, w));
-    either(misplaced, either(halves, either(modifiers, own_rule_broken(p, w))))
+    let own = own_rule_broken(p, w);
+    either(is_misplaced(p, w), either(halves_broken(p, w), either(modifiers_broken(p, w), own)))
 }

@@ -7,11 +7,11 @@ use crate::logic::{both, either, negated};
 use crate::traits::any_source;
 use crate::served::is_null;
 ghost use mathlib.Core.Path.{_≡_};
-ghost use Prim.Native.Nat.{_<_, _≤_, _+_, _^_};
+ghost use Prim.Native.Nat.{_<_, _≤_, _+_, _*_, _/_, _%_};
 ghost use Rattle.paper.specs.Value.{sizeOf};
 ghost use Rattle.paper.specs.Word.{dstSubregister, srcSubregister};
-ghost use Rattle.paper.specs.Region.{strideOf, dstSize, srcSize, elementAt};
-ghost use Rattle.paper.specs.Legal.{srcShapeBroken, shapeBroken, unaligned, alignmentBroken, tooFar, reachBroken};
+ghost use Rattle.paper.specs.Region.{countOf, strideOf, dstSize, srcSize, elementAt};
+ghost use Rattle.paper.specs.Legal.{srcShapeBroken, shapeBroken, unaligned, alignmentBroken, tooFar, lastChannel, reachBroken};
 ghost use Rattle.judge.specs.Rules.{operandTest, srcFar, dstFar};
 ghost use Rattle.words.specs.Operations.{plainIs};
 ghost use Rattle.words.specs.Words.{toWord, sourceIs};
@@ -92,17 +92,69 @@ pub fn alignment_broken(p: Plain, w: Word) -> bool
 
 // Stride codes 0, 1, 2, … mean 0, 1, 2, 4, ….
 pub fn stride_of(code: u64) -> u64
-    requires { ⌜ code ≤ 15 ⌝ }
-    ensures { λ r. ⌜ (r ≡ strideOf code) × (r ≤ 16384) ⌝ }
+    requires { ⌜ code < 16 ⌝ }
+    ensures { λ r. ⌜ (r ≡ strideOf code) × (r < 32768) ⌝ }
 {
     (1 << code) >> 1
 }
 
+// Size and width codes mean powers of 2.
+pub fn count_of(code: u64) -> u64
+    requires { ⌜ code < 8 ⌝ }
+    ensures { λ r. ⌜ (r ≡ countOf code) × (0 < r) × (r ≤ 128) ⌝ }
+{
+    1 << code
+}
+
+// The number of the last channel.
+pub fn last_channel(w: Word) -> u64
+    ensures { λ r. ⌜ (r ≡ lastChannel (toWord w)) × (r < 128) ⌝ }
+{
+    count_of(exec_size(w)) - 1
+}
+
+// How far channel n's element lies from the region's origin.
+pub fn offset_of(vert: u64, wide: u64, horz: u64, size: u64, n: u64) -> u64
+    requires { ⌜ (vert < 32768) × (0 < wide) × (horz < 32768) × (size ≤ 4) × (n < 128) ⌝ }
+    ensures { λ r. ⌜ (r ≡ (n / wide * vert + n % wide * horz) * size) × (r < 67108864) ⌝ }
+{
+    (n / wide * vert + n % wide * horz) * size
+}
+
 // The first and the last byte lie in registers more than one apart, or past r127.
 pub fn too_far(origin: u64, element: u64, size: u64) -> bool
-    requires { ⌜ (origin ≤ 8192) × (element ≤ 4294967296) × (0 < size) × (size ≤ 4) ⌝ }
+    requires { ⌜ (origin < 16384) × (element < 134217728) × (0 < size) × (size ≤ 4) ⌝ }
     ensures { λ r. ⌜ r ≡ tooFar origin element size ⌝ }
 {
     let last = element + size - 1;
     either(origin / 32 + 1 < last / 32, 4096 <= last)
+}
+
+// A source reaches too far.
+pub fn src_far(x: Source, w: Word) -> bool
+    ensures { λ r. ⌜ r ≡ srcFar (sourceIs x) (toWord w) ⌝ }
+{
+    let origin = src_register(x, w) * 32 + src_subregister(x, w);
+    let size = size_of(src_type(x, w));
+    let vert = stride_of(src_vert_stride(x, w));
+    let wide = count_of(src_width(x, w));
+    let horz = stride_of(src_horz_stride(x, w));
+    let element = origin + offset_of(vert, wide, horz, size, last_channel(w));
+    too_far(origin, element, size)
+}
+
+// The destination does.
+pub fn dst_far(w: Word) -> bool
+    ensures { λ r. ⌜ r ≡ dstFar (toWord w) ⌝ }
+{
+    let origin = dst_register(w) * 32 + dst_subregister(w);
+    let size = size_of(dst_type(w));
+    let element = origin + last_channel(w) * stride_of(dst_stride(w)) * size;
+    too_far(origin, element, size)
+}
+
+pub fn reach_broken(p: Plain, w: Word) -> bool
+    ensures { λ r. ⌜ r ≡ reachBroken (plainIs p) (toWord w) ⌝ }
+{
+    some_operand(p, w, dst_far(w), src_far(Source::First, w), src_far(Source::Second, w))
 }

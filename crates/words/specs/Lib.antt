@@ -4,3 +4,6 @@ pub mod Words
 pub mod Bytes
 pub mod Fields
 pub mod Ranges
+pub mod Shorter
+pub mod Wrote
+pub mod Meaning

@@ -1,5 +1,5 @@
 // The dictionary, lent as 512 bytes: its 128 numbers, and rule 2.
-use crate::bytes::{read4};
+use crate::bytes::read4;
 ghost use mathlib.Core.Path.{_≡_};
 ghost use Prim.Native.Nat.{_<_, _^_};
 ghost use lib.ListN.{length};

@@ -1,9 +1,11 @@
 // The fields of a word that are judged or executed, one function a field.
 use crate::bytes::Word;
-use crate::operation::{Operation, operation_of};
+use crate::operation::Operation;
+use crate::operation::operation_of;
 ghost use mathlib.Core.Path.{_≡_};
 ghost use Prim.Native.Nat.{_+_, _<_, _≤_, _^_};
 ghost use Rattle.paper.specs.Bits.{bits};
+ghost use Rattle.paper.specs.Expand.{isShort};
 ghost use Rattle.paper.specs.Operation.{operation};
 ghost use Rattle.paper.specs.Word.{accWrCtrl, accessMode, cmptCtrl, condModifier, dstAddrMode, dstFile, dstRegister, dstStride, dstSubregister, dstType, execSize, flagChoice, immediate, immediateForm, isImmediate, opcode, predCtrl, predInv, qtrCtrl, saturate, shiftOf, srcAddrMode, srcFile, srcHorzStride, srcModifier, srcRegister, srcSubregister, srcType, srcVertStride, srcWidth, weCtrl};
 ghost use Rattle.words.specs.Operations.{operationIs};
@@ -341,6 +343,13 @@ pub fn long_distance(w: Word) -> u64
 }
 
 // ---- operations
+
+// The number, or the word whose low half it is, is marked as short.
+pub fn is_short(s: u64) -> bool
+    ensures { λ r. ⌜ r ≡ isShort s ⌝ }
+{
+    part(s, 29, 1) == 1
+}
 
 // The operation of a number, of which the low seven bits are the opcode.
 pub fn operation_in(s: u64) -> Operation

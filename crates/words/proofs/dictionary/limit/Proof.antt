@@ -1,26 +1,21 @@
-use Rattle.paper.specs.Dictionary.{tableWidth}
+-- The tests are those of `tableWidth`, in its order. Assumes nothing.
 use borrow.Author.Tests.{lt-ltb, le-ltb}
+use Rattle.paper.specs.Dictionary.{tableWidth}
 use Rattle.words.proofs.dictionary.limit.Statement.{statement}
 use Rattle.words.proofs.dictionary.limit.Tie as tie
-use Rattle.words.proofs.dictionary.limit.Reads as reads
-use Rattle.words.proofs.dictionary.limit.Lts as lts
 
--- src/dictionary.rt:22:9
 returns : tie.Need-returns
 unfolding tableWidth
 returns c = simp (lt-ltb _ _ (c .if1 .taken))
 
--- src/dictionary.rt:25:9
 returns-2 : tie.Need-returns-2
 unfolding tableWidth
 returns-2 c = simp (le-ltb _ _ (c .before .if1 .left), lt-ltb _ _ (c .if2 .taken))
 
--- src/dictionary.rt:28:9
 returns-3 : tie.Need-returns-3
 unfolding tableWidth
 returns-3 c = simp (le-ltb _ _ (c .before .before .if1 .left), le-ltb _ _ (c .before .if2 .left), lt-ltb _ _ (c .if3 .taken))
 
--- src/dictionary.rt:18:1
 returns-4 : tie.Need-returns-4
 unfolding tableWidth
 returns-4 c = simp (le-ltb _ _ (c .before .before .if1 .left), le-ltb _ _ (c .before .if2 .left), le-ltb _ _ (c .if3 .left))

@@ -1,26 +1,20 @@
-use Rattle.paper.specs.Word.{immediateForm}
+-- The two tests are those of `immediateForm`. Assumes nothing.
 use borrow.Author.Tests.{eq-eqb, ne-eqb}
 use borrow.Author.Needs.{needs}
+use Rattle.paper.specs.Word.{immediateForm}
 use Rattle.words.proofs.fields.form_of.Statement.{statement}
 use Rattle.words.proofs.fields.form_of.Tie as tie
-use Rattle.words.proofs.fields.form_of.Reads as reads
-use Rattle.words.proofs.fields.form_of.Lts as lts
-use Rattle.words.proofs.fields.part.Reads as part-reads
 
--- src/fields.rt:272:8
 part-requires : tie.Need-part-requires
 part-requires c κs = search needs
 
--- src/fields.rt:273:9
 returns : tie.Need-returns
 unfolding immediateForm
 returns c = simp (← (c .before .part .ensures .0), eq-eqb _ _ (c .if1 .taken))
 
--- src/fields.rt:275:5
 part-requires-2 : tie.Need-part-requires-2
 part-requires-2 c κs = search needs
 
--- src/fields.rt:269:1
 returns-2 : tie.Need-returns-2
 unfolding immediateForm
 returns-2 c = simp (← (c .before .before .part .ensures .0), ← (c .part2 .ensures .0), ne-eqb _ _ (c .before .if1 .left))

@@ -1,17 +1,13 @@
-use Rattle.laws.specs.Bits.{bits-high}
+-- A field above bit 64 is one of the high half. Assumes nothing.
 use mathlib.Core.Path.{sym, _∙_}
 use borrow.Author.Needs.{needs}
+use Rattle.laws.specs.Bits.{bits-high}
 use Rattle.words.proofs.fields.high.Statement.{statement}
 use Rattle.words.proofs.fields.high.Tie as tie
-use Rattle.words.proofs.fields.high.Reads as reads
-use Rattle.words.proofs.fields.high.Lts as lts
-use Rattle.words.proofs.fields.part.Reads as part-reads
 
--- src/fields.rt:41:5
 part-requires : tie.Need-part-requires
 part-requires c κs = search needs
 
--- src/fields.rt:37:1
 returns : tie.Need-returns
 returns c = (c .part .ensures .0 ∙ sym (bits-high 64 (c .before .args .k) (c .before .args .n) (c .before .args .w .hi) (search needs)), c .part .ensures .1)
 

@@ -1,37 +1,27 @@
+-- The second source's fields stand 32 bits above the first's. Assumes nothing.
 use native.Mathlib.Nat.{add-zero, add-assoc}
-use Prim.Native.Nat.{_+_}
 use borrow.Author.Needs.{needs}
 use Rattle.words.proofs.fields.of_source.Statement.{statement}
 use Rattle.words.proofs.fields.of_source.Tie as tie
-use Rattle.words.proofs.fields.of_source.Reads as reads
-use Rattle.words.proofs.fields.of_source.Lts as lts
-use Rattle.words.proofs.fields.high.Reads as high-reads
 
--- src/fields.rt:50:26
 enum-told : tie.Need-enum-told
 enum-told c = search needs
 
--- src/fields.rt:50:26
 high-requires : tie.Need-high-requires
 high-requires c κs = search needs
 
--- src/fields.rt:51:35
 enum-told-2 : tie.Need-enum-told-2
 enum-told-2 c = search needs
 
--- src/fields.rt:51:35
 add-high : tie.Need-add-high
 add-high c = search needs
 
--- src/fields.rt:51:27
 high-requires-2 : tie.Need-high-requires-2
 high-requires-2 c κs = search needs
 
--- src/fields.rt:45:1
 returns : tie.Need-returns
 returns c = rw (c .before .enum-told .given .1, add-zero) (c .high .ensures)
 
--- src/fields.rt:45:1
 returns-2 : tie.Need-returns-2
 returns-2 c = rw (c .before .enum-told2 .given .1, add-assoc) (c .high2 .ensures)
 
