@@ -1,9 +1,19 @@
 // Rule 8: the operands that an operation takes.
+use crate::logic::both;
+use crate::logic::either;
+use crate::logic::negated;
+use crate::traits::any_source;
+use crate::traits::reads_two;
+use crate::traits::takes_modifiers;
 use words::bytes::Word;
+use words::fields::Source;
+use words::fields::high_half;
+use words::fields::is_immediate;
+use words::fields::low_half;
+use words::fields::pred_ctrl;
+use words::fields::src_modifier;
+use words::fields::src_type;
 use words::operation::Plain;
-use words::fields::{Source, pred_ctrl, src_type, src_modifier, is_immediate, low_half, high_half};
-use crate::logic::{both, either, negated};
-use crate::traits::{reads_two, any_source, takes_modifiers};
 ghost use mathlib.Core.Path.{_≡_};
 ghost use mathlib.Core.Bool.{_&&_};
 ghost use Rattle.paper.specs.Word.{src0, src1, isImmediate};
@@ -26,7 +36,10 @@ pub fn bad_first_modifier(p: Plain, w: Word) -> bool
     ensures { λ r. ⌜ r ≡ badModifier (plainIs p) (toWord w) src0 ⌝ }
 {
     let some = negated(src_modifier(Source::First, w) == 0);
-    both(either(is_immediate(Source::First, w), negated(takes_modifiers(p))), some)
+    both(
+        either(is_immediate(Source::First, w), negated(takes_modifiers(p))),
+        some,
+    )
 }
 
 // The same on src1, which has none as an immediate.
@@ -34,14 +47,23 @@ pub fn bad_second_modifier(p: Plain, w: Word) -> bool
     ensures { λ r. ⌜ r ≡ badModifier (plainIs p) (toWord w) src1 ⌝ }
 {
     let some = negated(src_modifier(Source::Second, w) == 0);
-    both(both(negated(is_immediate(Source::Second, w)), negated(takes_modifiers(p))), some)
+    both(
+        both(
+            negated(is_immediate(Source::Second, w)),
+            negated(takes_modifiers(p)),
+        ),
+        some,
+    )
 }
 
 // A source is a dword.
 pub fn takes_dwords(w: Word) -> bool
     ensures { λ r. ⌜ r ≡ ownRuleBroken mul (toWord w) ⌝ }
 {
-    either(src_type(Source::First, w) < 2, src_type(Source::Second, w) < 2)
+    either(
+        src_type(Source::First, w) < 2,
+        src_type(Source::Second, w) < 2,
+    )
 }
 
 // src0 is signed.
@@ -90,7 +112,11 @@ pub fn is_misplaced(p: Plain, w: Word) -> bool
 pub fn halves_broken(p: Plain, w: Word) -> bool
     ensures { λ r. ⌜ r ≡ anySource (plainIs p) (unequalHalves (toWord w) src0) (unequalHalves (toWord w) src1) ⌝ }
 {
-    any_source(p, unequal_halves(Source::First, w), unequal_halves(Source::Second, w))
+    any_source(
+        p,
+        unequal_halves(Source::First, w),
+        unequal_halves(Source::Second, w),
+    )
 }
 
 // A modifier is too many in a source that is read.
@@ -105,5 +131,8 @@ pub fn operand_rule_broken(p: Plain, w: Word) -> bool
     ensures { λ r. ⌜ r ≡ operandRuleBroken (plainIs p) (toWord w) ⌝ }
 {
     let own = own_rule_broken(p, w);
-    either(is_misplaced(p, w), either(halves_broken(p, w), either(modifiers_broken(p, w), own)))
+    either(
+        is_misplaced(p, w),
+        either(halves_broken(p, w), either(modifiers_broken(p, w), own)),
+    )
 }

@@ -1,15 +1,21 @@
 // The six rules in the table's order.
-use words::bytes::Word;
-use words::operation::{Plain, Branch, Operation};
-use words::fields::operation;
-use crate::served::{reserved_set, plain_served, branch_served};
 use crate::operands::operand_rule_broken;
-use crate::regions::{shape_broken, alignment_broken, reach_broken};
+use crate::regions::alignment_broken;
+use crate::regions::reach_broken;
+use crate::regions::shape_broken;
+use crate::served::branch_served;
+use crate::served::plain_served;
+use crate::served::reserved_set;
+use words::bytes::Word;
+use words::fields::operation;
+use words::operation::Branch;
+use words::operation::Operation;
+use words::operation::Plain;
 ghost use mathlib.Core.Path.{_≡_};
 ghost use Prim.Native.Nat.{_<_};
 ghost use Rattle.paper.specs.Operation.{plain, branch};
 ghost use Rattle.paper.specs.Legal.{later, refusalOf};
-ghost use Rattle.words.specs.Operations.{plainIs, branchIs};
+ghost use Rattle.words.specs.Operations.{plainIs, branchIs, operationIs};
 ghost use Rattle.words.specs.Words.{toWord};
 ghost use Rattle.judge.specs.Verdicts.{numberOf};
 
@@ -50,7 +56,23 @@ pub fn judge_plain(p: Plain, w: Word) -> Broken
 pub fn judge_branch(b: Branch, w: Word) -> Broken
     ensures { λ r. ⌜ numberOf r ≡ later (branch (branchIs b)) (toWord w) ⌝ }
 {
-    if branch_served(b, w) { Broken::Nothing } else { Broken::Field }
+    if branch_served(b, w) {
+        Broken::Nothing
+    } else {
+        Broken::Field
+    }
+}
+
+// 7 to 11: only nop skips them all. What is not listed never comes this far.
+pub fn judge_operation(o: Operation, w: Word) -> Broken
+    ensures { λ r. ⌜ numberOf r ≡ later (operationIs o) (toWord w) ⌝ }
+{
+    match o {
+        Operation::Makes(p) => judge_plain(p, w),
+        Operation::Nop => Broken::Nothing,
+        Operation::Jumps(b) => judge_branch(b, w),
+        Operation::Unlisted => Broken::Nothing,
+    }
 }
 
 // 6 to 11 of an expanded word: the first rule that it breaks.
@@ -60,12 +82,7 @@ pub fn judge(w: Word) -> Broken
     if reserved_set(w) {
         return Broken::Reserved;
     }
-    match operation(w) {
-        Operation::Makes(p) => judge_plain(p, w),
-        Operation::Nop => Broken::Nothing,
-        Operation::Jumps(b) => judge_branch(b, w),
-        Operation::Unlisted => Broken::Nothing,
-    }
+    judge_operation(operation(w), w)
 }
 
 // The refusal's number, 0 for none.

@@ -1,18 +1,31 @@
 // Rules 9, 10 and 11: the register operands' shapes, alignment and reach.
-use words::bytes::Word;
-use words::operation::Plain;
-use words::fields::{Source, exec_size, dst_type, dst_subregister, dst_register, dst_stride, is_immediate};
-use words::fields::{src_type, src_subregister, src_register, src_horz_stride, src_width, src_vert_stride};
-use crate::logic::{both, either, negated};
-use crate::traits::any_source;
+use crate::logic::both;
+use crate::logic::either;
+use crate::logic::negated;
 use crate::served::is_null;
+use crate::traits::any_source;
+use words::bytes::Word;
+use words::fields::Source;
+use words::fields::dst_register;
+use words::fields::dst_stride;
+use words::fields::dst_subregister;
+use words::fields::dst_type;
+use words::fields::exec_size;
+use words::fields::is_immediate;
+use words::fields::src_horz_stride;
+use words::fields::src_register;
+use words::fields::src_subregister;
+use words::fields::src_type;
+use words::fields::src_vert_stride;
+use words::fields::src_width;
+use words::operation::Plain;
 ghost use mathlib.Core.Path.{_≡_};
 ghost use Prim.Native.Nat.{_<_, _≤_, _+_, _*_, _/_, _%_};
 ghost use Rattle.paper.specs.Value.{sizeOf};
 ghost use Rattle.paper.specs.Word.{dstSubregister, srcSubregister};
-ghost use Rattle.paper.specs.Region.{countOf, strideOf, dstSize, srcSize, elementAt};
+ghost use Rattle.paper.specs.Region.{countOf, strideOf, dstSize, srcOrigin, srcSize};
 ghost use Rattle.paper.specs.Legal.{srcShapeBroken, shapeBroken, unaligned, alignmentBroken, tooFar, lastChannel, reachBroken};
-ghost use Rattle.judge.specs.Rules.{operandTest, srcFar, dstFar};
+ghost use Rattle.judge.specs.Rules.{operandTest, srcOffset, srcFar, dstFar};
 ghost use Rattle.words.specs.Operations.{plainIs};
 ghost use Rattle.words.specs.Words.{toWord, sourceIs};
 
@@ -32,7 +45,10 @@ pub fn src_shape_broken(x: Source, w: Word) -> bool
     ensures { λ r. ⌜ r ≡ srcShapeBroken (toWord w) (sourceIs x) ⌝ }
 {
     let width = src_width(x, w);
-    either(6 < src_vert_stride(x, w), either(4 < width, exec_size(w) < width))
+    either(
+        6 < src_vert_stride(x, w),
+        either(4 < width, exec_size(w) < width),
+    )
 }
 
 pub fn shape_broken(p: Plain, w: Word) -> bool
@@ -77,7 +93,7 @@ pub fn dst_unaligned(w: Word) -> bool
 pub fn src_unaligned(x: Source, w: Word) -> bool
     ensures { λ r. ⌜ r ≡ unaligned (srcSubregister (sourceIs x) (toWord w)) (srcSize (sourceIs x) (toWord w)) ⌝ }
 {
-    is_unaligned(src_subregister(x, w), size_of(src_type(x, w)))
+    is_unaligned(src_subregister(x, w), src_size(x, w))
 }
 
 pub fn alignment_broken(p: Plain, w: Word) -> bool
@@ -130,17 +146,36 @@ pub fn too_far(origin: u64, element: u64, size: u64) -> bool
     either(origin / 32 + 1 < last / 32, 4096 <= last)
 }
 
+// Where a source's region begins.
+pub fn src_origin(x: Source, w: Word) -> u64
+    ensures { λ r. ⌜ (r ≡ srcOrigin (sourceIs x) (toWord w)) × (r < 8192) ⌝ }
+{
+    src_register(x, w) * 32 + src_subregister(x, w)
+}
+
+// The size of a source's elements.
+pub fn src_size(x: Source, w: Word) -> u64
+    ensures { λ r. ⌜ (r ≡ srcSize (sourceIs x) (toWord w)) × (0 < r) × (r ≤ 4) ⌝ }
+{
+    size_of(src_type(x, w))
+}
+
+// How far a source's last element lies from its origin.
+pub fn src_offset(x: Source, w: Word) -> u64
+    ensures { λ r. ⌜ (r ≡ srcOffset (sourceIs x) (toWord w)) × (r < 67108864) ⌝ }
+{
+    let vert = stride_of(src_vert_stride(x, w));
+    let wide = count_of(src_width(x, w));
+    let horz = stride_of(src_horz_stride(x, w));
+    offset_of(vert, wide, horz, src_size(x, w), last_channel(w))
+}
+
 // A source reaches too far.
 pub fn src_far(x: Source, w: Word) -> bool
     ensures { λ r. ⌜ r ≡ srcFar (sourceIs x) (toWord w) ⌝ }
 {
-    let origin = src_register(x, w) * 32 + src_subregister(x, w);
-    let size = size_of(src_type(x, w));
-    let vert = stride_of(src_vert_stride(x, w));
-    let wide = count_of(src_width(x, w));
-    let horz = stride_of(src_horz_stride(x, w));
-    let element = origin + offset_of(vert, wide, horz, size, last_channel(w));
-    too_far(origin, element, size)
+    let origin = src_origin(x, w);
+    too_far(origin, origin + src_offset(x, w), src_size(x, w))
 }
 
 // The destination does.
@@ -156,5 +191,11 @@ pub fn dst_far(w: Word) -> bool
 pub fn reach_broken(p: Plain, w: Word) -> bool
     ensures { λ r. ⌜ r ≡ reachBroken (plainIs p) (toWord w) ⌝ }
 {
-    some_operand(p, w, dst_far(w), src_far(Source::First, w), src_far(Source::Second, w))
+    some_operand(
+        p,
+        w,
+        dst_far(w),
+        src_far(Source::First, w),
+        src_far(Source::Second, w),
+    )
 }

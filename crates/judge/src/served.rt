@@ -1,11 +1,38 @@
 // Rules 6 and 7: reserved bits, and the fields that are served.
+use crate::logic::both;
+use crate::logic::chosen;
+use crate::logic::either;
+use crate::logic::negated;
+use crate::traits::any_source;
+use crate::traits::compares;
+use crate::traits::saturates;
 use words::bytes::Word;
-use words::operation::{Plain, Branch, is_branch};
-use words::fields::{Source, access_mode, acc_wr_ctrl, exec_size, qtr_ctrl, we_ctrl, pred_ctrl, cond_modifier, saturate};
-use words::fields::{dst_file, dst_register, dst_addr_mode, dst_type, src_file, src_addr_mode, src_type, is_immediate, immediate_form};
-use words::fields::{bit_7, bit_47, bits_90, bits_121, operation};
-use crate::logic::{both, either, negated, chosen};
-use crate::traits::{any_source, saturates, compares};
+use words::fields::Source;
+use words::fields::acc_wr_ctrl;
+use words::fields::access_mode;
+use words::fields::bit_7;
+use words::fields::bit_47;
+use words::fields::bits_90;
+use words::fields::bits_121;
+use words::fields::cond_modifier;
+use words::fields::dst_addr_mode;
+use words::fields::dst_file;
+use words::fields::dst_register;
+use words::fields::dst_type;
+use words::fields::exec_size;
+use words::fields::immediate_form;
+use words::fields::is_immediate;
+use words::fields::operation;
+use words::fields::pred_ctrl;
+use words::fields::qtr_ctrl;
+use words::fields::saturate;
+use words::fields::src_addr_mode;
+use words::fields::src_file;
+use words::fields::src_type;
+use words::fields::we_ctrl;
+use words::operation::Branch;
+use words::operation::Plain;
+use words::operation::is_branch;
 ghost use mathlib.Core.Path.{_≡_};
 ghost use Rattle.paper.specs.Operation.{jmpi};
 ghost use Rattle.paper.specs.Legal.{reservedSet, quarterServed, conditionServed, controlServed, isNull, dstServed, srcServed, plainServed, structured, ownNeeds, branchServed};
@@ -36,7 +63,11 @@ pub fn quarter_served(w: Word) -> bool
 pub fn condition_served(comparing: bool, code: u64) -> bool
     ensures { λ r. ⌜ r ≡ conditionServed comparing code ⌝ }
 {
-    if comparing { both(1 <= code, code <= 6) } else { code == 0 }
+    if comparing {
+        both(1 <= code, code <= 6)
+    } else {
+        code == 0
+    }
 }
 
 // The control fields that every operation but nop is judged by.
@@ -72,7 +103,10 @@ pub fn src_served(x: Source, w: Word) -> bool
     ensures { λ r. ⌜ r ≡ srcServed (toWord w) (sourceIs x) ⌝ }
 {
     let kind = src_type(x, w);
-    let direct = both(src_file(x, w) == 1, both(src_addr_mode(x, w) == 0, kind <= 5));
+    let direct = both(
+        src_file(x, w) == 1,
+        both(src_addr_mode(x, w) == 0, kind <= 5),
+    );
     chosen(is_immediate(x, w), kind <= 3, direct)
 }
 
@@ -99,7 +133,13 @@ pub fn structured(w: Word) -> bool
 pub fn jumping(w: Word) -> bool
     ensures { λ r. ⌜ r ≡ ownNeeds jmpi (toWord w) ⌝ }
 {
-    both(exec_size(w) == 0, both(is_immediate(Source::Second, w), src_type(Source::Second, w) == 1))
+    both(
+        exec_size(w) == 0,
+        both(
+            is_immediate(Source::Second, w),
+            src_type(Source::Second, w) == 1,
+        ),
+    )
 }
 
 // What a branch needs of its own.

@@ -1,6 +1,7 @@
 // What the rules ask of an operation.
+use crate::logic::both;
+use crate::logic::either;
 use words::operation::Plain;
-use crate::logic::{both, either};
 ghost use mathlib.Core.Path.{_≡_};
 ghost use Rattle.paper.specs.Operation.{traits};
 ghost use Rattle.judge.specs.Sources.{readsTwo, anySource};

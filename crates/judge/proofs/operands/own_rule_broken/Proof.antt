@@ -1,134 +1,98 @@
+-- The parts are the definition's parts, in its order. Assumes nothing.
 use borrow.Author.Needs.{needs}
 use Rattle.judge.proofs.operands.own_rule_broken.Statement.{statement}
 use Rattle.judge.proofs.operands.own_rule_broken.Tie as tie
-use Rattle.judge.proofs.operands.own_rule_broken.Reads as reads
-use Rattle.judge.proofs.operands.own_rule_broken.Lts as lts
-use Rattle.judge.proofs.logic.negated.Reads as negated-reads
-use Rattle.judge.proofs.operands.takes_dwords.Reads as takes-dwords-reads
-use Rattle.judge.proofs.operands.takes_signed.Reads as takes-signed-reads
-use Rattle.judge.proofs.operands.unpredicated.Reads as unpredicated-reads
 
--- src/operands.rt:64:23
 enum-told : tie.Need-enum-told
 enum-told c = search needs
 
--- src/operands.rt:65:23
 enum-told-2 : tie.Need-enum-told-2
 enum-told-2 c = search needs
 
--- src/operands.rt:65:23
 unpredicated-requires : tie.Need-unpredicated-requires
 unpredicated-requires c κs = search needs
 
--- src/operands.rt:66:23
 enum-told-3 : tie.Need-enum-told-3
 enum-told-3 c = search needs
 
--- src/operands.rt:67:23
 enum-told-4 : tie.Need-enum-told-4
 enum-told-4 c = search needs
 
--- src/operands.rt:68:22
 enum-told-5 : tie.Need-enum-told-5
 enum-told-5 c = search needs
 
--- src/operands.rt:69:23
 enum-told-6 : tie.Need-enum-told-6
 enum-told-6 c = search needs
 
--- src/operands.rt:70:23
 enum-told-7 : tie.Need-enum-told-7
 enum-told-7 c = search needs
 
--- src/operands.rt:70:23
 takes-signed-requires : tie.Need-takes-signed-requires
 takes-signed-requires c κs = search needs
 
--- src/operands.rt:71:23
 enum-told-8 : tie.Need-enum-told-8
 enum-told-8 c = search needs
 
--- src/operands.rt:72:31
 enum-told-9 : tie.Need-enum-told-9
 enum-told-9 c = search needs
 
--- src/operands.rt:72:31
 takes-signed-requires-2 : tie.Need-takes-signed-requires-2
 takes-signed-requires-2 c κs = search needs
 
--- src/operands.rt:72:23
 negated-requires : tie.Need-negated-requires
 negated-requires c κs = search needs
 
--- src/operands.rt:73:23
 enum-told-10 : tie.Need-enum-told-10
 enum-told-10 c = search needs
 
--- src/operands.rt:74:23
 enum-told-11 : tie.Need-enum-told-11
 enum-told-11 c = search needs
 
--- src/operands.rt:75:23
 enum-told-12 : tie.Need-enum-told-12
 enum-told-12 c = search needs
 
--- src/operands.rt:75:23
 takes-dwords-requires : tie.Need-takes-dwords-requires
 takes-dwords-requires c κs = search needs
 
--- src/operands.rt:76:23
 enum-told-13 : tie.Need-enum-told-13
 enum-told-13 c = search needs
 
--- src/operands.rt:60:1
 returns : tie.Need-returns
 returns c = search needs
 
--- src/operands.rt:60:1
 returns-2 : tie.Need-returns-2
 returns-2 c = cc
 
--- src/operands.rt:60:1
 returns-3 : tie.Need-returns-3
 returns-3 c = search needs
 
--- src/operands.rt:60:1
 returns-4 : tie.Need-returns-4
 returns-4 c = search needs
 
--- src/operands.rt:60:1
 returns-5 : tie.Need-returns-5
 returns-5 c = search needs
 
--- src/operands.rt:60:1
 returns-6 : tie.Need-returns-6
 returns-6 c = search needs
 
--- src/operands.rt:60:1
 returns-7 : tie.Need-returns-7
 returns-7 c = cc
 
--- src/operands.rt:60:1
 returns-8 : tie.Need-returns-8
 returns-8 c = search needs
 
--- src/operands.rt:60:1
 returns-9 : tie.Need-returns-9
 returns-9 c = cc
 
--- src/operands.rt:60:1
 returns-10 : tie.Need-returns-10
 returns-10 c = search needs
 
--- src/operands.rt:60:1
 returns-11 : tie.Need-returns-11
 returns-11 c = search needs
 
--- src/operands.rt:60:1
 returns-12 : tie.Need-returns-12
 returns-12 c = cc
 
--- src/operands.rt:60:1
 returns-13 : tie.Need-returns-13
 returns-13 c = search needs
 
