@@ -1,0 +1,42 @@
+-- The parts are the definition's parts, in its order. Assumes nothing.
+use Rattle.judge.specs.Rules.{operand-rule}
+use borrow.Author.Needs.{needs}
+use Rattle.judge.proofs.operands.operand_rule_broken.Statement.{statement}
+use Rattle.judge.proofs.operands.operand_rule_broken.Tie as tie
+
+own-rule-broken-requires : tie.Need-own-rule-broken-requires
+own-rule-broken-requires c κs = search needs
+
+is-misplaced-requires : tie.Need-is-misplaced-requires
+is-misplaced-requires c κs = search needs
+
+halves-broken-requires : tie.Need-halves-broken-requires
+halves-broken-requires c κs = search needs
+
+modifiers-broken-requires : tie.Need-modifiers-broken-requires
+modifiers-broken-requires c κs = search needs
+
+either-requires : tie.Need-either-requires
+either-requires c κs = search needs
+
+either-requires-2 : tie.Need-either-requires-2
+either-requires-2 c κs = search needs
+
+either-requires-3 : tie.Need-either-requires-3
+either-requires-3 c κs = search needs
+
+returns : tie.Need-returns
+returns c = rw operand-rule (cc)
+
+pub operand-rule-broken-spec : {M : Type 1} → statement M
+operand-rule-broken-spec =
+    tie.close
+    (tie.spec
+    own-rule-broken-requires
+    is-misplaced-requires
+    halves-broken-requires
+    modifiers-broken-requires
+    either-requires
+    either-requires-2
+    either-requires-3
+    returns)

@@ -1,0 +1,13 @@
+-- The parts are the definition's parts, in its order. Assumes nothing.
+use borrow.Author.Needs.{needs}
+use Rattle.judge.proofs.operands.takes_signed.Statement.{statement}
+use Rattle.judge.proofs.operands.takes_signed.Tie as tie
+
+src-type-requires : tie.Need-src-type-requires
+src-type-requires c κs = search needs
+
+returns : tie.Need-returns
+returns c = cc
+
+pub takes-signed-spec : {M : Type 1} → statement M
+takes-signed-spec = tie.close (tie.spec src-type-requires returns)

@@ -1,0 +1,41 @@
+-- The parts are the definition's parts, in its order. Assumes nothing.
+use borrow.Author.Needs.{needs}
+use Rattle.judge.proofs.operands.unequal_halves.Statement.{statement}
+use Rattle.judge.proofs.operands.unequal_halves.Tie as tie
+
+low-half-requires : tie.Need-low-half-requires
+low-half-requires c κs = search needs
+
+high-half-requires : tie.Need-high-half-requires
+high-half-requires c κs = search needs
+
+negated-requires : tie.Need-negated-requires
+negated-requires c κs = search needs
+
+is-immediate-requires : tie.Need-is-immediate-requires
+is-immediate-requires c κs = search needs
+
+src-type-requires : tie.Need-src-type-requires
+src-type-requires c κs = search needs
+
+both-requires : tie.Need-both-requires
+both-requires c κs = search needs
+
+both-requires-2 : tie.Need-both-requires-2
+both-requires-2 c κs = search needs
+
+returns : tie.Need-returns
+returns c = cc
+
+pub unequal-halves-spec : {M : Type 1} → statement M
+unequal-halves-spec =
+    tie.close
+    (tie.spec
+    low-half-requires
+    high-half-requires
+    negated-requires
+    is-immediate-requires
+    src-type-requires
+    both-requires
+    both-requires-2
+    returns)

@@ -1,0 +1,30 @@
+-- The parts are the definition's parts, in its order. Assumes nothing.
+use Rattle.judge.specs.Rules.{alignment-rule}
+use borrow.Author.Needs.{needs}
+use Rattle.judge.proofs.regions.alignment_broken.Statement.{statement}
+use Rattle.judge.proofs.regions.alignment_broken.Tie as tie
+
+src-unaligned-requires : tie.Need-src-unaligned-requires
+src-unaligned-requires c κs = search needs
+
+src-unaligned-requires-2 : tie.Need-src-unaligned-requires-2
+src-unaligned-requires-2 c κs = search needs
+
+dst-unaligned-requires : tie.Need-dst-unaligned-requires
+dst-unaligned-requires c κs = search needs
+
+some-operand-requires : tie.Need-some-operand-requires
+some-operand-requires c κs = search needs
+
+returns : tie.Need-returns
+returns c = rw alignment-rule (cc)
+
+pub alignment-broken-spec : {M : Type 1} → statement M
+alignment-broken-spec =
+    tie.close
+    (tie.spec
+    src-unaligned-requires
+    src-unaligned-requires-2
+    dst-unaligned-requires
+    some-operand-requires
+    returns)

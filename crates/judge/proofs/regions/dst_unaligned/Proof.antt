@@ -1,0 +1,29 @@
+-- The parts are the definition's parts, in its order. Assumes nothing.
+use borrow.Author.Needs.{needs}
+use Rattle.judge.proofs.regions.dst_unaligned.Statement.{statement}
+use Rattle.judge.proofs.regions.dst_unaligned.Tie as tie
+
+dst-subregister-requires : tie.Need-dst-subregister-requires
+dst-subregister-requires c κs = search needs
+
+dst-type-requires : tie.Need-dst-type-requires
+dst-type-requires c κs = search needs
+
+size-of-requires : tie.Need-size-of-requires
+size-of-requires c κs = search needs
+
+is-unaligned-requires : tie.Need-is-unaligned-requires
+is-unaligned-requires c κs = search needs
+
+returns : tie.Need-returns
+returns c = cc
+
+pub dst-unaligned-spec : {M : Type 1} → statement M
+dst-unaligned-spec =
+    tie.close
+    (tie.spec
+    dst-subregister-requires
+    dst-type-requires
+    size-of-requires
+    is-unaligned-requires
+    returns)

@@ -1,0 +1,25 @@
+-- The parts are the definition's parts, in its order. Assumes nothing.
+use Rattle.judge.specs.Rules.{reach-rule}
+use borrow.Author.Needs.{needs}
+use Rattle.judge.proofs.regions.reach_broken.Statement.{statement}
+use Rattle.judge.proofs.regions.reach_broken.Tie as tie
+
+dst-far-requires : tie.Need-dst-far-requires
+dst-far-requires c κs = search needs
+
+src-far-requires : tie.Need-src-far-requires
+src-far-requires c κs = search needs
+
+src-far-requires-2 : tie.Need-src-far-requires-2
+src-far-requires-2 c κs = search needs
+
+some-operand-requires : tie.Need-some-operand-requires
+some-operand-requires c κs = search needs
+
+returns : tie.Need-returns
+returns c = rw reach-rule (cc)
+
+pub reach-broken-spec : {M : Type 1} → statement M
+reach-broken-spec =
+    tie.close
+    (tie.spec dst-far-requires src-far-requires src-far-requires-2 some-operand-requires returns)

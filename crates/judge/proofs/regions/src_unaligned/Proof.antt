@@ -1,0 +1,20 @@
+-- The parts are the definition's parts, in its order. Assumes nothing.
+use borrow.Author.Needs.{needs}
+use Rattle.judge.proofs.regions.src_unaligned.Statement.{statement}
+use Rattle.judge.proofs.regions.src_unaligned.Tie as tie
+
+src-subregister-requires : tie.Need-src-subregister-requires
+src-subregister-requires c κs = search needs
+
+src-size-requires : tie.Need-src-size-requires
+src-size-requires c κs = search needs
+
+is-unaligned-requires : tie.Need-is-unaligned-requires
+is-unaligned-requires c κs = search needs
+
+returns : tie.Need-returns
+returns c = cc
+
+pub src-unaligned-spec : {M : Type 1} → statement M
+src-unaligned-spec =
+    tie.close (tie.spec src-subregister-requires src-size-requires is-unaligned-requires returns)

@@ -1,0 +1,43 @@
+-- The parts are the definition's parts, in its order. Assumes nothing.
+use Rattle.paper.specs.Legal.{dstServed}
+use borrow.Author.Needs.{needs}
+use Rattle.judge.proofs.served.dst_served.Statement.{statement}
+use Rattle.judge.proofs.served.dst_served.Tie as tie
+
+dst-addr-mode-requires : tie.Need-dst-addr-mode-requires
+dst-addr-mode-requires c κs = search needs
+
+dst-type-requires : tie.Need-dst-type-requires
+dst-type-requires c κs = search needs
+
+both-requires : tie.Need-both-requires
+both-requires c κs = search needs
+
+dst-file-requires : tie.Need-dst-file-requires
+dst-file-requires c κs = search needs
+
+is-null-requires : tie.Need-is-null-requires
+is-null-requires c κs = search needs
+
+either-requires : tie.Need-either-requires
+either-requires c κs = search needs
+
+both-requires-2 : tie.Need-both-requires-2
+both-requires-2 c κs = search needs
+
+returns : tie.Need-returns
+unfolding dstServed
+returns c = cc
+
+pub dst-served-spec : {M : Type 1} → statement M
+dst-served-spec =
+    tie.close
+    (tie.spec
+    dst-addr-mode-requires
+    dst-type-requires
+    both-requires
+    dst-file-requires
+    is-null-requires
+    either-requires
+    both-requires-2
+    returns)

@@ -1,0 +1,62 @@
+-- The parts are the definition's parts, in its order. Assumes nothing.
+use Rattle.judge.specs.Rules.{plain-served}
+use borrow.Author.Needs.{needs}
+use Rattle.judge.proofs.served.plain_served.Statement.{statement}
+use Rattle.judge.proofs.served.plain_served.Tie as tie
+
+src-served-requires : tie.Need-src-served-requires
+src-served-requires c κs = search needs
+
+negated-requires : tie.Need-negated-requires
+negated-requires c κs = search needs
+
+src-served-requires-2 : tie.Need-src-served-requires-2
+src-served-requires-2 c κs = search needs
+
+negated-requires-2 : tie.Need-negated-requires-2
+negated-requires-2 c κs = search needs
+
+dst-served-requires : tie.Need-dst-served-requires
+dst-served-requires c κs = search needs
+
+any-source-requires : tie.Need-any-source-requires
+any-source-requires c κs = search needs
+
+negated-requires-3 : tie.Need-negated-requires-3
+negated-requires-3 c κs = search needs
+
+both-requires : tie.Need-both-requires
+both-requires c κs = search needs
+
+compares-requires : tie.Need-compares-requires
+compares-requires c κs = search needs
+
+saturates-requires : tie.Need-saturates-requires
+saturates-requires c κs = search needs
+
+control-served-requires : tie.Need-control-served-requires
+control-served-requires c κs = search needs
+
+both-requires-2 : tie.Need-both-requires-2
+both-requires-2 c κs = search needs
+
+returns : tie.Need-returns
+returns c = rw plain-served (cc)
+
+pub plain-served-spec : {M : Type 1} → statement M
+plain-served-spec =
+    tie.close
+    (tie.spec
+    src-served-requires
+    negated-requires
+    src-served-requires-2
+    negated-requires-2
+    dst-served-requires
+    any-source-requires
+    negated-requires-3
+    both-requires
+    compares-requires
+    saturates-requires
+    control-served-requires
+    both-requires-2
+    returns)

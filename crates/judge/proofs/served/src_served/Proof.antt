@@ -1,0 +1,43 @@
+-- The parts are the definition's parts, in its order. Assumes nothing.
+use Rattle.paper.specs.Legal.{srcServed}
+use borrow.Author.Needs.{needs}
+use Rattle.judge.proofs.served.src_served.Statement.{statement}
+use Rattle.judge.proofs.served.src_served.Tie as tie
+
+src-type-requires : tie.Need-src-type-requires
+src-type-requires c κs = search needs
+
+src-file-requires : tie.Need-src-file-requires
+src-file-requires c κs = search needs
+
+src-addr-mode-requires : tie.Need-src-addr-mode-requires
+src-addr-mode-requires c κs = search needs
+
+both-requires : tie.Need-both-requires
+both-requires c κs = search needs
+
+both-requires-2 : tie.Need-both-requires-2
+both-requires-2 c κs = search needs
+
+is-immediate-requires : tie.Need-is-immediate-requires
+is-immediate-requires c κs = search needs
+
+chosen-requires : tie.Need-chosen-requires
+chosen-requires c κs = search needs
+
+returns : tie.Need-returns
+unfolding srcServed
+returns c = cc
+
+pub src-served-spec : {M : Type 1} → statement M
+src-served-spec =
+    tie.close
+    (tie.spec
+    src-type-requires
+    src-file-requires
+    src-addr-mode-requires
+    both-requires
+    both-requires-2
+    is-immediate-requires
+    chosen-requires
+    returns)

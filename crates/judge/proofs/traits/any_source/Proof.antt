@@ -1,0 +1,19 @@
+-- The parts are the definition's parts, in its order. Assumes nothing.
+use borrow.Author.Needs.{needs}
+use Rattle.judge.proofs.traits.any_source.Statement.{statement}
+use Rattle.judge.proofs.traits.any_source.Tie as tie
+
+reads-two-requires : tie.Need-reads-two-requires
+reads-two-requires c κs = search needs
+
+both-requires : tie.Need-both-requires
+both-requires c κs = search needs
+
+either-requires : tie.Need-either-requires
+either-requires c κs = search needs
+
+returns : tie.Need-returns
+returns c = cc
+
+pub any-source-spec : {M : Type 1} → statement M
+any-source-spec = tie.close (tie.spec reads-two-requires both-requires either-requires returns)

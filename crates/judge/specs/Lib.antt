@@ -1,0 +1,4 @@
+-- Laws of the rules over an operation's sources.
+pub mod Sources
+pub mod Rules
+pub mod Verdicts

@@ -1,0 +1,120 @@
+-- The rules over an operation's sources, by the first and the second source. Assumes nothing.
+use mathlib.Core.Bool.{Bool, true, false, not, cond, _&&_, _||_}
+use mathlib.Core.Path.{_≡_, refl, sym, ap, ap₂, _∙_}
+use Prim.Native.Nat.{ℕ, _+_, _-_, _*_, _/_, _%_}
+use lib.Dec.{eqb, ltb, leb}
+use Rattle.paper.specs.Word.{Source, src0, src1, dstSubregister, dstStride, srcSubregister, srcWidth, srcVertStride, srcHorzStride, isImmediate}
+use Rattle.paper.specs.Operation.{Plain, Branch, Operation, plain, nop, branch, unlisted, operation, traits, sources}
+use Rattle.paper.specs.Region.{countOf, strideOf, elementAt, dstSize, dstOrigin, dstElement, srcSize, srcOrigin, srcElement}
+use Rattle.paper.specs.Legal.{anyOf, controlServed, dstServed, srcServed, plainServed, isNull}
+use Rattle.paper.specs.Legal.{misplaced, unequalHalves, badModifier, ownRuleBroken, operandRuleBroken}
+use Rattle.paper.specs.Legal.{someOperand, srcShapeBroken, shapeBroken, unaligned, alignmentBroken, tooFar, lastChannel, reachBroken}
+use Rattle.paper.specs.Legal.{reservedSet, branchServed, later, refusalOf}
+use Rattle.judge.specs.Sources.{readsTwo, reads-two, anySource, any-source}
+
+-- 7
+pub plain-served : (p : Plain) (w : ℕ)
+    → plainServed p w
+    ≡ (controlServed (traits p .compares) (traits p .saturates) w
+    && (dstServed w && not (anySource p (not (srcServed w src0)) (not (srcServed w src1)))))
+unfolding plainServed
+plain-served p w =
+    ap (λ (b : Bool). controlServed (traits p .compares) (traits p .saturates) w && (dstServed w && not b)) (any-source p (λ x. not (srcServed w x)))
+
+-- 8
+pub operand-rule : (p : Plain) (w : ℕ)
+    → operandRuleBroken p w
+    ≡ ((readsTwo p && isImmediate src0 w)
+    || (anySource p (unequalHalves w src0) (unequalHalves w src1)
+    || (anySource p (badModifier p w src0) (badModifier p w src1)
+    || ownRuleBroken p w)))
+unfolding operandRuleBroken
+operand-rule p w =
+    ap₂ _||_ (ap (λ (b : Bool). b && isImmediate src0 w) (reads-two p))
+    (ap₂ _||_ (any-source p (unequalHalves w)) (ap (λ (b : Bool). b || ownRuleBroken p w) (any-source p (badModifier p w))))
+
+-- A rule over the register operands: the destination's test, and each source's.
+abbrev pub operandTest : Plain → ℕ → Bool → Bool → Bool → Bool
+operandTest p w dst first second =
+    (not (isNull w) && dst) || anySource p (not (isImmediate src0 w) && first) (not (isImmediate src1 w) && second)
+
+some-operand : (p : Plain) (w : ℕ) (dst : Bool) (src : Source → Bool) → someOperand p w dst src ≡ operandTest p w dst (src src0) (src src1)
+some-operand p w dst src = ap (λ (b : Bool). (not (isNull w) && dst) || b) (any-source p (λ x. not (isImmediate x w) && src x))
+
+-- 9
+pub shape-rule : (p : Plain) (w : ℕ) → shapeBroken p w ≡ operandTest p w (eqb (dstStride w) 0) (srcShapeBroken w src0) (srcShapeBroken w src1)
+unfolding shapeBroken
+shape-rule p w = some-operand p w (eqb (dstStride w) 0) (srcShapeBroken w)
+
+-- 10
+pub alignment-rule : (p : Plain) (w : ℕ)
+    → alignmentBroken p w
+    ≡ operandTest p w (unaligned (dstSubregister w) (dstSize w)) (unaligned (srcSubregister src0 w) (srcSize src0 w)) (unaligned (srcSubregister src1 w) (srcSize src1 w))
+unfolding alignmentBroken
+alignment-rule p w = some-operand p w (unaligned (dstSubregister w) (dstSize w)) (λ x. unaligned (srcSubregister x w) (srcSize x w))
+
+-- 11
+
+-- How far a source's last element lies from its origin.
+abbrev pub srcOffset : Source → ℕ → ℕ
+srcOffset x w =
+    let n = lastChannel w in
+    let wide = countOf (srcWidth x w) in
+    (n / wide * strideOf (srcVertStride x w) + n % wide * strideOf (srcHorzStride x w)) * srcSize x w
+
+pub src-element : (x : Source) (w : ℕ) → srcElement x w (lastChannel w) ≡ srcOrigin x w + srcOffset x w
+unfolding elementAt
+src-element x w = refl
+
+abbrev pub srcFar : Source → ℕ → Bool
+srcFar x w = tooFar (srcOrigin x w) (srcElement x w (lastChannel w)) (srcSize x w)
+
+abbrev pub dstFar : ℕ → Bool
+dstFar w = tooFar (dstOrigin w) (dstElement w (lastChannel w)) (dstSize w)
+
+pub reach-rule : (p : Plain) (w : ℕ) → reachBroken p w ≡ operandTest p w (dstFar w) (srcFar src0 w) (srcFar src1 w)
+unfolding reachBroken
+reach-rule p w = some-operand p w (dstFar w) (λ x. srcFar x w)
+
+-- ---- the six in order, by which rule is the first that is broken
+
+module _ (p : Plain) (w : ℕ) where
+  pub later-field : plainServed p w ≡ false → later (plain p) w ≡ 7
+  unfolding later
+  later-field a = rw a
+
+  module _ (a : plainServed p w ≡ true) where
+    pub later-operand : operandRuleBroken p w ≡ true → later (plain p) w ≡ 8
+    unfolding later
+    later-operand b = rw (a, b)
+
+    module _ (b : operandRuleBroken p w ≡ false) where
+      pub later-shape : shapeBroken p w ≡ true → later (plain p) w ≡ 9
+      unfolding later
+      later-shape d = rw (a, b, d)
+
+      module _ (d : shapeBroken p w ≡ false) where
+        pub later-alignment : alignmentBroken p w ≡ true → later (plain p) w ≡ 10
+        unfolding later
+        later-alignment e = rw (a, b, d, e)
+
+        pub later-reach : alignmentBroken p w ≡ false → reachBroken p w ≡ true → later (plain p) w ≡ 11
+        unfolding later
+        later-reach e f = rw (a, b, d, e, f)
+
+        pub later-nothing : alignmentBroken p w ≡ false → reachBroken p w ≡ false → later (plain p) w ≡ 0
+        unfolding later
+        later-nothing e f = rw (a, b, d, e, f)
+
+pub later-branch : (b : Branch) (w : ℕ) (t : Bool) → branchServed b w ≡ t → later (branch b) w ≡ cond t 0 7
+unfolding later
+later-branch b w true e = rw e
+later-branch b w false e = rw e
+
+pub refusal-reserved : (w : ℕ) → reservedSet w ≡ true → refusalOf w ≡ 6
+unfolding refusalOf
+refusal-reserved w e = rw e
+
+pub refusal-later : (w : ℕ) (o : Operation) → reservedSet w ≡ false → operation w ≡ o → refusalOf w ≡ later o w
+unfolding refusalOf
+refusal-later w o e f = rw (e, f)

@@ -1,0 +1,7 @@
+// The judge: rules 6 to 11 of one expanded word, each by itself and then in the table's order.
+pub mod logic;
+pub mod operands;
+pub mod refusal;
+pub mod regions;
+pub mod served;
+pub mod traits;

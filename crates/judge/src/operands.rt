@@ -1,0 +1,138 @@
+// Rule 8: the operands that an operation takes.
+use crate::logic::both;
+use crate::logic::either;
+use crate::logic::negated;
+use crate::traits::any_source;
+use crate::traits::reads_two;
+use crate::traits::takes_modifiers;
+use words::bytes::Word;
+use words::fields::Source;
+use words::fields::high_half;
+use words::fields::is_immediate;
+use words::fields::low_half;
+use words::fields::pred_ctrl;
+use words::fields::src_modifier;
+use words::fields::src_type;
+use words::operation::Plain;
+ghost use mathlib.Core.Path.{_≡_};
+ghost use mathlib.Core.Bool.{_&&_};
+ghost use Rattle.paper.specs.Word.{src0, src1, isImmediate};
+ghost use Rattle.paper.specs.Operation.{mul, shr, sel};
+ghost use Rattle.paper.specs.Legal.{unequalHalves, badModifier, ownRuleBroken, operandRuleBroken};
+ghost use Rattle.judge.specs.Sources.{readsTwo, anySource};
+ghost use Rattle.words.specs.Operations.{plainIs};
+ghost use Rattle.words.specs.Words.{toWord, sourceIs};
+
+// A word immediate's two halves differ.
+pub fn unequal_halves(x: Source, w: Word) -> bool
+    ensures { λ r. ⌜ r ≡ unequalHalves (toWord w) (sourceIs x) ⌝ }
+{
+    let differ = negated(low_half(w) == high_half(w));
+    both(is_immediate(x, w), both(2 <= src_type(x, w), differ))
+}
+
+// A modifier on src0 where none is allowed: on an immediate, and on logic and shifts.
+pub fn bad_first_modifier(p: Plain, w: Word) -> bool
+    ensures { λ r. ⌜ r ≡ badModifier (plainIs p) (toWord w) src0 ⌝ }
+{
+    let some = negated(src_modifier(Source::First, w) == 0);
+    both(
+        either(is_immediate(Source::First, w), negated(takes_modifiers(p))),
+        some,
+    )
+}
+
+// The same on src1, which has none as an immediate.
+pub fn bad_second_modifier(p: Plain, w: Word) -> bool
+    ensures { λ r. ⌜ r ≡ badModifier (plainIs p) (toWord w) src1 ⌝ }
+{
+    let some = negated(src_modifier(Source::Second, w) == 0);
+    both(
+        both(
+            negated(is_immediate(Source::Second, w)),
+            negated(takes_modifiers(p)),
+        ),
+        some,
+    )
+}
+
+// A source is a dword.
+pub fn takes_dwords(w: Word) -> bool
+    ensures { λ r. ⌜ r ≡ ownRuleBroken mul (toWord w) ⌝ }
+{
+    either(
+        src_type(Source::First, w) < 2,
+        src_type(Source::Second, w) < 2,
+    )
+}
+
+// src0 is signed.
+pub fn takes_signed(w: Word) -> bool
+    ensures { λ r. ⌜ r ≡ ownRuleBroken shr (toWord w) ⌝ }
+{
+    src_type(Source::First, w) % 2 == 1
+}
+
+// There is no predicate to choose by.
+pub fn unpredicated(w: Word) -> bool
+    ensures { λ r. ⌜ r ≡ ownRuleBroken sel (toWord w) ⌝ }
+{
+    negated(pred_ctrl(w) == 1)
+}
+
+// mul takes no dword sources, shr an unsigned and asr a signed src0, sel a predicate.
+pub fn own_rule_broken(p: Plain, w: Word) -> bool
+    ensures { λ r. ⌜ r ≡ ownRuleBroken (plainIs p) (toWord w) ⌝ }
+{
+    match p {
+        Plain::Mov => false,
+        Plain::Sel => unpredicated(w),
+        Plain::Not => false,
+        Plain::And => false,
+        Plain::Or => false,
+        Plain::Xor => false,
+        Plain::Shr => takes_signed(w),
+        Plain::Shl => false,
+        Plain::Asr => negated(takes_signed(w)),
+        Plain::Cmp => false,
+        Plain::Add => false,
+        Plain::Mul => takes_dwords(w),
+        Plain::Avg => false,
+    }
+}
+
+// An immediate stands elsewhere than as last source.
+pub fn is_misplaced(p: Plain, w: Word) -> bool
+    ensures { λ r. ⌜ r ≡ (readsTwo (plainIs p) && isImmediate src0 (toWord w)) ⌝ }
+{
+    both(reads_two(p), is_immediate(Source::First, w))
+}
+
+// Halves differ in a source that is read.
+pub fn halves_broken(p: Plain, w: Word) -> bool
+    ensures { λ r. ⌜ r ≡ anySource (plainIs p) (unequalHalves (toWord w) src0) (unequalHalves (toWord w) src1) ⌝ }
+{
+    any_source(
+        p,
+        unequal_halves(Source::First, w),
+        unequal_halves(Source::Second, w),
+    )
+}
+
+// A modifier is too many in a source that is read.
+pub fn modifiers_broken(p: Plain, w: Word) -> bool
+    ensures { λ r. ⌜ r ≡ anySource (plainIs p) (badModifier (plainIs p) (toWord w) src0) (badModifier (plainIs p) (toWord w) src1) ⌝ }
+{
+    any_source(p, bad_first_modifier(p, w), bad_second_modifier(p, w))
+}
+
+// 8: an immediate that is not last, halves that differ, a modifier too many, or an operation's own rule.
+pub fn operand_rule_broken(p: Plain, w: Word) -> bool
+    ensures { λ r. ⌜ r ≡ operandRuleBroken (plainIs p) (toWord w) ⌝ }
+{
+    let own = own_rule_broken(p, w);
+    either(
+        is_misplaced(p, w),
+        either(halves_broken(p, w), either(modifiers_broken(p, w), own)),
+    )
+}

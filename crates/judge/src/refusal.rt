@@ -1,0 +1,101 @@
+// The six rules in the table's order.
+use crate::operands::operand_rule_broken;
+use crate::regions::alignment_broken;
+use crate::regions::reach_broken;
+use crate::regions::shape_broken;
+use crate::served::branch_served;
+use crate::served::plain_served;
+use crate::served::reserved_set;
+use words::bytes::Word;
+use words::fields::operation;
+use words::operation::Branch;
+use words::operation::Operation;
+use words::operation::Plain;
+ghost use mathlib.Core.Path.{_≡_};
+ghost use Prim.Native.Nat.{_<_};
+ghost use Rattle.paper.specs.Operation.{plain, branch};
+ghost use Rattle.paper.specs.Legal.{later, refusalOf};
+ghost use Rattle.words.specs.Operations.{plainIs, branchIs, operationIs};
+ghost use Rattle.words.specs.Words.{toWord};
+ghost use Rattle.judge.specs.Verdicts.{numberOf};
+
+// What the judge says of a word: it passes, or the first rule that it breaks.
+pub enum Broken {
+    Nothing,
+    Reserved,
+    Field,
+    Operand,
+    Shape,
+    Alignment,
+    Reach,
+}
+
+// 7 to 11 of an operation with operands.
+pub fn judge_plain(p: Plain, w: Word) -> Broken
+    ensures { λ r. ⌜ numberOf r ≡ later (plain (plainIs p)) (toWord w) ⌝ }
+{
+    if !plain_served(p, w) {
+        return Broken::Field;
+    }
+    if operand_rule_broken(p, w) {
+        return Broken::Operand;
+    }
+    if shape_broken(p, w) {
+        return Broken::Shape;
+    }
+    if alignment_broken(p, w) {
+        return Broken::Alignment;
+    }
+    if reach_broken(p, w) {
+        return Broken::Reach;
+    }
+    Broken::Nothing
+}
+
+// 7 of a branch.
+pub fn judge_branch(b: Branch, w: Word) -> Broken
+    ensures { λ r. ⌜ numberOf r ≡ later (branch (branchIs b)) (toWord w) ⌝ }
+{
+    if branch_served(b, w) {
+        Broken::Nothing
+    } else {
+        Broken::Field
+    }
+}
+
+// 7 to 11: only nop skips them all. What is not listed never comes this far.
+pub fn judge_operation(o: Operation, w: Word) -> Broken
+    ensures { λ r. ⌜ numberOf r ≡ later (operationIs o) (toWord w) ⌝ }
+{
+    match o {
+        Operation::Makes(p) => judge_plain(p, w),
+        Operation::Nop => Broken::Nothing,
+        Operation::Jumps(b) => judge_branch(b, w),
+        Operation::Unlisted => Broken::Nothing,
+    }
+}
+
+// 6 to 11 of an expanded word: the first rule that it breaks.
+pub fn judge(w: Word) -> Broken
+    ensures { λ r. ⌜ numberOf r ≡ refusalOf (toWord w) ⌝ }
+{
+    if reserved_set(w) {
+        return Broken::Reserved;
+    }
+    judge_operation(operation(w), w)
+}
+
+// The refusal's number, 0 for none.
+pub fn number_of(b: Broken) -> u8
+    ensures { λ r. ⌜ (r ≡ numberOf b) × (r < 12) ⌝ }
+{
+    match b {
+        Broken::Nothing => 0,
+        Broken::Reserved => 6,
+        Broken::Field => 7,
+        Broken::Operand => 8,
+        Broken::Shape => 9,
+        Broken::Alignment => 10,
+        Broken::Reach => 11,
+    }
+}

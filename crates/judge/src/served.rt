@@ -1,0 +1,163 @@
+// Rules 6 and 7: reserved bits, and the fields that are served.
+use crate::logic::both;
+use crate::logic::chosen;
+use crate::logic::either;
+use crate::logic::negated;
+use crate::traits::any_source;
+use crate::traits::compares;
+use crate::traits::saturates;
+use words::bytes::Word;
+use words::fields::Source;
+use words::fields::acc_wr_ctrl;
+use words::fields::access_mode;
+use words::fields::bit_7;
+use words::fields::bit_47;
+use words::fields::bits_90;
+use words::fields::bits_121;
+use words::fields::cond_modifier;
+use words::fields::dst_addr_mode;
+use words::fields::dst_file;
+use words::fields::dst_register;
+use words::fields::dst_type;
+use words::fields::exec_size;
+use words::fields::immediate_form;
+use words::fields::is_immediate;
+use words::fields::operation;
+use words::fields::pred_ctrl;
+use words::fields::qtr_ctrl;
+use words::fields::saturate;
+use words::fields::src_addr_mode;
+use words::fields::src_file;
+use words::fields::src_type;
+use words::fields::we_ctrl;
+use words::operation::Branch;
+use words::operation::Plain;
+use words::operation::is_branch;
+ghost use mathlib.Core.Path.{_≡_};
+ghost use Rattle.paper.specs.Operation.{jmpi};
+ghost use Rattle.paper.specs.Legal.{reservedSet, quarterServed, conditionServed, controlServed, isNull, dstServed, srcServed, plainServed, structured, ownNeeds, branchServed};
+ghost use Rattle.words.specs.Operations.{plainIs, branchIs};
+ghost use Rattle.words.specs.Words.{toWord, sourceIs};
+
+// 6: bit 7; for all but branches 47 or 95:90, or 127:121 outside immediate form.
+pub fn reserved_set(w: Word) -> bool
+    ensures { λ r. ⌜ r ≡ reservedSet (toWord w) ⌝ }
+{
+    let jumps = is_branch(operation(w));
+    let top = both(negated(immediate_form(w)), negated(bits_121(w) == 0));
+    let further = either(bit_47(w) == 1, either(negated(bits_90(w) == 0), top));
+    either(bit_7(w) == 1, both(negated(jumps), further))
+}
+
+// ---- 7: control fields
+
+// Quarter 0; or 1 with size 8.
+pub fn quarter_served(w: Word) -> bool
+    ensures { λ r. ⌜ r ≡ quarterServed (toWord w) ⌝ }
+{
+    let quarter = qtr_ctrl(w);
+    either(quarter == 0, both(quarter == 1, exec_size(w) == 3))
+}
+
+// Condition codes 1 to 6 on cmp, 0 elsewhere.
+pub fn condition_served(comparing: bool, code: u64) -> bool
+    ensures { λ r. ⌜ r ≡ conditionServed comparing code ⌝ }
+{
+    if comparing {
+        both(1 <= code, code <= 6)
+    } else {
+        code == 0
+    }
+}
+
+// The control fields that every operation but nop is judged by.
+pub fn control_served(comparing: bool, saturating: bool, w: Word) -> bool
+    ensures { λ r. ⌜ r ≡ controlServed comparing saturating (toWord w) ⌝ }
+{
+    let last = either(saturate(w) == 0, saturating);
+    let condition = both(condition_served(comparing, cond_modifier(w)), last);
+    let predicate = both(pred_ctrl(w) <= 1, condition);
+    let size = both(exec_size(w) <= 4, both(quarter_served(w), predicate));
+    both(access_mode(w) == 0, both(acc_wr_ctrl(w) == 0, size))
+}
+
+// ---- 7: operands
+
+// The destination is null: file 00, register 0.
+pub fn is_null(w: Word) -> bool
+    ensures { λ r. ⌜ r ≡ isNull (toWord w) ⌝ }
+{
+    both(dst_file(w) == 0, dst_register(w) == 0)
+}
+
+// Registers or null, addressed directly, of a listed type.
+pub fn dst_served(w: Word) -> bool
+    ensures { λ r. ⌜ r ≡ dstServed (toWord w) ⌝ }
+{
+    let direct = both(dst_addr_mode(w) == 0, dst_type(w) <= 5);
+    both(either(dst_file(w) == 1, is_null(w)), direct)
+}
+
+// An immediate of type 0 to 3; or a register, addressed directly, of type 0 to 5.
+pub fn src_served(x: Source, w: Word) -> bool
+    ensures { λ r. ⌜ r ≡ srcServed (toWord w) (sourceIs x) ⌝ }
+{
+    let kind = src_type(x, w);
+    let direct = both(
+        src_file(x, w) == 1,
+        both(src_addr_mode(x, w) == 0, kind <= 5),
+    );
+    chosen(is_immediate(x, w), kind <= 3, direct)
+}
+
+// Every field that an operation with operands is judged by.
+pub fn plain_served(p: Plain, w: Word) -> bool
+    ensures { λ r. ⌜ r ≡ plainServed (plainIs p) (toWord w) ⌝ }
+{
+    let first = negated(src_served(Source::First, w));
+    let second = negated(src_served(Source::Second, w));
+    let operands = both(dst_served(w), negated(any_source(p, first, second)));
+    both(control_served(compares(p), saturates(p), w), operands)
+}
+
+// ---- 7: branches
+
+// Size 16, quarter 0, WECtrl 0.
+pub fn structured(w: Word) -> bool
+    ensures { λ r. ⌜ r ≡ structured (toWord w) ⌝ }
+{
+    both(exec_size(w) == 4, both(qtr_ctrl(w) == 0, we_ctrl(w) == 0))
+}
+
+// Size 1 and a d immediate as src1.
+pub fn jumping(w: Word) -> bool
+    ensures { λ r. ⌜ r ≡ ownNeeds jmpi (toWord w) ⌝ }
+{
+    both(
+        exec_size(w) == 0,
+        both(
+            is_immediate(Source::Second, w),
+            src_type(Source::Second, w) == 1,
+        ),
+    )
+}
+
+// What a branch needs of its own.
+pub fn own_needs(b: Branch, w: Word) -> bool
+    ensures { λ r. ⌜ r ≡ ownNeeds (branchIs b) (toWord w) ⌝ }
+{
+    match b {
+        Branch::Jmpi => jumping(w),
+        Branch::If => structured(w),
+        Branch::Else => structured(w),
+        Branch::Endif => structured(w),
+        Branch::While => structured(w),
+    }
+}
+
+// Branches have no operand but jmpi's src1.
+pub fn branch_served(b: Branch, w: Word) -> bool
+    ensures { λ r. ⌜ r ≡ branchServed (branchIs b) (toWord w) ⌝ }
+{
+    both(control_served(false, false, w), own_needs(b, w))
+}
