@@ -114,22 +114,17 @@ fn mixed_word(number: usize) -> LongWord {
     let to = 2 + 2 * (number as u32 * 7 % 48);
     let first = 2 + 2 * (number as u32 * 5 % 48);
     let second = 2 + 2 * (number as u32 * 11 % 48);
-    let two = |operation, channels, to_type, from_type| {
+    let base = |operation, channels, to_type, from_type| {
         word(operation, channels)
             .to_register(to, 0, 1, to_type)
             .register_source(0, first, 0, PACKED, from_type)
+    };
+    let two = |operation, channels, to_type, from_type| {
+        base(operation, channels, to_type, from_type)
             .register_source(1, second, 0, PACKED, from_type)
     };
-    let with_number = |operation, channels, element, value: i32| {
-        word(operation, channels)
-            .to_register(to, 0, 1, element)
-            .register_source(0, first, 0, PACKED, element)
-            .immediate_source(1, D, value as u32)
-    };
-    let one = |channels, to_type, from_type| {
-        word(Mov, channels)
-            .to_register(to, 0, 1, to_type)
-            .register_source(0, first, 0, PACKED, from_type)
+    let with_number = |operation, channels, element, value| {
+        base(operation, channels, element, element).immediate_source(1, D, value)
     };
     match number % 16 {
         0 => two(Add, 16, D, D),
@@ -142,7 +137,7 @@ fn mixed_word(number: usize) -> LongWord {
         7 => two(Sel, 16, D, D).predicated(0, true),
         8 => two(Avg, 16, Uw, Uw),
         9 => with_number(Asr, 8, D, 5),
-        10 => one(16, W, D).saturated(),
+        10 => base(Mov, 16, W, D).saturated(),
         11 => two(Xor, 8, Ud, Ud).second_quarter(),
         12 => two(Cmp, 8, D, D).second_quarter().conditioned(5, 1),
         13 => two(Or, 8, D, D).predicated(1, true),
@@ -193,30 +188,23 @@ fn byte_word(number: usize) -> LongWord {
     }
 }
 
+/// A word operation on 16 channels with a number.
+fn with_number(operation: Operation, to: u32, from: u32, number: u32) -> LongWord {
+    word(operation, 16)
+        .to_register(to, 0, 1, W)
+        .register_source(0, from, 0, region(16, 16, 1), W)
+        .immediate_source(1, W, number)
+}
+
 /// An if within an if, a loop of a few rounds and two jumps. r110 counts, r111 holds how far
 /// each channel counts.
 fn branching_block(number: u32) -> Vec<LongWord> {
-    let wide = region(16, 16, 1);
     let to = 2 * number;
-    let add = |value| {
-        word(Add, 16)
-            .to_register(to, 0, 1, W)
-            .register_source(0, to, 0, wide, W)
-            .immediate_source(1, W, value)
-    };
-    let clear = word(Mov, 16).to_register(110, 0, 1, W).immediate_source(0, W, 0);
-    let count = word(Add, 16)
-        .to_register(110, 0, 1, W)
-        .register_source(0, 110, 0, wide, W)
-        .immediate_source(1, W, 1);
-    let limit = word(And, 16)
-        .to_register(111, 0, 1, W)
-        .register_source(0, to, 0, wide, W)
-        .immediate_source(1, W, 3);
+    let add = |value| with_number(Add, to, to, value);
     let test = word(Cmp, 16)
         .to_null(W)
-        .register_source(0, 110, 0, wide, W)
-        .register_source(1, 111, 0, wide, W)
+        .register_source(0, 110, 0, region(16, 16, 1), W)
+        .register_source(1, 111, 0, region(16, 16, 1), W)
         .conditioned(5, 0);
     vec![
         branch(If, 14).predicated(0, false),
@@ -227,9 +215,9 @@ fn branching_block(number: u32) -> Vec<LongWord> {
         branch(Endif, 2),
         jmpi(0).predicated(0, true),
         branch(Endif, 2),
-        clear,
-        limit,
-        count,
+        word(Mov, 16).to_register(110, 0, 1, W).immediate_source(0, W, 0),
+        with_number(And, 111, to, 3),
+        with_number(Add, 110, 110, 1),
         test,
         branch(While, -4).predicated(0, false),
         jmpi(2).predicated(1, false),

@@ -11,6 +11,7 @@ pub mod bench_kernels;
 pub mod calls;
 pub mod dictionary;
 pub mod engine;
+pub mod generate;
 pub mod machine;
 pub mod operations;
 pub mod packing;

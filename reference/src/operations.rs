@@ -49,6 +49,9 @@ pub const OPCODES: [(Operation, u32); 19] = [
     (While, 0x27),
 ];
 
+/// The branches.
+pub const BRANCHES: [Operation; 5] = [Jmpi, If, Else, Endif, While];
+
 impl Operation {
     /// The operation of an opcode, if the opcode is listed.
     pub fn from_opcode(opcode: u32) -> Option<Operation> {
@@ -62,7 +65,7 @@ impl Operation {
     }
 
     pub fn is_branch(self) -> bool {
-        matches!(self, Jmpi | If | Else | Endif | While)
+        BRANCHES.contains(&self)
     }
 
     pub fn is_logic(self) -> bool {

@@ -1,11 +1,12 @@
 //! Outside vectors: words of a driver's own assembler tests and what that driver's compactor
 //! makes of them with source document 000's dictionary.
 //!
-//! In immediate form that compactor looks for a subregister entry whose top five bits are 0,
-//! while the paper overwrites those bits and so takes the least entry with the right low ten
-//! bits (DESIGN, point 12). This reference follows the paper. No vector tells the two readings
-//! apart: every listed word and every absence is met exactly, without an exception for
-//! immediates, so these vectors are no evidence for either reading.
+//! In immediate form there are two readings of the subregister table. The paper overwrites
+//! the entry's top five bits, so any entry with the right low ten bits serves and the least
+//! index wins (DESIGN, point 12); this reference does that. A compactor may instead insist on
+//! an entry whose top five bits are 0. No vector tells the two apart, as the last test shows:
+//! every listed word and every absence is met exactly, and both readings pick the same entry.
+//! So these vectors are no evidence for either reading.
 
 use spokeshaver_reference::answers::Answer;
 use spokeshaver_reference::calls;
@@ -108,4 +109,22 @@ fn calls_agree() {
         }
         assert!(out[16..].iter().all(|&byte| byte == 0xA5));
     }
+}
+
+/// In immediate form, the entry with the right low ten bits and top bits 0 is the least one
+/// with the right low ten bits, for every vector.
+#[test]
+fn no_vector_tells_the_readings_apart() {
+    let table = dictionary().subregister;
+    let mut shortened = 0;
+    for vector in vectors().iter().filter(|vector| vector.long.is_immediate_form()) {
+        let low_ten = (vector.long.field(68, 64) << 5) | vector.long.field(52, 48);
+        let by_low_bits = table.iter().position(|entry| entry & 0x3FF == low_ten);
+        let by_all_bits = table.iter().position(|&entry| entry == low_ten);
+        if vector.short.is_some() {
+            assert_eq!(by_low_bits, by_all_bits, "{} {:032x}", vector.name, vector.long.0);
+            shortened += 1;
+        }
+    }
+    assert!(shortened >= 5, "{shortened}");
 }
