@@ -1,0 +1,54 @@
+//! Refusals, verdicts and the packed answer (paper: "When the bench says no").
+
+/// The number given to a kernel, a state or a step that passes.
+pub const ACCEPTED: u8 = 0;
+/// The place is the end.
+pub const ENDED: u8 = 20;
+/// The budget is spent short of the end.
+pub const SPENT: u8 = 21;
+
+/// A refusal: its number in the paper's table and the byte offset it names.
+#[derive(Clone, Copy, PartialEq, Eq, Debug)]
+pub struct Refusal {
+    pub number: u8,
+    pub at: usize,
+}
+
+impl Refusal {
+    /// A refusal that names no instruction: numbers 1, 2 and 13 to 16.
+    pub fn plain(number: u8) -> Refusal {
+        Refusal { number, at: 0 }
+    }
+}
+
+/// Gives the refusal `number` at offset 0 unless the condition holds.
+pub fn require(condition: bool, number: u8) -> Result<(), Refusal> {
+    if condition {
+        Ok(())
+    } else {
+        Err(Refusal::plain(number))
+    }
+}
+
+/// The 64-bit answer of every call: number, then offset, then count.
+pub fn packed(number: u8, at: usize, count: usize) -> u64 {
+    number as u64 + ((at as u64) << 8) + ((count as u64) << 32)
+}
+
+/// A packed answer taken apart again.
+#[derive(Clone, Copy, PartialEq, Eq, Debug)]
+pub struct Answer {
+    pub number: u8,
+    pub at: usize,
+    pub count: usize,
+}
+
+impl Answer {
+    pub fn of(packed: u64) -> Answer {
+        Answer {
+            number: packed as u8,
+            at: ((packed >> 8) & 0xFF_FFFF) as usize,
+            count: (packed >> 32) as usize,
+        }
+    }
+}

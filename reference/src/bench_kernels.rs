@@ -1,0 +1,229 @@
+//! Kernels for measuring run time. Each runs 1,000,000 steps without ending: all end in a
+//! branch that always goes back.
+
+use crate::assemble::{branch, jmpi, kernel_of, region, word, DictionaryBuilder, RegionCodes};
+use crate::dictionary::Dictionary;
+use crate::operations::ElementType::{self, *};
+use crate::operations::Operation::{self, *};
+use crate::packing;
+use crate::random::Random;
+use crate::regions::FILE_BYTES;
+use crate::rules::{read_kernel, Accepts};
+use crate::state::State;
+use crate::words::LongWord;
+
+/// A kernel with all that a run needs.
+#[derive(Clone, Debug)]
+pub struct BenchKernel {
+    pub name: &'static str,
+    pub dictionary: Vec<u8>,
+    pub kernel: Vec<u8>,
+    pub registers: Vec<u8>,
+    pub state: Vec<u8>,
+}
+
+/// The five kernels.
+pub fn all() -> Vec<BenchKernel> {
+    vec![mixed(), one_channel(), byte_types(), branch_heavy(), mixed_packed()]
+}
+
+/// The instructions of the mixed loop.
+pub const MIXED_INSTRUCTIONS: usize = 200;
+
+/// (a) 200 instructions on 16 and 8 channels, words and dwords, predicates, an if with an
+/// else, and a while that closes the loop.
+pub fn mixed() -> BenchKernel {
+    finish("mixed", Dictionary::zero(), kernel_of(&mixed_words()))
+}
+
+/// (b) The same length of one-channel operations.
+pub fn one_channel() -> BenchKernel {
+    let words = (0..199).map(one_channel_word);
+    finish("one channel", Dictionary::zero(), kernel_of(&closed(words.collect())))
+}
+
+/// (c) The same length of operations on bytes.
+pub fn byte_types() -> BenchKernel {
+    let words = (0..199).map(byte_word);
+    finish("byte types", Dictionary::zero(), kernel_of(&closed(words.collect())))
+}
+
+/// (d) Half of all instructions are branches.
+pub fn branch_heavy() -> BenchKernel {
+    let mut words = Vec::new();
+    for number in 0..10 {
+        words.extend(branching_block(number));
+    }
+    words.push(jmpi(-2 * (words.len() as i32 + 1)));
+    finish("branch heavy", Dictionary::zero(), kernel_of(&words))
+}
+
+/// (e) The mixed loop, packed with a dictionary made for it.
+pub fn mixed_packed() -> BenchKernel {
+    let words = mixed_words();
+    let mut builder = DictionaryBuilder::default();
+    for &word in words.iter().filter(|word| !is_branch(**word)) {
+        builder.add(word);
+    }
+    let dictionary = builder.finish();
+    let program = read_kernel(&kernel_of(&words), &dictionary, Accepts::LongOnly);
+    let packed = packing::pack(&program.expect("the mixed loop is legal"), &dictionary);
+    finish("mixed packed", dictionary, packed)
+}
+
+fn is_branch(word: LongWord) -> bool {
+    Operation::from_opcode(word.opcode()).is_some_and(Operation::is_branch)
+}
+
+fn finish(name: &'static str, dictionary: Dictionary, kernel: Vec<u8>) -> BenchKernel {
+    BenchKernel {
+        name,
+        dictionary: dictionary.to_bytes(),
+        kernel,
+        registers: Random::new(0x5EED).bytes(FILE_BYTES),
+        state: State::start(0xFFFF, 0x5A3C, 0x0FF0).to_bytes().to_vec(),
+    }
+}
+
+/// The words with a while behind them that goes back to the first for as long as a channel
+/// is awake.
+fn closed(mut words: Vec<LongWord>) -> Vec<LongWord> {
+    words.push(branch(While, -2 * words.len() as i16));
+    words
+}
+
+fn mixed_words() -> Vec<LongWord> {
+    let mut words: Vec<LongWord> = (0..90).map(mixed_word).collect();
+    let arm = 8;
+    words.push(branch(If, 2 * (arm + 2)).predicated(0, false));
+    words.extend((90..90 + arm as usize).map(mixed_word));
+    words.push(branch(Else, 2 * (arm + 1)));
+    words.extend((100..100 + arm as usize).map(mixed_word));
+    words.push(branch(Endif, 2));
+    let left = MIXED_INSTRUCTIONS - 1 - words.len();
+    words.extend((110..110 + left).map(mixed_word));
+    closed(words)
+}
+
+const PACKED: RegionCodes = RegionCodes { vertical: 4, width: 3, horizontal: 1 };
+const SCALAR: RegionCodes = RegionCodes { vertical: 0, width: 0, horizontal: 0 };
+
+/// One of sixteen kinds of word, on registers that vary with the number. Every dword operand
+/// on 16 channels takes two registers, so registers go in pairs.
+fn mixed_word(number: usize) -> LongWord {
+    let to = 2 + 2 * (number as u32 * 7 % 48);
+    let first = 2 + 2 * (number as u32 * 5 % 48);
+    let second = 2 + 2 * (number as u32 * 11 % 48);
+    let base = |operation, channels, to_type, from_type| {
+        word(operation, channels)
+            .to_register(to, 0, 1, to_type)
+            .register_source(0, first, 0, PACKED, from_type)
+    };
+    let two = |operation, channels, to_type, from_type| {
+        base(operation, channels, to_type, from_type)
+            .register_source(1, second, 0, PACKED, from_type)
+    };
+    let with_number = |operation, channels, element, value| {
+        base(operation, channels, element, element).immediate_source(1, D, value)
+    };
+    match number % 16 {
+        0 => two(Add, 16, D, D),
+        1 => with_number(Add, 8, D, 77),
+        2 => two(Mul, 16, D, W),
+        3 => two(And, 16, Uw, Uw),
+        4 => with_number(Shl, 8, Ud, 3),
+        5 => two(Cmp, 16, W, W).to_null(W).conditioned(3, 0),
+        6 => two(Add, 16, W, W).predicated(0, false),
+        7 => two(Sel, 16, D, D).predicated(0, true),
+        8 => two(Avg, 16, Uw, Uw),
+        9 => with_number(Asr, 8, D, 5),
+        10 => base(Mov, 16, W, D).saturated(),
+        11 => two(Xor, 8, Ud, Ud).second_quarter(),
+        12 => two(Cmp, 8, D, D).second_quarter().conditioned(5, 1),
+        13 => two(Or, 8, D, D).predicated(1, true),
+        14 => two(Add, 16, D, D).modified(1, 2),
+        _ => two(Add, 16, D, D).register_source(1, second, 4, SCALAR, D),
+    }
+}
+
+fn one_channel_word(number: usize) -> LongWord {
+    let at = |step: usize| (number * step % 100) as u32;
+    let element = [D, Ud, W, Uw][number % 4];
+    let base = |operation: Operation| {
+        word(operation, 1).to_register(at(7), 4, 1, element).register_source(
+            0,
+            at(5),
+            8,
+            SCALAR,
+            element,
+        )
+    };
+    match number % 6 {
+        0 => base(Add).register_source(1, at(11), 12, SCALAR, element),
+        1 => base(Mov),
+        2 => base(Xor).immediate_source(1, Ud, 0x1234_5678),
+        3 => base(Shl).immediate_source(1, D, 4),
+        4 => base(Avg).register_source(1, at(3), 16, SCALAR, element).modified(0, 2),
+        _ => base(Add).immediate_source(1, W, 9).predicated(0, true),
+    }
+}
+
+fn byte_word(number: usize) -> LongWord {
+    let at = |step: usize| (number * step % 100) as u32;
+    let wide = region(16, 16, 1);
+    let element = [Ub, B][number % 2];
+    let two = |operation: Operation, to: ElementType| {
+        word(operation, 16)
+            .to_register(at(7), 0, 1, to)
+            .register_source(0, at(5), 0, wide, element)
+            .register_source(1, at(11), 16, wide, element)
+    };
+    match number % 6 {
+        0 => two(Add, element),
+        1 => two(Mul, W).modified(0, 1),
+        2 => two(Avg, element).saturated(),
+        3 => two(Cmp, element).conditioned(4, 0),
+        4 => two(Xor, Uw).with_field(62, 61, 2),
+        _ => two(Sel, element).predicated(0, false),
+    }
+}
+
+/// A word operation on 16 channels with a number.
+fn with_number(operation: Operation, to: u32, from: u32, number: u32) -> LongWord {
+    word(operation, 16)
+        .to_register(to, 0, 1, W)
+        .register_source(0, from, 0, region(16, 16, 1), W)
+        .immediate_source(1, W, number)
+}
+
+/// An if within an if, a loop of a few rounds and two jumps. r110 counts, r111 holds how far
+/// each channel counts.
+fn branching_block(number: u32) -> Vec<LongWord> {
+    let to = 2 * number;
+    let add = |value| with_number(Add, to, to, value);
+    let test = word(Cmp, 16)
+        .to_null(W)
+        .register_source(0, 110, 0, region(16, 16, 1), W)
+        .register_source(1, 111, 0, region(16, 16, 1), W)
+        .conditioned(5, 0);
+    vec![
+        branch(If, 14).predicated(0, false),
+        branch(If, 6).predicated(1, false),
+        add(3),
+        branch(Else, 4),
+        add(5),
+        branch(Endif, 2),
+        jmpi(0).predicated(0, true),
+        branch(Endif, 2),
+        word(Mov, 16).to_register(110, 0, 1, W).immediate_source(0, W, 0),
+        with_number(And, 111, to, 3),
+        with_number(Add, 110, 110, 1),
+        test,
+        branch(While, -4).predicated(0, false),
+        jmpi(2).predicated(1, false),
+        add(7),
+        branch(If, 2),
+        branch(Else, 2),
+        branch(Endif, 2),
+    ]
+}

@@ -1,0 +1,196 @@
+//! The nine calls of the C boundary, on slices (DESIGN: "The C boundary" and "Answers").
+//! Every call judges in the table's order, writes only when nothing refuses, and gives the
+//! packed answer.
+
+use crate::answers::{packed, require, Refusal, ACCEPTED, ENDED, SPENT};
+use crate::dictionary::{Dictionary, DICTIONARY_BYTES};
+use crate::engine;
+use crate::machine;
+use crate::operations::Operation;
+use crate::packing;
+use crate::regions::FILE_BYTES;
+use crate::rules::{read_instruction, read_kernel, Accepts, Program, KERNEL_BYTES};
+use crate::state::{State, STATE_BYTES};
+use crate::words::{self, is_short, LongWord, ShortWord};
+
+/// The greatest step budget.
+pub const BUDGET_LIMIT: u64 = 1_000_000;
+
+/// A number and a count, or a refusal, before packing.
+type Outcome = Result<(u8, usize), Refusal>;
+
+fn answer(outcome: Outcome) -> u64 {
+    match outcome {
+        Ok((number, count)) => packed(number, 0, count),
+        Err(refusal) => packed(refusal.number, refusal.at, 0),
+    }
+}
+
+/// Judges a kernel. The count is its instructions.
+pub fn check(dictionary: &[u8], kernel: &[u8]) -> u64 {
+    answer(check_outcome(dictionary, kernel))
+}
+
+fn check_outcome(dictionary: &[u8], kernel: &[u8]) -> Outcome {
+    let (_, program) = judged_kernel(dictionary, kernel, Accepts::LongAndShort)?;
+    Ok((ACCEPTED, program.instructions.len()))
+}
+
+/// Packs a kernel of long words. The count is the result's bytes.
+pub fn pack(dictionary: &[u8], kernel: &[u8], out: &mut [u8]) -> u64 {
+    answer(pack_outcome(dictionary, kernel, out))
+}
+
+fn pack_outcome(dictionary: &[u8], kernel: &[u8], out: &mut [u8]) -> Outcome {
+    let (dictionary, program) = judged_kernel(dictionary, kernel, Accepts::LongOnly)?;
+    deliver(&packing::pack(&program, &dictionary), out)
+}
+
+/// Unpacks a kernel. The count is the result's bytes.
+pub fn unpack(dictionary: &[u8], kernel: &[u8], out: &mut [u8]) -> u64 {
+    answer(unpack_outcome(dictionary, kernel, out))
+}
+
+fn unpack_outcome(dictionary: &[u8], kernel: &[u8], out: &mut [u8]) -> Outcome {
+    let (_, program) = judged_kernel(dictionary, kernel, Accepts::LongAndShort)?;
+    deliver(&packing::unpack(&program), out)
+}
+
+/// Shortens one long word. The count is 8.
+pub fn shorten(dictionary: &[u8], word: &[u8], out: &mut [u8]) -> u64 {
+    answer(shorten_outcome(dictionary, word, out))
+}
+
+fn shorten_outcome(dictionary: &[u8], word: &[u8], out: &mut [u8]) -> Outcome {
+    let dictionary = judged_dictionary(dictionary, word.len() == 16)?;
+    let word = LongWord::from_bytes(word);
+    require(Operation::from_opcode(word.opcode()).is_some(), 4)?;
+    require(!is_short(word.field(31, 0)), 5)?;
+    let short = words::shorten(word, &dictionary).ok_or(Refusal::plain(13))?;
+    deliver(&short.to_bytes(), out)
+}
+
+/// Expands one short word. The count is 16.
+pub fn expand(dictionary: &[u8], word: &[u8], out: &mut [u8]) -> u64 {
+    answer(expand_outcome(dictionary, word, out))
+}
+
+fn expand_outcome(dictionary: &[u8], word: &[u8], out: &mut [u8]) -> Outcome {
+    let dictionary = judged_dictionary(dictionary, word.len() == 8)?;
+    let word = ShortWord::from_bytes(word);
+    let operation = Operation::from_opcode(word.field(6, 0)).ok_or(Refusal::plain(4))?;
+    require(is_short(word.field(31, 0)) && !operation.is_branch(), 5)?;
+    deliver(&words::expand(word, &dictionary).to_bytes(), out)
+}
+
+/// Judges the one instruction at a place, which need be no instruction's start. The count is
+/// the bytes of the part: 8 or 16.
+pub fn decode(dictionary: &[u8], kernel: &[u8], place: u64) -> u64 {
+    answer(decode_outcome(dictionary, kernel, place))
+}
+
+fn decode_outcome(dictionary: &[u8], kernel: &[u8], place: u64) -> Outcome {
+    let dictionary = judged_dictionary(dictionary, kernel.len() <= KERNEL_BYTES)?;
+    let offset = usize::try_from(place).ok().and_then(|place| place.checked_mul(8));
+    let inside = offset.filter(|&offset| offset < kernel.len()).ok_or(Refusal::plain(3))?;
+    let instruction = read_instruction(kernel, inside, &dictionary, Accepts::LongAndShort)?;
+    Ok((ACCEPTED, 8 * instruction.length()))
+}
+
+/// Writes the state before the first step.
+pub fn start(mask: u16, flag0: u16, flag1: u16, state: &mut [u8]) -> u64 {
+    if state.len() != STATE_BYTES {
+        return answer(Err(Refusal::plain(1)));
+    }
+    state.copy_from_slice(&State::start(mask, flag0, flag1).to_bytes());
+    answer(Ok((ACCEPTED, 0)))
+}
+
+/// Makes one step. The number is 20 if the place is the end already.
+pub fn step(dictionary: &[u8], kernel: &[u8], registers: &mut [u8], state: &mut [u8]) -> u64 {
+    answer(step_outcome(dictionary, kernel, registers, state))
+}
+
+fn step_outcome(
+    dictionary: &[u8],
+    kernel: &[u8],
+    registers: &mut [u8],
+    state: &mut [u8],
+) -> Outcome {
+    let (program, mut current) = judged_run(dictionary, kernel, 0, registers, state)?;
+    if !machine::step(&program, registers, &mut current) {
+        return Ok((ENDED, 0));
+    }
+    state.copy_from_slice(&current.to_bytes());
+    Ok((ACCEPTED, 0))
+}
+
+/// Makes the budget's steps unless the end comes first. The count is the steps made.
+pub fn run(
+    dictionary: &[u8],
+    kernel: &[u8],
+    budget: u64,
+    registers: &mut [u8],
+    state: &mut [u8],
+) -> u64 {
+    answer(run_outcome(dictionary, kernel, budget, registers, state))
+}
+
+fn run_outcome(
+    dictionary: &[u8],
+    kernel: &[u8],
+    budget: u64,
+    registers: &mut [u8],
+    state: &mut [u8],
+) -> Outcome {
+    let (program, mut current) = judged_run(dictionary, kernel, budget, registers, state)?;
+    let file = registers.try_into().expect("the size is judged");
+    let steps = engine::run(&program, budget, file, &mut current);
+    state.copy_from_slice(&current.to_bytes());
+    let ended = current.place as usize == program.end;
+    Ok((if ended { ENDED } else { SPENT }, steps as usize))
+}
+
+/// Rules 1, 16, 2, 17, 3 to 12 and 15, for a step or a run.
+fn judged_run(
+    dictionary: &[u8],
+    kernel: &[u8],
+    budget: u64,
+    registers: &[u8],
+    state: &[u8],
+) -> Result<(Program, State), Refusal> {
+    let sizes = dictionary.len() == DICTIONARY_BYTES
+        && kernel.len() <= KERNEL_BYTES
+        && registers.len() == FILE_BYTES
+        && state.len() == STATE_BYTES;
+    require(sizes, 1)?;
+    require(budget <= BUDGET_LIMIT, 16)?;
+    let (_, program) = judged_kernel(dictionary, kernel, Accepts::LongAndShort)?;
+    let current = State::from_bytes(state);
+    current.judge(&program)?;
+    Ok((program, current))
+}
+
+/// Rules 1, 2, 17 and 3 to 12.
+fn judged_kernel(
+    dictionary: &[u8],
+    kernel: &[u8],
+    accepts: Accepts,
+) -> Result<(Dictionary, Program), Refusal> {
+    let dictionary = judged_dictionary(dictionary, kernel.len() <= KERNEL_BYTES)?;
+    let program = read_kernel(kernel, &dictionary, accepts)?;
+    Ok((dictionary, program))
+}
+
+/// Rules 1 and 2, given whether the other lent sizes are right.
+fn judged_dictionary(dictionary: &[u8], other_sizes: bool) -> Result<Dictionary, Refusal> {
+    require(dictionary.len() == DICTIONARY_BYTES && other_sizes, 1)?;
+    Dictionary::read(dictionary)
+}
+
+/// Rule 14, then the result at the front of the output. What lies behind stays.
+fn deliver(result: &[u8], out: &mut [u8]) -> Outcome {
+    require(out.len() >= result.len(), 14)?;
+    out[..result.len()].copy_from_slice(result);
+    Ok((ACCEPTED, result.len()))
+}

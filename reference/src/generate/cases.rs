@@ -1,0 +1,218 @@
+//! From a seed to a call with all its inputs.
+
+use super::damage::{short_branch, unlisted_opcode};
+use super::dictionaries::{dictionary_for, lend_dictionary};
+use super::instructions::legal_word;
+use super::kernels::{any_pair, branch_word, legal_pair, with_other_indices, Laying, Pair};
+use super::states::{mask, registers, state_for};
+use super::{Call, Case};
+use crate::calls::BUDGET_LIMIT;
+use crate::dictionary::Dictionary;
+use crate::operations::BRANCHES;
+use crate::packing;
+use crate::random::Random;
+use crate::rules::{read_kernel, Accepts};
+use crate::state::STATE_BYTES;
+use crate::words::{shorten, LongWord, SHORT_BIT};
+
+/// The case of a seed. Nine seeds in a row give the nine calls.
+pub fn case(seed: u64) -> Case {
+    let mut random = Random::new(seed);
+    let random = &mut random;
+    random.number();
+    let (dictionary, call) = match seed % 9 {
+        0 => check_case(random),
+        1 => pack_case(random),
+        2 => unpack_case(random),
+        3 => shorten_case(random),
+        4 => expand_case(random),
+        5 => decode_case(random),
+        6 => start_case(random),
+        7 => step_case(random),
+        _ => run_case(random),
+    };
+    Case { seed, dictionary, call }
+}
+
+fn any_laying(random: &mut Random) -> Laying {
+    random.pick(&[Laying::AllLong, Laying::AllShort, Laying::Mixed])
+}
+
+fn mixed_pair(random: &mut Random) -> Pair {
+    let laying = any_laying(random);
+    any_pair(random, laying)
+}
+
+fn check_case(random: &mut Random) -> (Vec<u8>, Call) {
+    let pair = mixed_pair(random);
+    (lend_dictionary(random, &pair.dictionary), Call::Check { kernel: pair.kernel })
+}
+
+fn pack_case(random: &mut Random) -> (Vec<u8>, Call) {
+    let laying = if random.once_in(12) { Laying::Mixed } else { Laying::AllLong };
+    let pair = any_pair(random, laying);
+    let program = read_kernel(&pair.kernel, &pair.dictionary, Accepts::LongOnly);
+    let result = program.map_or(0, |program| packing::pack(&program, &pair.dictionary).len());
+    let out = output(random, result);
+    (lend_dictionary(random, &pair.dictionary), Call::Pack { kernel: pair.kernel, out })
+}
+
+fn unpack_case(random: &mut Random) -> (Vec<u8>, Call) {
+    let pair = mixed_pair(random);
+    let program = read_kernel(&pair.kernel, &pair.dictionary, Accepts::LongAndShort);
+    let result = program.map_or(0, |program| packing::unpack(&program).len());
+    let out = output(random, result);
+    (lend_dictionary(random, &pair.dictionary), Call::Unpack { kernel: pair.kernel, out })
+}
+
+/// An output for a result of so many bytes: exact, too long, or too short.
+fn output(random: &mut Random, result: usize) -> Vec<u8> {
+    let length = match random.below(8) {
+        0 => 0,
+        1 => result.saturating_sub(1),
+        2 => result.saturating_sub(random.between(1, 16)),
+        3 | 4 => result,
+        5 => result + 1,
+        _ => result + random.between(1, 40),
+    };
+    random.bytes(length)
+}
+
+fn shorten_case(random: &mut Random) -> (Vec<u8>, Call) {
+    let word = legal_word(random);
+    let others = [word, legal_word(random), legal_word(random)];
+    let dictionary = dictionary_for(random, &others);
+    let word = long_word_to_shorten(random, word);
+    let mut bytes = word.to_bytes().to_vec();
+    if random.once_in(25) {
+        bytes.resize(random.pick(&[0, 8, 15, 17, 32]), 0);
+    }
+    let out = output(random, 8);
+    (lend_dictionary(random, &dictionary), Call::Shorten { word: bytes, out })
+}
+
+/// The word itself, or one that differs a little or much.
+fn long_word_to_shorten(random: &mut Random, word: LongWord) -> LongWord {
+    match random.below(16) {
+        0 => {
+            let bit = random.below(128) as u32;
+            LongWord(word.0 ^ 1 << bit)
+        }
+        1 => word.with_field(6, 0, unlisted_opcode(random)),
+        2 => word.with_field(SHORT_BIT, SHORT_BIT, 1),
+        3 => LongWord((random.number() as u128) << 64 | random.number() as u128),
+        4 => {
+            let operation = random.pick(&BRANCHES);
+            branch_word(random, operation)
+        }
+        5..=8 if word.is_immediate_form() => {
+            let edge = random.pick(&[4095, 4096, -4096, -4097, 0, -1]);
+            word.with_field(127, 96, edge as u32)
+        }
+        _ => word,
+    }
+}
+
+fn expand_case(random: &mut Random) -> (Vec<u8>, Call) {
+    let words = [legal_word(random), legal_word(random), legal_word(random)];
+    let dictionary = dictionary_for(random, &words);
+    let mut bytes = short_word_to_expand(random, words[0], &dictionary);
+    if random.once_in(25) {
+        bytes.resize(random.pick(&[0, 7, 9, 16]), 0);
+    }
+    let out = output(random, 16);
+    (lend_dictionary(random, &dictionary), Call::Expand { word: bytes, out })
+}
+
+fn short_word_to_expand(random: &mut Random, word: LongWord, dictionary: &Dictionary) -> Vec<u8> {
+    let stray = (random.number() & !0x7F) | word.opcode() as u64 | 1 << SHORT_BIT;
+    match random.below(12) {
+        0 => random.bytes(8),
+        1 => short_branch(random),
+        2 => (stray & !(1 << SHORT_BIT)).to_le_bytes().to_vec(),
+        3 => (stray & !0x7F | unlisted_opcode(random) as u64).to_le_bytes().to_vec(),
+        4..=7 => stray.to_le_bytes().to_vec(),
+        _ => match shorten(word, dictionary) {
+            Some(short) => with_other_indices(random, short, dictionary).to_bytes().to_vec(),
+            None => stray.to_le_bytes().to_vec(),
+        },
+    }
+}
+
+fn decode_case(random: &mut Random) -> (Vec<u8>, Call) {
+    let pair = mixed_pair(random);
+    let places = pair.kernel.len() / 8;
+    let place = match random.below(12) {
+        0 => places as u64,
+        1 => places as u64 + random.between(1, 3) as u64,
+        2 => random.pick(&[u64::MAX, 1 << 61, (1 << 61) + 1, 1 << 32, 1 << 63]),
+        3 => random.number(),
+        4 => random.between(0, places) as u64,
+        _ => start_to_decode(random, &pair),
+    };
+    (lend_dictionary(random, &pair.dictionary), Call::Decode { kernel: pair.kernel, place })
+}
+
+/// The place of the refused instruction if there is one, else of any.
+fn start_to_decode(random: &mut Random, pair: &Pair) -> u64 {
+    match read_kernel(&pair.kernel, &pair.dictionary, Accepts::LongAndShort) {
+        Err(refusal) => refusal.at as u64 / 8,
+        Ok(program) if program.instructions.is_empty() => 0,
+        Ok(program) => {
+            let number = random.below(program.instructions.len());
+            program.instructions[number].place as u64
+        }
+    }
+}
+
+fn start_case(random: &mut Random) -> (Vec<u8>, Call) {
+    let length = match random.below(10) {
+        0 => random.pick(&[0, 41, 43, 100]),
+        _ => STATE_BYTES,
+    };
+    let call = Call::Start {
+        mask: mask(random),
+        flag0: random.bits(16) as u16,
+        flag1: random.bits(16) as u16,
+        state: random.bytes(length),
+    };
+    (Vec::new(), call)
+}
+
+/// A kernel for running: mostly legal.
+fn runnable_pair(random: &mut Random) -> Pair {
+    if random.once_in(4) {
+        return mixed_pair(random);
+    }
+    let laying = any_laying(random);
+    legal_pair(random, laying)
+}
+
+fn step_case(random: &mut Random) -> (Vec<u8>, Call) {
+    let pair = runnable_pair(random);
+    let registers = registers(random);
+    let state = state_for(random, &pair, &registers);
+    let dictionary = lend_dictionary(random, &pair.dictionary);
+    (dictionary, Call::Step { kernel: pair.kernel, registers, state })
+}
+
+fn run_case(random: &mut Random) -> (Vec<u8>, Call) {
+    let pair = runnable_pair(random);
+    let registers = registers(random);
+    let state = state_for(random, &pair, &registers);
+    let budget = budget(random);
+    let dictionary = lend_dictionary(random, &pair.dictionary);
+    (dictionary, Call::Run { kernel: pair.kernel, budget, registers, state })
+}
+
+/// A budget: small, middling, seldom the greatest, at times over the limit.
+fn budget(random: &mut Random) -> u64 {
+    match random.below(40) {
+        0 => 0,
+        1 => BUDGET_LIMIT + 1,
+        2 => random.pick(&[u64::MAX, 1 << 32, 1 << 63, (1 << 32) + 5]),
+        3 if random.once_in(10) => BUDGET_LIMIT,
+        4..=9 => random.between(100, 3_000) as u64,
+        _ => random.between(1, 60) as u64,
+    }
+}

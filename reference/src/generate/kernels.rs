@@ -1,0 +1,298 @@
+//! Kernels: planned as instructions whose jumps name other instructions, then laid down in
+//! long and short words.
+
+use super::damage;
+use super::dictionaries::dictionary_for;
+use super::instructions::{legal_word, legal_word_of, with_other_registers};
+use crate::assemble::{branch, jmpi};
+use crate::dictionary::Dictionary;
+use crate::operations::{Operation, BRANCHES};
+use crate::packing::with_distance;
+use crate::random::Random;
+use crate::words::{expand, shorten, LongWord, ShortWord};
+
+/// An instruction before it has a place.
+#[derive(Clone, Debug)]
+pub enum Planned {
+    /// No branch; laid long or short.
+    Plain(LongWord),
+    /// A branch to the instruction of that number; the end is one past the last.
+    Branch { word: LongWord, operation: Operation, target: usize },
+    /// Bytes to lay down as they are.
+    Raw(Vec<u8>),
+}
+
+/// Which words are laid short where the dictionary allows.
+#[derive(Clone, Copy, PartialEq, Eq, Debug)]
+pub enum Laying {
+    AllLong,
+    AllShort,
+    Mixed,
+}
+
+/// A dictionary and a kernel made for each other.
+#[derive(Clone, Debug)]
+pub struct Pair {
+    pub dictionary: Dictionary,
+    pub kernel: Vec<u8>,
+}
+
+/// A kernel, mostly legal, else damaged in one of many ways.
+pub fn any_pair(random: &mut Random, laying: Laying) -> Pair {
+    if random.once_in(3) {
+        damage::damaged_pair(random, laying)
+    } else {
+        legal_pair(random, laying)
+    }
+}
+
+/// A legal kernel with a legal dictionary.
+pub fn legal_pair(random: &mut Random, laying: Laying) -> Pair {
+    let length = length(random);
+    let plan = plan(random, length);
+    finish(random, &plan, laying)
+}
+
+/// Makes the dictionary for a plan and lays the plan down.
+pub fn finish(random: &mut Random, plan: &[Planned], laying: Laying) -> Pair {
+    let words: Vec<LongWord> = plan.iter().filter_map(plain_word).collect();
+    let dictionary = dictionary_for(random, &words);
+    let kernel = lay(random, plan, &dictionary, laying);
+    Pair { dictionary, kernel }
+}
+
+fn plain_word(planned: &Planned) -> Option<LongWord> {
+    match planned {
+        Planned::Plain(word) => Some(*word),
+        _ => None,
+    }
+}
+
+/// How many instructions: mostly few, at times up to the limit.
+fn length(random: &mut Random) -> usize {
+    match random.below(40) {
+        0 => 0,
+        1 => 1_024,
+        2 => random.between(200, 1_023),
+        3..=8 => random.between(20, 80),
+        9..=12 => 1,
+        _ => random.between(2, 16),
+    }
+}
+
+/// A plan of legal instructions: blocks as a compiler would make them, or jumps at random.
+pub fn plan(random: &mut Random, length: usize) -> Vec<Planned> {
+    let palette = palette(random);
+    let structured = random.once_in(2);
+    let branches = random.pick(&[2, 4, 10, 1_000]);
+    let mut plan = Vec::new();
+    while plan.len() < length {
+        let room = length - plan.len();
+        if structured && room >= 5 && random.once_in(3) {
+            block(random, &palette, &mut plan);
+        } else if !structured && random.once_in(branches) {
+            let stray = stray_branch(random, plan.len(), length);
+            plan.push(stray);
+        } else {
+            plan.push(Planned::Plain(draw(random, &palette)));
+        }
+    }
+    plan.truncate(length);
+    keep_targets_inside(&mut plan);
+    plan
+}
+
+/// A cut plan may have lost the instructions that jumps name: those go to the end.
+fn keep_targets_inside(plan: &mut [Planned]) {
+    let end = plan.len();
+    for planned in plan {
+        if let Planned::Branch { target, .. } = planned {
+            *target = (*target).min(end);
+        }
+    }
+}
+
+/// The words that a kernel draws on: few, so that a dictionary can hold their parts, or none,
+/// so that every word is new.
+fn palette(random: &mut Random) -> Vec<LongWord> {
+    let count = random.pick(&[0, 2, 6, 12]);
+    (0..count).map(|_| legal_word(random)).collect()
+}
+
+fn draw(random: &mut Random, palette: &[LongWord]) -> LongWord {
+    if palette.is_empty() || random.once_in(8) {
+        return legal_word(random);
+    }
+    let word = random.pick(palette);
+    with_other_registers(random, word)
+}
+
+/// A branch of any kind to any instruction, mostly one nearby.
+fn stray_branch(random: &mut Random, own: usize, length: usize) -> Planned {
+    let operation = random.pick(&BRANCHES);
+    let target = match random.below(8) {
+        0 => random.between(0, length),
+        1 => length,
+        2 => own,
+        3 | 4 => own.saturating_sub(random.between(1, 6)),
+        _ => (own + random.between(1, 6)).min(length),
+    };
+    branch_to(random, operation, target)
+}
+
+/// A branch to an instruction.
+pub fn branch_to(random: &mut Random, operation: Operation, target: usize) -> Planned {
+    Planned::Branch { word: branch_word(random, operation), operation, target }
+}
+
+/// A branch of distance 0 with what it may carry: predicate, and fields that aren't judged.
+pub fn branch_word(random: &mut Random, operation: Operation) -> LongWord {
+    let mut word = match operation {
+        Operation::Jmpi => jmpi(0),
+        _ => branch(operation, 0),
+    };
+    if !random.once_in(4) {
+        let inverted = random.once_in(2);
+        word = word.predicated(random.bits(1), inverted);
+    }
+    if random.once_in(6) {
+        word = word.with_field(95, 64, random.bits(32)).with_field(47, 47, random.bits(1));
+        word = match operation {
+            Operation::Jmpi => word.with_field(9, 9, 1).with_field(63, 48, random.bits(16)),
+            _ => word.with_field(127, 96, random.bits(32)).with_field(46, 32, random.bits(15)),
+        };
+    }
+    word
+}
+
+/// Adds an if, an if with an else, a loop or a jump over a few instructions.
+fn block(random: &mut Random, palette: &[LongWord], plan: &mut Vec<Planned>) {
+    let first = plan.len();
+    let arm = random.between(0, 3);
+    let kind = random.below(4);
+    plan.push(Planned::Plain(legal_word_of(random, Operation::Cmp)));
+    if kind != 2 {
+        let opening = if kind == 3 { Operation::Jmpi } else { Operation::If };
+        plan.push(branch_to(random, opening, first + arm + 2 + (kind == 1) as usize));
+    }
+    for _ in 0..arm {
+        plan.push(Planned::Plain(draw(random, palette)));
+    }
+    match kind {
+        0 => plan.push(branch_to(random, Operation::Endif, first + arm + 3)),
+        1 => {
+            plan.push(branch_to(random, Operation::Else, first + 2 * arm + 3));
+            for _ in 0..arm {
+                plan.push(Planned::Plain(draw(random, palette)));
+            }
+            plan.push(branch_to(random, Operation::Endif, first + 2 * arm + 4));
+        }
+        2 => plan.push(branch_to(random, Operation::While, first)),
+        _ => plan.push(Planned::Plain(draw(random, palette))),
+    }
+}
+
+/// Lays a plan down. Raw bytes count as so many places, rounded up.
+pub fn lay(
+    random: &mut Random,
+    plan: &[Planned],
+    dictionary: &Dictionary,
+    laying: Laying,
+) -> Vec<u8> {
+    let shorts: Vec<Option<ShortWord>> =
+        plan.iter().map(|planned| short_for(random, planned, dictionary, laying)).collect();
+    let mut places = vec![0];
+    for (planned, short) in plan.iter().zip(&shorts) {
+        let length = match (planned, short) {
+            (Planned::Raw(bytes), _) => bytes.len().div_ceil(8),
+            (_, Some(_)) => 1,
+            (_, None) => 2,
+        };
+        places.push(places[places.len() - 1] + length);
+    }
+    let mut kernel = Vec::new();
+    for (index, (planned, short)) in plan.iter().zip(&shorts).enumerate() {
+        match (planned, short) {
+            (Planned::Raw(bytes), _) => kernel.extend(bytes),
+            (_, Some(short)) => kernel.extend(short.to_bytes()),
+            (Planned::Plain(word), None) => kernel.extend(word.to_bytes()),
+            (Planned::Branch { word, operation, target }, None) => {
+                let base = places[index + (*operation == Operation::Jmpi) as usize];
+                let distance = places[*target] as i64 - base as i64;
+                kernel.extend(with_distance(*word, *operation, distance).to_bytes());
+            }
+        }
+    }
+    kernel
+}
+
+/// The short word to lay, if there is one and it is wanted.
+fn short_for(
+    random: &mut Random,
+    planned: &Planned,
+    dictionary: &Dictionary,
+    laying: Laying,
+) -> Option<ShortWord> {
+    let wanted = match laying {
+        Laying::AllLong => false,
+        Laying::AllShort => true,
+        Laying::Mixed => random.once_in(2),
+    };
+    if !wanted {
+        return None;
+    }
+    let short = shorten(plain_word(planned)?, dictionary)?;
+    Some(with_other_indices(random, short, dictionary))
+}
+
+/// A short word that means the same, with other indices where the tables hold repeats.
+pub fn with_other_indices(
+    random: &mut Random,
+    short: ShortWord,
+    dictionary: &Dictionary,
+) -> ShortWord {
+    let mut chosen = short;
+    if random.once_in(2) {
+        return chosen;
+    }
+    for low in [8, 13, 18, 30, 35] {
+        let index = random.bits(5) as u64;
+        let other = ShortWord((chosen.0 & !(0x1F << low)) | (index << low));
+        if expand(other, dictionary) == expand(short, dictionary) {
+            chosen = other;
+        }
+    }
+    chosen
+}
+
+#[cfg(test)]
+mod tests {
+    use super::*;
+    use crate::rules::{read_kernel, Accepts};
+
+    #[test]
+    fn legal_pairs_are_accepted() {
+        for seed in 0..2_000 {
+            let mut random = Random::new(seed);
+            let laying = random.pick(&[Laying::AllLong, Laying::AllShort, Laying::Mixed]);
+            let pair = legal_pair(&mut random, laying);
+            let read = read_kernel(&pair.kernel, &pair.dictionary, Accepts::LongAndShort);
+            assert!(read.is_ok(), "seed {seed}: {:?}", read.err());
+            assert!(Dictionary::read(&pair.dictionary.to_bytes()).is_ok(), "seed {seed}");
+        }
+    }
+
+    #[test]
+    fn short_words_are_common() {
+        let (mut short, mut all) = (0, 0);
+        for seed in 0..300 {
+            let mut random = Random::new(seed);
+            let pair = legal_pair(&mut random, Laying::AllShort);
+            let read = read_kernel(&pair.kernel, &pair.dictionary, Accepts::LongAndShort);
+            let instructions = read.expect("legal").instructions;
+            short += instructions.iter().filter(|instruction| instruction.is_short).count();
+            all += instructions.len();
+        }
+        assert!(4 * short > all, "{short} of {all}");
+    }
+}

@@ -1,0 +1,22 @@
+//! A plain second opinion on the Spokeshaver bench, written from the paper's rules alone.
+//!
+//! Each file holds one topic. `calls` is the door: nine functions on numbers and byte
+//! slices, each giving the packed answer of the C boundary. `generate` makes inputs for
+//! comparing benches, `bench_kernels` makes kernels for measuring them.
+#![forbid(unsafe_code)]
+
+pub mod answers;
+pub mod assemble;
+pub mod bench_kernels;
+pub mod calls;
+pub mod dictionary;
+pub mod engine;
+pub mod generate;
+pub mod machine;
+pub mod operations;
+pub mod packing;
+pub mod random;
+pub mod regions;
+pub mod rules;
+pub mod state;
+pub mod words;

@@ -1,0 +1,161 @@
+//! Operations and element types (paper: "Operations").
+
+/// The operations of the bench.
+#[derive(Clone, Copy, PartialEq, Eq, Debug)]
+pub enum Operation {
+    Mov,
+    Sel,
+    Not,
+    And,
+    Or,
+    Xor,
+    Shr,
+    Shl,
+    Asr,
+    Cmp,
+    Add,
+    Mul,
+    Avg,
+    Nop,
+    Jmpi,
+    If,
+    Else,
+    Endif,
+    While,
+}
+
+use Operation::*;
+
+/// Every operation with its opcode.
+pub const OPCODES: [(Operation, u32); 19] = [
+    (Mov, 0x01),
+    (Sel, 0x02),
+    (Not, 0x04),
+    (And, 0x05),
+    (Or, 0x06),
+    (Xor, 0x07),
+    (Shr, 0x08),
+    (Shl, 0x09),
+    (Asr, 0x0C),
+    (Cmp, 0x10),
+    (Add, 0x40),
+    (Mul, 0x41),
+    (Avg, 0x42),
+    (Nop, 0x7E),
+    (Jmpi, 0x20),
+    (If, 0x22),
+    (Else, 0x24),
+    (Endif, 0x25),
+    (While, 0x27),
+];
+
+/// The branches.
+pub const BRANCHES: [Operation; 5] = [Jmpi, If, Else, Endif, While];
+
+impl Operation {
+    /// The operation of an opcode, if the opcode is listed.
+    pub fn from_opcode(opcode: u32) -> Option<Operation> {
+        let found = OPCODES.iter().find(|(_, listed)| *listed == opcode);
+        found.map(|(operation, _)| *operation)
+    }
+
+    pub fn opcode(self) -> u32 {
+        let found = OPCODES.iter().find(|(operation, _)| *operation == self);
+        found.expect("every operation is in the list").1
+    }
+
+    pub fn is_branch(self) -> bool {
+        BRANCHES.contains(&self)
+    }
+
+    pub fn is_logic(self) -> bool {
+        matches!(self, Not | And | Or | Xor)
+    }
+
+    pub fn is_shift(self) -> bool {
+        matches!(self, Shr | Shl | Asr)
+    }
+
+    pub fn may_saturate(self) -> bool {
+        matches!(self, Mov | Sel | Add | Mul | Avg)
+    }
+
+    /// How many sources the operation reads as operands. jmpi's src1 is no operand in this
+    /// sense: it is judged on its own.
+    pub fn source_count(self) -> usize {
+        match self {
+            Nop | Jmpi | If | Else | Endif | While => 0,
+            Mov | Not => 1,
+            _ => 2,
+        }
+    }
+}
+
+/// The element types.
+#[derive(Clone, Copy, PartialEq, Eq, Debug)]
+pub enum ElementType {
+    Ud,
+    D,
+    Uw,
+    W,
+    Ub,
+    B,
+}
+
+use ElementType::*;
+
+/// The types in the order of their codes.
+pub const TYPES: [ElementType; 6] = [Ud, D, Uw, W, Ub, B];
+
+impl ElementType {
+    pub fn from_code(code: u32) -> Option<ElementType> {
+        TYPES.get(code as usize).copied()
+    }
+
+    pub fn code(self) -> u32 {
+        self as u32
+    }
+
+    /// Size of an element in bytes.
+    pub fn size(self) -> usize {
+        match self {
+            Ud | D => 4,
+            Uw | W => 2,
+            Ub | B => 1,
+        }
+    }
+
+    pub fn is_signed(self) -> bool {
+        matches!(self, D | W | B)
+    }
+
+    pub fn is_dword(self) -> bool {
+        self.size() == 4
+    }
+
+    pub fn is_word(self) -> bool {
+        self.size() == 2
+    }
+
+    pub fn bit_count(self) -> u32 {
+        8 * self.size() as u32
+    }
+
+    /// The least value of the type.
+    pub fn minimum(self) -> i128 {
+        if self.is_signed() {
+            -(1 << (self.bit_count() - 1))
+        } else {
+            0
+        }
+    }
+
+    /// The greatest value of the type.
+    pub fn maximum(self) -> i128 {
+        if self.is_signed() {
+            (1 << (self.bit_count() - 1)) - 1
+        } else {
+            (1 << self.bit_count()) - 1
+        }
+    }
+}

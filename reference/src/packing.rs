@@ -1,0 +1,89 @@
+//! Packing and unpacking a kernel (paper: after the table of "When the bench says no").
+
+use crate::dictionary::Dictionary;
+use crate::operations::Operation;
+use crate::rules::{Instruction, Program};
+use crate::words::{shorten, LongWord, ShortWord};
+
+/// An instruction as it will be laid down.
+#[derive(Clone, Copy, PartialEq, Eq, Debug)]
+pub enum Laid {
+    Short(ShortWord),
+    Long(LongWord),
+}
+
+impl Laid {
+    fn length(&self) -> usize {
+        match self {
+            Laid::Short(_) => 1,
+            Laid::Long(_) => 2,
+        }
+    }
+}
+
+/// The packed kernel: each word that can be shortened is.
+pub fn pack(program: &Program, dictionary: &Dictionary) -> Vec<u8> {
+    let laid = program.instructions.iter().map(|instruction| {
+        match shorten(instruction.word, dictionary) {
+            Some(short) => Laid::Short(short),
+            None => Laid::Long(instruction.word),
+        }
+    });
+    lay(program, laid.collect())
+}
+
+/// The unpacked kernel: long words only.
+pub fn unpack(program: &Program) -> Vec<u8> {
+    let laid = program.instructions.iter().map(|instruction| Laid::Long(instruction.word));
+    lay(program, laid.collect())
+}
+
+/// Lays instructions down without gaps and rewrites each distance so that it reaches the
+/// same instruction as before. The end counts as one past the last instruction.
+pub fn lay(program: &Program, laid: Vec<Laid>) -> Vec<u8> {
+    let places = places_of(&laid);
+    let mut bytes = Vec::new();
+    for (index, instruction) in program.instructions.iter().enumerate() {
+        match laid[index] {
+            Laid::Short(short) => bytes.extend(short.to_bytes()),
+            Laid::Long(word) => {
+                bytes.extend(redirect(word, instruction, program, index, &places).to_bytes())
+            }
+        }
+    }
+    bytes
+}
+
+/// Where each instruction will start, and last of all the end.
+fn places_of(laid: &[Laid]) -> Vec<usize> {
+    let mut places = vec![0];
+    for instruction in laid {
+        places.push(places[places.len() - 1] + instruction.length());
+    }
+    places
+}
+
+/// A branch's word with the distance that holds between the new places. Other words stay.
+fn redirect(
+    word: LongWord,
+    instruction: &Instruction,
+    program: &Program,
+    index: usize,
+    places: &[usize],
+) -> LongWord {
+    let Some(target) = instruction.target_place() else { return word };
+    let target_index = program.index_of(target as usize).unwrap_or(program.instructions.len());
+    let base = match instruction.operation {
+        Operation::Jmpi => places[index + 1],
+        _ => places[index],
+    };
+    with_distance(word, instruction.operation, places[target_index] as i64 - base as i64)
+}
+
+/// A branch's word with another distance.
+pub fn with_distance(word: LongWord, operation: Operation, distance: i64) -> LongWord {
+    match operation {
+        Operation::Jmpi => word.with_field(127, 96, distance as u32),
+        _ => word.with_field(63, 48, distance as u32),
+    }
+}

@@ -1,0 +1,342 @@
+//! What is judged: refusals 17 and 3 to 12 (paper: "When the bench says no").
+
+use crate::answers::Refusal;
+use crate::dictionary::Dictionary;
+use crate::operations::{ElementType, Operation};
+use crate::regions::{power_of_code, Region};
+use crate::words::{
+    expand, is_short, LongWord, ShortWord, SourceFields, FILE_IMMEDIATE, FILE_NULL, FILE_REGISTER,
+};
+
+/// A kernel holds at most this many bytes.
+pub const KERNEL_BYTES: usize = 16_384;
+/// A kernel holds at most this many instructions.
+pub const KERNEL_INSTRUCTIONS: usize = 1_024;
+
+/// An instruction of a kernel: where it starts, its expanded word and its own length.
+#[derive(Clone, Copy, PartialEq, Eq, Debug)]
+pub struct Instruction {
+    /// Offset in units of 8 bytes.
+    pub place: usize,
+    pub word: LongWord,
+    pub operation: Operation,
+    pub is_short: bool,
+}
+
+impl Instruction {
+    /// Length in places: 1 or 2.
+    pub fn length(&self) -> usize {
+        if self.is_short {
+            1
+        } else {
+            2
+        }
+    }
+
+    pub fn next_place(&self) -> usize {
+        self.place + self.length()
+    }
+
+    /// The place a branch may jump to: jmpi counts from its end, the others from their
+    /// start. None for an operation that is no branch.
+    pub fn target_place(&self) -> Option<i64> {
+        match self.operation {
+            Operation::Jmpi => {
+                let distance = self.word.immediate() as i32;
+                Some(self.next_place() as i64 + distance as i64)
+            }
+            operation if operation.is_branch() => {
+                let distance = self.word.field(63, 48) as u16 as i16;
+                Some(self.place as i64 + distance as i64)
+            }
+            _ => None,
+        }
+    }
+}
+
+/// A kernel that passed the rules.
+#[derive(Clone, Debug)]
+pub struct Program {
+    pub instructions: Vec<Instruction>,
+    /// The place one past the last instruction.
+    pub end: usize,
+}
+
+impl Program {
+    /// The number of the instruction that starts at a place.
+    pub fn index_of(&self, place: usize) -> Option<usize> {
+        self.instructions.binary_search_by_key(&place, |instruction| instruction.place).ok()
+    }
+
+    /// Whether an instruction starts at the place, or it is the end.
+    pub fn is_start_or_end(&self, place: usize) -> bool {
+        place == self.end || self.index_of(place).is_some()
+    }
+}
+
+/// Which words a kernel may hold.
+#[derive(Clone, Copy, PartialEq, Eq, Debug)]
+pub enum Accepts {
+    LongAndShort,
+    LongOnly,
+}
+
+/// Judges a whole kernel: 17 and 3 to 11 instruction by instruction, then 12.
+pub fn read_kernel(
+    kernel: &[u8],
+    dictionary: &Dictionary,
+    accepts: Accepts,
+) -> Result<Program, Refusal> {
+    let mut instructions = Vec::new();
+    let mut offset = 0;
+    while offset < kernel.len() {
+        if instructions.len() == KERNEL_INSTRUCTIONS {
+            return Err(Refusal { number: 17, at: offset });
+        }
+        let instruction = read_instruction(kernel, offset, dictionary, accepts)?;
+        offset = 8 * instruction.next_place();
+        instructions.push(instruction);
+    }
+    let program = Program { instructions, end: kernel.len() / 8 };
+    judge_jumps(&program)?;
+    Ok(program)
+}
+
+/// Rule 12: every branch lands on an instruction's start or on the end.
+fn judge_jumps(program: &Program) -> Result<(), Refusal> {
+    for instruction in &program.instructions {
+        let Some(target) = instruction.target_place() else { continue };
+        if target < 0 || !program.is_start_or_end(target as usize) {
+            return Err(Refusal { number: 12, at: 8 * instruction.place });
+        }
+    }
+    Ok(())
+}
+
+/// Judges the instruction at a byte offset by rules 3 to 11.
+pub fn read_instruction(
+    kernel: &[u8],
+    offset: usize,
+    dictionary: &Dictionary,
+    accepts: Accepts,
+) -> Result<Instruction, Refusal> {
+    let judged = judge_at(&kernel[offset..], dictionary, accepts);
+    let (word, operation, is_short) = judged.map_err(|number| Refusal { number, at: offset })?;
+    Ok(Instruction { place: offset / 8, word, operation, is_short })
+}
+
+/// Rules 3, 4 and 5 on the bytes from an instruction on, then 6 to 11 on its expanded word.
+fn judge_at(
+    rest: &[u8],
+    dictionary: &Dictionary,
+    accepts: Accepts,
+) -> Result<(LongWord, Operation, bool), u8> {
+    if rest.len() < 8 {
+        return Err(3);
+    }
+    let first = u32::from_le_bytes(rest[..4].try_into().expect("four bytes"));
+    let short = is_short(first);
+    if !short && rest.len() < 16 {
+        return Err(3);
+    }
+    let operation = Operation::from_opcode(first & 0x7F).ok_or(4)?;
+    if short && (operation.is_branch() || accepts == Accepts::LongOnly) {
+        return Err(5);
+    }
+    let word = match short {
+        true => expand(ShortWord::from_bytes(&rest[..8]), dictionary),
+        false => LongWord::from_bytes(&rest[..16]),
+    };
+    judge_word(word, operation)?;
+    Ok((word, operation, short))
+}
+
+/// Rules 6 to 11 on an expanded word. nop skips 7 to 11, branches skip 8 to 11.
+pub fn judge_word(word: LongWord, operation: Operation) -> Result<(), u8> {
+    pass(reserved_bits_are_clear(word, operation), 6)?;
+    if operation == Operation::Nop {
+        return Ok(());
+    }
+    pass(control_is_served(word, operation), 7)?;
+    if operation.is_branch() {
+        return pass(branch_is_served(word, operation), 7);
+    }
+    pass(operands_are_served(word, operation), 7)?;
+    pass(operands_obey(word, operation), 8)?;
+    pass(regions_are_defined(word, operation), 9)?;
+    pass(operands_are_aligned(word, operation), 10)?;
+    pass(operands_fit(word, operation), 11)
+}
+
+fn pass(condition: bool, number: u8) -> Result<(), u8> {
+    if condition {
+        Ok(())
+    } else {
+        Err(number)
+    }
+}
+
+/// Rule 6.
+fn reserved_bits_are_clear(word: LongWord, operation: Operation) -> bool {
+    if word.bit(7) == 1 {
+        return false;
+    }
+    if operation.is_branch() {
+        return true;
+    }
+    let top_is_clear = word.is_immediate_form() || word.field(127, 121) == 0;
+    word.bit(47) == 0 && word.field(95, 90) == 0 && top_is_clear
+}
+
+/// Rule 7, the control fields, which every operation but nop is judged by.
+fn control_is_served(word: LongWord, operation: Operation) -> bool {
+    let condition = word.condition_modifier();
+    let condition_is_served = match operation {
+        Operation::Cmp => (1..=6).contains(&condition),
+        _ => condition == 0,
+    };
+    let quarter_is_served = match word.quarter_control() {
+        0 => true,
+        1 => power_of_code(word.execution_size_code()) == Some(8),
+        _ => false,
+    };
+    word.access_mode() == 0
+        && word.accumulator_write_control() == 0
+        && power_of_code(word.execution_size_code()).is_some()
+        && quarter_is_served
+        && word.predicate_control() <= 1
+        && condition_is_served
+        && (word.saturate() == 0 || operation.may_saturate())
+}
+
+/// Rule 7, what branches need beside. Their quarter is 0 already, since no branch has size 8.
+fn branch_is_served(word: LongWord, operation: Operation) -> bool {
+    let size = power_of_code(word.execution_size_code());
+    if operation == Operation::Jmpi {
+        let distance = word.source(1);
+        let is_d_immediate =
+            distance.file == FILE_IMMEDIATE && distance.type_code == ElementType::D.code();
+        return size == Some(1) && is_d_immediate;
+    }
+    size == Some(16) && word.quarter_control() == 0 && word.write_enable_control() == 0
+}
+
+/// Rule 7, files, AddrMode and types of the destination and of each source that is read.
+fn operands_are_served(word: LongWord, operation: Operation) -> bool {
+    destination_is_served(word) && sources(word, operation).all(|fields| source_is_served(&fields))
+}
+
+fn destination_is_served(word: LongWord) -> bool {
+    let destination = word.destination();
+    let file_is_served = match destination.file {
+        FILE_REGISTER => true,
+        FILE_NULL => destination.register == 0,
+        _ => false,
+    };
+    let type_is_listed = ElementType::from_code(destination.type_code).is_some();
+    file_is_served && destination.address_mode == 0 && type_is_listed
+}
+
+fn source_is_served(source: &SourceFields) -> bool {
+    match source.file {
+        FILE_REGISTER => {
+            source.address_mode == 0 && ElementType::from_code(source.type_code).is_some()
+        }
+        FILE_IMMEDIATE => source.type_code <= 3,
+        _ => false,
+    }
+}
+
+/// The sources that an operation reads.
+fn sources(word: LongWord, operation: Operation) -> impl Iterator<Item = SourceFields> {
+    (0..operation.source_count()).map(move |which| word.source(which))
+}
+
+/// Rule 8.
+fn operands_obey(word: LongWord, operation: Operation) -> bool {
+    immediates_obey(word, operation)
+        && modifiers_obey(word, operation)
+        && types_obey(word, operation)
+        && (operation != Operation::Sel || word.predicate_control() == 1)
+}
+
+/// Rule 8: an immediate only as last source, a word immediate with equal halves.
+fn immediates_obey(word: LongWord, operation: Operation) -> bool {
+    let count = operation.source_count();
+    let only_last = (0..count - 1).all(|which| word.source(which).file != FILE_IMMEDIATE);
+    let last = word.source(count - 1);
+    let is_word_immediate =
+        last.file == FILE_IMMEDIATE && element_of(&last).is_some_and(ElementType::is_word);
+    let halves_are_equal = word.field(127, 112) == word.field(111, 96);
+    only_last && (!is_word_immediate || halves_are_equal)
+}
+
+/// Rule 8: no modifier on a src0 immediate, on logic or on shifts. The bits where src1 has
+/// its modifier belong to the number if src1 is an immediate.
+fn modifiers_obey(word: LongWord, operation: Operation) -> bool {
+    let forbids = operation.is_logic() || operation.is_shift();
+    (0..operation.source_count()).all(|which| {
+        let source = word.source(which);
+        let is_immediate = source.file == FILE_IMMEDIATE;
+        let is_judged = if is_immediate { which == 0 } else { forbids };
+        !is_judged || source.modifier == 0
+    })
+}
+
+/// Rule 8: what mul, shr and asr ask of their sources' types.
+fn types_obey(word: LongWord, operation: Operation) -> bool {
+    let first_is_signed = element_of(&word.source(0)).is_some_and(ElementType::is_signed);
+    match operation {
+        Operation::Mul => sources(word, operation)
+            .all(|fields| !element_of(&fields).is_some_and(ElementType::is_dword)),
+        Operation::Shr => !first_is_signed,
+        Operation::Asr => first_is_signed,
+        _ => true,
+    }
+}
+
+fn element_of(source: &SourceFields) -> Option<ElementType> {
+    ElementType::from_code(source.type_code)
+}
+
+/// The sources that are read from the register file.
+fn register_sources(word: LongWord, operation: Operation) -> impl Iterator<Item = SourceFields> {
+    sources(word, operation).filter(|fields| fields.file == FILE_REGISTER)
+}
+
+/// Whether the destination is in the register file and not null.
+pub fn writes_register(word: LongWord) -> bool {
+    word.destination().file == FILE_REGISTER
+}
+
+/// Rule 9.
+fn regions_are_defined(word: LongWord, operation: Operation) -> bool {
+    let size = power_of_code(word.execution_size_code());
+    let sources_are_defined = register_sources(word, operation)
+        .all(|fields| Region::of_source(&fields).is_some_and(|region| size >= Some(region.width)));
+    let stride_is_defined = !writes_register(word) || word.destination().stride != 0;
+    sources_are_defined && stride_is_defined
+}
+
+/// The regions of all operands in the register file. Asked only after rules 7 and 9 passed.
+fn operand_regions(word: LongWord, operation: Operation) -> Vec<Region> {
+    let sources = register_sources(word, operation);
+    let mut regions: Vec<Region> =
+        sources.filter_map(|fields| Region::of_source(&fields)).collect();
+    if writes_register(word) {
+        regions.extend(Region::of_destination(&word.destination()));
+    }
+    regions
+}
+
+/// Rule 10. A register is 32 bytes, so only the subregister matters.
+fn operands_are_aligned(word: LongWord, operation: Operation) -> bool {
+    let regions = operand_regions(word, operation);
+    regions.iter().all(|region| region.start % region.element.size() == 0)
+}
+
+/// Rule 11.
+fn operands_fit(word: LongWord, operation: Operation) -> bool {
+    let size = power_of_code(word.execution_size_code()).unwrap_or(1);
+    operand_regions(word, operation).iter().all(|region| region.fits(size))
+}

@@ -1,0 +1,58 @@
+//! The benchmark kernels are legal and don't end, and stepping them agrees with running them.
+
+use spokeshaver_reference::answers::Answer;
+use spokeshaver_reference::bench_kernels::{all, mixed, mixed_packed, MIXED_INSTRUCTIONS};
+use spokeshaver_reference::calls;
+
+#[test]
+fn all_are_accepted_and_run_on() {
+    for mut bench in all() {
+        let checked = Answer::of(calls::check(&bench.dictionary, &bench.kernel));
+        assert_eq!((checked.number, checked.at), (0, 0), "{}", bench.name);
+        let given = calls::run(
+            &bench.dictionary,
+            &bench.kernel,
+            1_000_000,
+            &mut bench.registers,
+            &mut bench.state,
+        );
+        let expected = Answer { number: 21, at: 0, count: 1_000_000 };
+        assert_eq!(Answer::of(given), expected, "{}", bench.name);
+    }
+}
+
+#[test]
+fn mixed_has_the_length_asked_for_and_packs_well() {
+    let (long, packed) = (mixed(), mixed_packed());
+    assert_eq!(long.kernel.len(), 16 * MIXED_INSTRUCTIONS);
+    let checked = Answer::of(calls::check(&packed.dictionary, &packed.kernel));
+    assert_eq!(checked.count, MIXED_INSTRUCTIONS);
+    let shortened = (long.kernel.len() - packed.kernel.len()) / 8;
+    assert!(shortened >= MIXED_INSTRUCTIONS - 4, "only {shortened} words are short");
+}
+
+#[test]
+fn packed_and_long_agree() {
+    let (mut long, mut packed) = (mixed(), mixed_packed());
+    for bench in [&mut long, &mut packed] {
+        let (registers, state) = (&mut bench.registers, &mut bench.state);
+        calls::run(&bench.dictionary, &bench.kernel, 12_345, registers, state);
+    }
+    assert_eq!(long.registers, packed.registers);
+    assert_eq!(long.state[..4], packed.state[..4]);
+}
+
+#[test]
+fn steps_agree_with_runs() {
+    for bench in all() {
+        let (mut registers, mut state) = (bench.registers.clone(), bench.state.clone());
+        for _ in 0..700 {
+            calls::step(&bench.dictionary, &bench.kernel, &mut registers, &mut state);
+        }
+        let (mut ran_registers, mut ran_state) = (bench.registers, bench.state);
+        let given =
+            calls::run(&bench.dictionary, &bench.kernel, 700, &mut ran_registers, &mut ran_state);
+        assert_eq!(Answer::of(given).count, 700);
+        assert_eq!((registers, state), (ran_registers, ran_state), "{}", bench.name);
+    }
+}
