@@ -1,2 +1,9 @@
--- What the crate's types mean in the paper's terms.
+-- What the crate's types mean in the paper's terms, and laws that its proofs and its callers cite.
 pub mod Operations
+pub mod Words
+pub mod Bytes
+pub mod Fields
+pub mod Ranges
+pub mod Shorter
+pub mod Wrote
+pub mod Meaning

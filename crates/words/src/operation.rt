@@ -1,6 +1,6 @@
 // The operations by their opcodes.
 ghost use mathlib.Core.Path.{_≡_};
-ghost use Rattle.paper.specs.Operation.{operationOf};
+ghost use Rattle.paper.specs.Operation.{operationOf, isBranch, isListed};
 ghost use Rattle.words.specs.Operations.{operationIs};
 
 // Operations that make a result of their sources.
@@ -60,5 +60,29 @@ pub fn operation_of(code: u64) -> Operation
         0x25 => Operation::Jumps(Branch::Endif),
         0x27 => Operation::Jumps(Branch::While),
         _ => Operation::Unlisted,
+    }
+}
+
+// The operation is a branch.
+pub fn is_branch(o: Operation) -> bool
+    ensures { λ r. ⌜ r ≡ isBranch (operationIs o) ⌝ }
+{
+    match o {
+        Operation::Makes(_) => false,
+        Operation::Nop => false,
+        Operation::Jumps(_) => true,
+        Operation::Unlisted => false,
+    }
+}
+
+// The operation is one of the paper's.
+pub fn is_listed(o: Operation) -> bool
+    ensures { λ r. ⌜ r ≡ isListed (operationIs o) ⌝ }
+{
+    match o {
+        Operation::Makes(_) => true,
+        Operation::Nop => true,
+        Operation::Jumps(_) => true,
+        Operation::Unlisted => false,
     }
 }

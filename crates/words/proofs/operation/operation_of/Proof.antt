@@ -3,8 +3,6 @@ use borrow.Author.Tests.{ne-eqb}
 use Rattle.paper.specs.Operation.{operationOf}
 use Rattle.words.proofs.operation.operation_of.Statement.{statement}
 use Rattle.words.proofs.operation.operation_of.Tie as tie
-use Rattle.words.proofs.operation.operation_of.Reads as reads
-use Rattle.words.proofs.operation.operation_of.Lts as lts
 
 returns : tie.Need-returns
 unfolding operationOf

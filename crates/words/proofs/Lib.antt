@@ -1,0 +1,3 @@
+-- Laws that only this crate's proofs cite.
+pub mod Shortening
+pub mod Calling
