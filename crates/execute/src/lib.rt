@@ -1,0 +1,6 @@
+// What an instruction that is no branch does to registers and flags.
+pub mod compare;
+pub mod execute;
+pub mod flags;
+pub mod results;
+pub mod sources;
