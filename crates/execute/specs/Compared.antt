@@ -4,19 +4,22 @@ use mathlib.Core.Bool.{Bool, true, false, cond}
 use mathlib.Core.List.{List}
 use Prim.Native.Nat.{ℕ, _+_, _-_, _*_, _%_, _^_, _≤_, _<_}
 use native.Mathlib.Omega.{arith}
-use native.Mathlib.Nat.{add-sub-of-le}
+use native.Mathlib.Nat.{mul-le-mul-right, mod-eq-of-lt}
+use native.Mathlib.Numerals.{add-one}
 use lib.Dec.{eqb, ltb}
 use lib.IntN.{ℤ, _-ℤ_}
 use lib.ListN.{getD}
+use lib.Pow.{pow-mono}
 use Rattle.paper.specs.Bits.{bit}
 use Rattle.paper.specs.Word.{src0, src1, condModifier, saturate, dstType, qtrCtrl}
 use Rattle.paper.specs.Operation.{Plain}
 use Rattle.paper.specs.Value.{width, modZ, stored}
 use Rattle.paper.specs.Element.{compares, oneIf, result}
 use Rattle.paper.specs.Region.{channels}
-use Rattle.paper.specs.Enable.{Store, ofBits, channelOf}
+use Rattle.paper.specs.Enable.{Store, digit, ofBits, channelOf}
 use Rattle.paper.specs.Effect.{operand, finds}
-use Rattle.laws.specs.Masks.{bit-ofBits}
+use Rattle.laws.specs.Bits.{bits-mod}
+use Rattle.laws.specs.Masks.{digit-bit, ofBits-less, bit-ofBits}
 use Rattle.lanes.specs.Masks.{raisedMask}
 use Rattle.lanes.specs.MaskLaws.{bit-raised}
 use Rattle.lanes.specs.Values.{values, getD-values}
@@ -25,6 +28,21 @@ use Rattle.execute.specs.Results.{channelMakes}
 -- The lowest bits of the n first values: bit k is value k's.
 unfoldable pub lowestBits : List ℕ → ℕ → ℕ
 lowestBits results n = ofBits (λ k. bit (getD results k 0) 0) n
+
+-- One value more.
+pub lowest-more : (results : List ℕ) (k : ℕ) → k < 16 → lowestBits results k + getD results k 0 % 2 * 2 ^ k % 2 ^ 64 ≡ lowestBits results (k + 1)
+unfolding lowestBits ofBits
+lowest-more results k h =
+    let v : ℕ = getD results k 0 in
+    let lowest : digit (bit v 0) ≡ v % 2 = digit-bit v 0 ∙ bits-mod v 1 in
+    let one : v % 2 * 2 ^ k ≤ 1 * 2 ^ k = mul-le-mul-right (2 ^ k) (omega arith) in
+    let short : v % 2 * 2 ^ k % 2 ^ 64 ≡ v % 2 * 2 ^ k = mod-eq-of-lt (omega (arith, one, pow-mono {i = k} {j = 16} (omega arith))) in
+    rw (add-one k, lowest, short) (omega arith)
+
+-- The mask has n bits.
+pub lowest-less : (results : List ℕ) (n : ℕ) → n ≤ 16 → lowestBits results n < 2 ^ 16
+unfolding lowestBits
+lowest-less results n h = omega (arith, ofBits-less (λ k. bit (getD results k 0) 0) n, pow-mono {i = n} {j = 16} h)
 
 -- What a destination of any type stores for an outcome has the outcome as its lowest bit.
 stored-outcome : (t : ℕ) (b : Bool) → bit (stored false t (oneIf b)) 0 ≡ b

@@ -3,6 +3,7 @@ use mathlib.Core.Path.{_≡_, refl, sym, ap, _∙_, subst}
 use mathlib.Core.Bool.{Bool, true, false, cond, true≢false}
 use mathlib.Core.List.{List, List·Memᴰ, [], _∷_}
 use Prim.Native.Nat.{ℕ, zero, suc, _+_, _^_, _≤_, _<_}
+use native.Mathlib.Numerals.{add-one}
 use native.Mathlib.Omega.{arith}
 use lib.Dec.{eqb, lit<}
 use lib.ListN.{length, getD, set, replicate}
@@ -145,6 +146,11 @@ pub values-same : (f g : ℕ → ℕ) (n : ℕ) → ((k : ℕ) → k < n → f k
 unfolding values fill
 values-same f g zero h = refl
 values-same f g (suc n) h = cc (h n (omega arith), values-same f g n (λ k q. h k (omega arith)))
+
+-- One channel more.
+pub values-more : (f : ℕ → ℕ) (k v : ℕ) (l : List ℕ) → l ≡ values f k → v ≡ f k → set l k v ≡ values f (k + 1)
+unfolding values fill
+values-more f k v l e h = rw (add-one k, e, h)
 
 -- What the channels make, by the mask of the predicate as the instruction numbers its channels, is what the paper says that they store.
 pub makes-stores : (p : paper.Plain) (w : ℕ) (st : Store) → channelOf w 0 + channels w ≤ 16 → (k : ℕ) → k < channels w
