@@ -2,9 +2,8 @@
 ghost use mathlib.Core.List.{[]};
 ghost use mathlib.Core.Path.{_≡_};
 ghost use Rattle.paper.specs.Enable.{chosenFlag};
-ghost use Rattle.paper.specs.Effect.{withFlag};
 ghost use Rattle.words.specs.Words.{toWord};
-ghost use Rattle.execute.specs.Stores.{storeOf};
+ghost use Rattle.execute.specs.Stores.{storeOf, FlagsOf};
 use words::bytes::Word;
 use words::fields::flag_choice;
 
@@ -26,8 +25,7 @@ pub fn chosen(w: Word, f: Flags) -> u64
 
 // The flags with another number in the one that a word chooses.
 pub fn with_chosen(w: Word, f: Flags, flag: u64) -> Flags
-    ensures { λ r. ⌜ (r .flag0 ≡ withFlag (toWord w) (storeOf [] f) [] flag .flag0)
-        × (r .flag1 ≡ withFlag (toWord w) (storeOf [] f) [] flag .flag1) ⌝ }
+    ensures { λ r. ⌜ FlagsOf r (toWord w) (storeOf [] f) flag ⌝ }
 {
     if flag_choice(w) == 0 {
         return Flags { flag0: flag, flag1: f.flag1 };
