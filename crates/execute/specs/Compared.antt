@@ -1,19 +1,19 @@
 -- What cmp finds, as a mask taken from its results: channel k's bit is the lowest of what the channel stores. Assumes nothing.
-use mathlib.Core.Path.{_≡_, refl, sym, ap, _∙_, subst}
+use mathlib.Core.Path.{_≡_, refl, _∙_, subst}
 use mathlib.Core.Bool.{Bool, true, false, cond}
 use mathlib.Core.List.{List}
 use Prim.Native.Nat.{ℕ, _+_, _-_, _*_, _%_, _^_, _≤_, _<_}
 use native.Mathlib.Omega.{arith}
 use native.Mathlib.Nat.{mul-le-mul-right, mod-eq-of-lt}
 use native.Mathlib.Numerals.{add-one}
-use lib.Dec.{eqb, ltb}
-use lib.IntN.{ℤ, _-ℤ_}
+use lib.Dec.{ltb}
+use lib.IntN.{_-ℤ_}
 use lib.ListN.{getD}
 use lib.Pow.{pow-mono}
 use Rattle.paper.specs.Bits.{bit}
 use Rattle.paper.specs.Word.{src0, src1, condModifier, saturate, dstType, qtrCtrl}
 use Rattle.paper.specs.Operation.{Plain}
-use Rattle.paper.specs.Value.{width, modZ, stored}
+use Rattle.paper.specs.Value.{modZ, stored}
 use Rattle.paper.specs.Element.{compares, oneIf, result}
 use Rattle.paper.specs.Region.{channels}
 use Rattle.paper.specs.Enable.{Store, digit, ofBits, channelOf}

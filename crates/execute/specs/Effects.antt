@@ -2,12 +2,10 @@
 use mathlib.Core.Path.{_≡_, refl, sym, ap, ap₂, _∙_, subst}
 use mathlib.Core.Bool.{Bool, true, false, cond, false≢true}
 use mathlib.Core.List.{List}
-use Prim.Native.Nat.{ℕ, _+_, _*_, _^_, _≤_, _<_}
-use native.Mathlib.Omega.{arith}
-use lib.Dec.{eqb}
+use Prim.Native.Nat.{ℕ, _+_, _≤_}
 use lib.ListN.{getD}
 use Rattle.paper.specs.Bits.{bit}
-use Rattle.paper.specs.Word.{qtrCtrl, flagChoice}
+use Rattle.paper.specs.Word.{qtrCtrl}
 use Rattle.paper.specs.Operation.{Plain, Operation, plain, nop, branch, unlisted, operation, traits}
 use Rattle.paper.specs.Region.{channels, dstSize, dstElement}
 use Rattle.paper.specs.Legal.{isNull}

@@ -1,13 +1,12 @@
 -- What the channels of a source read, as patterns: sixteen numbers, channel k's at k. Assumes nothing.
-use mathlib.Core.Path.{_≡_, refl, sym, ap, _∙_}
+use mathlib.Core.Path.{_≡_, refl, sym}
 use mathlib.Core.Bool.{Bool, true, false, cond}
 use mathlib.Core.List.{List}
-use Prim.Native.Nat.{ℕ, zero, suc, _+_, _*_, _^_, _≤_, _<_}
+use Prim.Native.Nat.{ℕ, zero, suc, _+_, _^_, _≤_, _<_}
 use native.Mathlib.Omega.{arith}
 use native.Mathlib.Nat.{pow-suc}
 use lib.Dec.{lit<}
 use lib.ListN.{getD, replicate}
-use lib.IntN.{ℤ}
 use Rattle.paper.specs.Bits.{number, numberAt}
 use Rattle.paper.specs.Word.{Source, srcType, srcModifier, isImmediate, immediate}
 use Rattle.paper.specs.Value.{width, value, modified}

@@ -1,18 +1,17 @@
 -- What a legal word gives: sources that can be read, a destination that can be written. Assumes nothing.
-use mathlib.Core.Path.{_≡_, refl, ap, _∙_}
-use mathlib.Core.Bool.{Bool, true, false, not, _&&_, _||_, true≢false}
-use mathlib.Core.List.{List·Memᴰ, [], _∷_}
-use Prim.Native.Nat.{ℕ, _+_, _^_, _≤_, _<_}
+use mathlib.Core.Path.{_≡_, refl}
+use mathlib.Core.Bool.{Bool, true, false, _||_, true≢false}
+use mathlib.Core.List.{List·Memᴰ}
+use Prim.Native.Nat.{ℕ, _+_, _≤_, _<_}
 use native.Mathlib.Omega.{arith}
 use lib.Dec.{eqb, ltb, leb}
-use lib.ListN.{length}
 use lib.Pow.{pow-mono}
 use borrow.Author.Tests.{leb-true, ltb-false, eqb-true}
 use Rattle.paper.specs.Limits.{registerBytes}
 use Rattle.paper.specs.Word.{Source, src0, src1, accessMode, accWrCtrl, execSize, saturate, predCtrl, condModifier, srcType, isImmediate}
 use Rattle.paper.specs.Operation.{Plain, traits, sources}
 use Rattle.paper.specs.Region.{channels, srcSize, srcElement, dstSize, dstElement}
-use Rattle.paper.specs.Legal.{anyOf, misplaced, unequalHalves, badModifier, isNull, quarterServed, conditionServed, controlServed, plainServed, operandRuleBroken}
+use Rattle.paper.specs.Legal.{anyOf, misplaced, unequalHalves, badModifier, isNull, quarterServed, conditionServed, controlServed, operandRuleBroken}
 use Rattle.paper.specs.Enable.{channelOf}
 use Rattle.laws.specs.Halfwords.{both}
 use Rattle.laws.specs.Regions.{LegalPlain, SourceShape, source-shape, source-inside, destination-inside}

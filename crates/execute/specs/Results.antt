@@ -1,21 +1,21 @@
 -- The patterns that an instruction's channels store, from the patterns that they read. Assumes nothing.
-use mathlib.Core.Path.{_≡_, refl, sym, ap, _∙_, subst}
+use mathlib.Core.Path.{_≡_, refl, sym, ap, subst}
 use mathlib.Core.Bool.{Bool, true, false, cond, true≢false}
-use mathlib.Core.List.{List, List·Memᴰ, [], _∷_}
+use mathlib.Core.List.{List, [], _∷_}
 use Prim.Native.Nat.{ℕ, zero, suc, _+_, _^_, _≤_, _<_}
 use native.Mathlib.Numerals.{add-one}
 use native.Mathlib.Omega.{arith}
 use lib.Dec.{eqb, lit<}
 use lib.ListN.{length, getD, set, replicate}
 use Rattle.paper.specs.Bits.{bit}
-use Rattle.paper.specs.Word.{Source, src0, src1, condModifier, saturate, dstType, srcType, qtrCtrl}
+use Rattle.paper.specs.Word.{src0, src1, condModifier, saturate, dstType, srcType, qtrCtrl}
 use Rattle.paper.specs.Operation as paper
 use Rattle.paper.specs.Value.{width, value, modified, stored}
 use Rattle.paper.specs.Element.{result}
 use Rattle.paper.specs.Region.{channels}
-use Rattle.paper.specs.Enable.{Store, channelOf, holds}
+use Rattle.paper.specs.Enable.{Store, channelOf}
 use Rattle.paper.specs.Effect.{operand, channelResult, channelStores}
-use Rattle.laws.specs.Regions.{LegalPlain, second-source}
+use Rattle.laws.specs.Regions.{LegalPlain}
 use Rattle.words.specs.Operations.{plainIs}
 use Rattle.words.specs.declared.operation.Plain.{Plain}
 use Rattle.element.specs.Operands.{Patterns, result-one}

@@ -28,7 +28,13 @@ pub fn with_chosen(w: Word, f: Flags, flag: u64) -> Flags
     ensures { λ r. ⌜ FlagsOf r (toWord w) (storeOf [] f) flag ⌝ }
 {
     if flag_choice(w) == 0 {
-        return Flags { flag0: flag, flag1: f.flag1 };
+        return Flags {
+            flag0: flag,
+            flag1: f.flag1,
+        };
     }
-    Flags { flag0: f.flag0, flag1: flag }
+    Flags {
+        flag0: f.flag0,
+        flag1: flag,
+    }
 }

@@ -96,7 +96,15 @@ fn elements(x: Source, w: Word, registers: &[u8]) -> [u64; 16]
     let rows = stride_of(src_vert_stride(x, w) as usize);
     let columns = stride_of(src_horz_stride(x, w) as usize);
     let size = size_of(src_type(x, w));
-    gather(registers, origin(x, w), rows, src_width(x, w) as usize, columns, size, channels(w))
+    gather(
+        registers,
+        origin(x, w),
+        rows,
+        src_width(x, w) as usize,
+        columns,
+        size,
+        channels(w),
+    )
 }
 
 // The patterns that the channels of a source read.

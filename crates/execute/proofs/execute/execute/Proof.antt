@@ -7,15 +7,6 @@ use Rattle.execute.proofs.Executed.{Made, registers-made, flag0-made, f
 use borrow.Author.Needs.{needs}
 use Rattle.execute.proofs.execute.execute.Statement.{statement}
 use Rattle.execute.proofs.execute.execute.Tie as tie
-use Rattle.execute.proofs.execute.execute.Reads as reads
-use Rattle.execute.proofs.execute.execute.Lts as lts
-use Rattle.execute.proofs.execute.enable_of.Reads as enable-of-reads
-use Rattle.execute.proofs.execute.flags_after.Reads as flags-after-reads
-use Rattle.execute.proofs.execute.predicate_of.Reads as predicate-of-reads
-use Rattle.execute.proofs.execute.write.Reads as write-reads
-use Rattle.execute.proofs.results.results.Reads as results-reads
-use Rattle.lanes.proofs.mask.quarter_mask.Reads as quarter-mask-reads
-use Rattle.words.proofs.fields.qtr_ctrl.Reads as qtr-ctrl-reads
 
 -- The word is legal.
 legal : (s : tie.Start) → LegalPlain (plainIs (s .args .p)) (toWord (s .args .w))
@@ -35,45 +26,35 @@ made c =
       makes = c .before .before .before .before .before .before .before .before .results .ensures;
     }
 
--- src/execute.rt:150:9
 qtr-ctrl-requires : tie.Need-qtr-ctrl-requires
 qtr-ctrl-requires c κs = search needs
 
--- src/execute.rt:151:9
 predicate-of-requires : tie.Need-predicate-of-requires
 predicate-of-requires c κs = search needs
 
--- src/execute.rt:152:9
 enable-of-requires : tie.Need-enable-of-requires
 enable-of-requires c κs = search needs
 
--- src/execute.rt:153:30
 quarter-mask-requires : tie.Need-quarter-mask-requires
 quarter-mask-requires c κs = search needs
 
--- src/execute.rt:153:16
 results-requires : tie.Need-results-requires
 results-requires c κs = (legal (c .before .before .before .before .before .before), c .before .before .before .before .before .before .pre .1 .0)
 
--- src/execute.rt:154:14
 quarter-mask-requires-2 : tie.Need-quarter-mask-requires-2
 quarter-mask-requires-2 c κs = search needs
 
--- src/execute.rt:154:5
 write-requires : tie.Need-write-requires
 write-requires c κs =
     let s = c .before .before .before .before .before .before .before .before .before .before in
     (legal-writable (plainIs (s .args .p)) (toWord (s .args .w)) (legal s), s .pre .1 .0)
 
--- src/execute.rt:155:5
 flags-after-requires : tie.Need-flags-after-requires
 flags-after-requires c κs = legal (c .before .before .before .before .before .before .before .before .before .before .before .before .before .before)
 
--- src/execute.rt:142:1
 same-length : tie.Need-same-length
 same-length c = search needs
 
--- src/execute.rt:142:1
 returns : tie.Need-returns
 returns c =
     let s = c .before .before .before .before .before .before .before .before .before .before .before .before .before .before .before in (

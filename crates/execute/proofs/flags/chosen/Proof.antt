@@ -3,19 +3,13 @@ use borrow.Author.Tests.{ne-eqb}
 use borrow.Author.Needs.{needs}
 use Rattle.execute.proofs.flags.chosen.Statement.{statement}
 use Rattle.execute.proofs.flags.chosen.Tie as tie
-use Rattle.execute.proofs.flags.chosen.Reads as reads
-use Rattle.execute.proofs.flags.chosen.Lts as lts
-use Rattle.words.proofs.fields.flag_choice.Reads as flag-choice-reads
 
--- src/flags.rt:21:8
 flag-choice-requires : tie.Need-flag-choice-requires
 flag-choice-requires c κs = search needs
 
--- src/flags.rt:22:9
 returns : tie.Need-returns
 returns c = rw (← (c .before .flag-choice .ensures .0), c .if1 .taken)
 
--- src/flags.rt:18:1
 returns-2 : tie.Need-returns-2
 returns-2 c = rw (← (c .before .flag-choice .ensures .0), ne-eqb _ _ (c .if1 .left))
 

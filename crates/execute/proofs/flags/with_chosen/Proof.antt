@@ -3,15 +3,10 @@ use borrow.Author.Tests.{ne-eqb}
 use borrow.Author.Needs.{needs}
 use Rattle.execute.proofs.flags.with_chosen.Statement.{statement}
 use Rattle.execute.proofs.flags.with_chosen.Tie as tie
-use Rattle.execute.proofs.flags.with_chosen.Reads as reads
-use Rattle.execute.proofs.flags.with_chosen.Lts as lts
-use Rattle.words.proofs.fields.flag_choice.Reads as flag-choice-reads
 
--- src/flags.rt:32:8
 flag-choice-requires : tie.Need-flag-choice-requires
 flag-choice-requires c κs = search needs
 
--- src/flags.rt:33:9
 returns : tie.Need-returns
 returns c =
     record {
@@ -19,7 +14,6 @@ returns c =
       flag1 = rw (← (c .before .flag-choice .ensures .0), c .if1 .taken);
     }
 
--- src/flags.rt:28:1
 returns-2 : tie.Need-returns-2
 returns-2 c =
     record {

@@ -9,10 +9,6 @@ use Rattle.words.specs.Operations.{plainIs}
 use Rattle.lanes.specs.Values.{fill, values}
 use Rattle.execute.proofs.results.each.Statement.{statement}
 use Rattle.execute.proofs.results.each.Tie as tie
-use Rattle.execute.proofs.results.each.Reads as reads
-use Rattle.execute.proofs.results.each.Lts as lts
-use Rattle.execute.proofs.results.make.Reads as make-reads
-use Rattle.lanes.proofs.mask.bit.Reads as bit-reads
 
 abbrev Inv-loop : tie.InvT-loop
 Inv-loop p m predicate n first second results₀ k₀ results k =
@@ -21,59 +17,46 @@ Inv-loop p m predicate n first second results₀ k₀ results k =
 abbrev μ-loop : tie.MeasureT-loop
 μ-loop p m predicate n first second results₀ k₀ results k = n - k
 
--- src/results.rt:144:5
 loop-holds : tie.Need-loop-holds Inv-loop μ-loop
 unfolding values fill
 loop-holds c = (omega arith, refl, refl)
 
--- src/results.rt:145:13
 bit-requires : tie.Need-bit-requires Inv-loop μ-loop
 bit-requires c κs = search needs
 
--- src/results.rt:146:24
 mul-pattern0 : tie.Need-mul-pattern0 Inv-loop μ-loop
 mul-pattern0 c = search needs
 
--- src/results.rt:146:24
 element-copy-out-pattern0 : tie.Need-element-copy-out-pattern0 Inv-loop μ-loop
 element-copy-out-pattern0 c = search needs
 
--- src/results.rt:147:24
 mul-pattern1 : tie.Need-mul-pattern1 Inv-loop μ-loop
 mul-pattern1 c = search needs
 
--- src/results.rt:147:24
 element-copy-out-pattern1 : tie.Need-element-copy-out-pattern1 Inv-loop μ-loop
 element-copy-out-pattern1 c = search needs
 
--- src/results.rt:148:22
 make-requires : tie.Need-make-requires Inv-loop μ-loop
 make-requires c κs = c .before .before .before .before .before .pre .1 (c .before .before .before .before .loop .k) (omega arith)
 
--- src/results.rt:148:9
 mul-results : tie.Need-mul-results Inv-loop μ-loop
 mul-results c = search needs
 
--- src/results.rt:148:9
 array-write-results : tie.Need-array-write-results Inv-loop μ-loop
 array-write-results c = search needs
 
--- src/results.rt:149:9
 add-k : tie.Need-add-k Inv-loop μ-loop
 add-k c = search needs
 
--- src/results.rt:144:5
 loop-less : tie.Need-loop-less Inv-loop μ-loop
 loop-less c = search needs
 
--- src/results.rt:144:5
 loop-again : tie.Need-loop-again Inv-loop μ-loop
 unfolding makes
 loop-again c =
     let k = c .before .before .before .before .before .loop .k in
     (omega arith, simp length-set (omega arith), values-more _ k _ _ (c .before .before .before .before .before .loop .inv .2) (rw (← (c .before .before .before .bit .ensures)) (c .make .ensures)))
 
--- src/results.rt:131:1
 returns : tie.Need-returns Inv-loop μ-loop
 returns c =
     let e : c .before .loop .k ≡ c .before .before .args .n = omega arith in

@@ -1,5 +1,4 @@
 -- What the loop makes of the patterns that are read is what each channel makes of its operands. Assumes nothing.
-use mathlib.Core.Path.{_≡_}
 use Prim.Native.Nat.{_≤_}
 use Rattle.paper.specs.Word.{src0}
 use Rattle.paper.specs.Region.{channels}
@@ -11,45 +10,33 @@ use Rattle.execute.specs.Results.{makes-channel, legal-patterns, values-
 use borrow.Author.Needs.{needs}
 use Rattle.execute.proofs.results.results.Statement.{statement}
 use Rattle.execute.proofs.results.results.Tie as tie
-use Rattle.execute.proofs.results.results.Reads as reads
-use Rattle.execute.proofs.results.results.Lts as lts
-use Rattle.execute.proofs.results.each.Reads as each-reads
-use Rattle.execute.proofs.results.second_patterns.Reads as second-patterns-reads
-use Rattle.execute.proofs.results.told.Reads as told-reads
-use Rattle.execute.proofs.sources.channels.Reads as channels-reads
-use Rattle.execute.proofs.sources.source.Reads as source-reads
 
--- src/results.rt:159:17
 source-requires : tie.Need-source-requires
 source-requires c κs =
     let p = plainIs (c .before .args .p) in
     (legal-readable p (toWord (c .before .args .w)) (c .before .pre .0) src0 (first-source p), c .before .pre .1)
 
--- src/results.rt:160:18
 second-patterns-requires : tie.Need-second-patterns-requires
 second-patterns-requires c κs = search needs
 
--- src/results.rt:161:13
 told-requires : tie.Need-told-requires
 told-requires c κs = search needs
 
--- src/results.rt:161:36
 channels-requires : tie.Need-channels-requires
 channels-requires c κs = legal-count (plainIs (c .before .before .before .before .args .p)) (toWord (c .before .before .before .before .args .w)) (c .before .before .before .before .pre .0)
 
--- src/results.rt:161:5
 each-requires : tie.Need-each-requires
 each-requires c κs =
     let s = c .before .before .before .before .before .before .before in
     let p = plainIs (s .args .p) in
     let w = toWord (s .args .w) in
     let count : channels w ≤ 16 = count-channels w (legal-count p w (s .pre .0)) in
-    rw (c .before .before .channels .ensures .0, c .before .before .before .before .second-patterns .ensures, c .before .before .before .before .before .source .ensures)
-    (count,
-    λ k h. legal-patterns (s .args .p) w (s .args .registers .now) (s .pre .0) count (λ i. c .before .before .before .before .before .before .shared-slice-known .given i .fits)
-    (c .before .before .before .told .result) (c .before .before .before .told .ensures) k h)
+    rw (c .before .before .channels .ensures .0, c .before .before .before .before .second-patterns .ensures, c .before .before .before .before .before .source .ensures) (
+      count,
+      λ k h. legal-patterns (s .args .p) w (s .args .registers .now) (s .pre .0) count (λ i. c .before .before .before .before .before .before .shared-slice-known .given i .fits)
+          (c .before .before .before .told .result) (c .before .before .before .told .ensures) k h,
+    )
 
--- src/results.rt:155:1
 returns : tie.Need-returns
 returns c =
     let s = c .before .before .before .before .before .before .before .before in

@@ -3,25 +3,17 @@ use Rattle.execute.specs.Results.{secondModifier}
 use borrow.Author.Needs.{needs}
 use Rattle.execute.proofs.results.second_modifier.Statement.{statement}
 use Rattle.execute.proofs.results.second_modifier.Tie as tie
-use Rattle.execute.proofs.results.second_modifier.Reads as reads
-use Rattle.execute.proofs.results.second_modifier.Lts as lts
-use Rattle.execute.proofs.results.reads_two.Reads as reads-two-reads
-use Rattle.execute.proofs.sources.modifier_of.Reads as modifier-of-reads
 
--- src/results.rt:79:8
 reads-two-requires : tie.Need-reads-two-requires
 reads-two-requires c κs = search needs
 
--- src/results.rt:80:9
 modifier-of-requires : tie.Need-modifier-of-requires
 modifier-of-requires c κs = search needs
 
--- src/results.rt:80:9
 returns : tie.Need-returns
 unfolding secondModifier
 returns c = rw (← (c .before .before .reads-two .ensures), c .before .if1 .taken) (c .modifier-of .ensures)
 
--- src/results.rt:76:1
 returns-2 : tie.Need-returns-2
 unfolding secondModifier
 returns-2 c = rw (← (c .before .reads-two .ensures), c .if1 .left)

@@ -12,17 +12,10 @@ use Rattle.execute.specs.Readable.{legal-readable}
 use borrow.Author.Needs.{needs}
 use Rattle.execute.proofs.results.second_patterns.Statement.{statement}
 use Rattle.execute.proofs.results.second_patterns.Tie as tie
-use Rattle.execute.proofs.results.second_patterns.Reads as reads
-use Rattle.execute.proofs.results.second_patterns.Lts as lts
-use Rattle.execute.proofs.results.reads_two.Reads as reads-two-reads
-use Rattle.execute.proofs.sources.source.Reads as source-reads
-use Rattle.lanes.proofs.broadcast.broadcast.Reads as broadcast-reads
 
--- src/results.rt:59:8
 reads-two-requires : tie.Need-reads-two-requires
 reads-two-requires c κs = search needs
 
--- src/results.rt:60:9
 source-requires : tie.Need-source-requires
 source-requires c κs =
     let s = c .before .before .before in
@@ -30,16 +23,13 @@ source-requires c κs =
     let two : length (sources p) ≡ 2 = eqb-true (length (sources p)) 2 (rw (← (c .before .reads-two .ensures)) (c .if1 .taken)) in
     (legal-readable p (toWord (s .args .w)) (s .pre .0) src1 (second-source p two), s .pre .1)
 
--- src/results.rt:60:9
 returns : tie.Need-returns
 unfolding secondPatterns
 returns c = rw (← (c .before .before .reads-two .ensures), c .before .if1 .taken) (c .source .ensures)
 
--- src/results.rt:62:5
 broadcast-requires : tie.Need-broadcast-requires
 broadcast-requires c κs = search needs
 
--- src/results.rt:55:1
 returns-2 : tie.Need-returns-2
 unfolding secondPatterns
 returns-2 c = rw (← (c .before .before .reads-two .ensures), c .before .if1 .left) (c .broadcast .ensures)

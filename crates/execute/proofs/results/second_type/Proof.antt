@@ -3,25 +3,17 @@ use Rattle.execute.specs.Results.{secondType}
 use borrow.Author.Needs.{needs}
 use Rattle.execute.proofs.results.second_type.Statement.{statement}
 use Rattle.execute.proofs.results.second_type.Tie as tie
-use Rattle.execute.proofs.results.second_type.Reads as reads
-use Rattle.execute.proofs.results.second_type.Lts as lts
-use Rattle.execute.proofs.results.reads_two.Reads as reads-two-reads
-use Rattle.words.proofs.fields.src_type.Reads as src-type-reads
 
--- src/results.rt:69:8
 reads-two-requires : tie.Need-reads-two-requires
 reads-two-requires c κs = search needs
 
--- src/results.rt:70:9
 src-type-requires : tie.Need-src-type-requires
 src-type-requires c κs = search needs
 
--- src/results.rt:70:9
 returns : tie.Need-returns
 unfolding secondType
 returns c = rw (← (c .before .before .reads-two .ensures), c .before .if1 .taken) (c .src-type .ensures .0)
 
--- src/results.rt:66:1
 returns-2 : tie.Need-returns-2
 unfolding secondType
 returns-2 c = rw (← (c .before .reads-two .ensures), c .if1 .left)

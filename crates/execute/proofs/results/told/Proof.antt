@@ -2,45 +2,28 @@
 use borrow.Author.Needs.{needs}
 use Rattle.execute.proofs.results.told.Statement.{statement}
 use Rattle.execute.proofs.results.told.Tie as tie
-use Rattle.execute.proofs.results.told.Reads as reads
-use Rattle.execute.proofs.results.told.Lts as lts
-use Rattle.execute.proofs.results.second_modifier.Reads as second-modifier-reads
-use Rattle.execute.proofs.results.second_type.Reads as second-type-reads
-use Rattle.execute.proofs.sources.modifier_of.Reads as modifier-of-reads
-use Rattle.words.proofs.fields.cond_modifier.Reads as cond-modifier-reads
-use Rattle.words.proofs.fields.dst_type.Reads as dst-type-reads
-use Rattle.words.proofs.fields.saturate.Reads as saturate-reads
-use Rattle.words.proofs.fields.src_type.Reads as src-type-reads
 
--- src/results.rt:91:9
 cond-modifier-requires : tie.Need-cond-modifier-requires
 cond-modifier-requires c κs = search needs
 
--- src/results.rt:92:21
 saturate-requires : tie.Need-saturate-requires
 saturate-requires c κs = search needs
 
--- src/results.rt:93:9
 dst-type-requires : tie.Need-dst-type-requires
 dst-type-requires c κs = search needs
 
--- src/results.rt:94:9
 src-type-requires : tie.Need-src-type-requires
 src-type-requires c κs = search needs
 
--- src/results.rt:95:9
 modifier-of-requires : tie.Need-modifier-of-requires
 modifier-of-requires c κs = search needs
 
--- src/results.rt:96:9
 second-type-requires : tie.Need-second-type-requires
 second-type-requires c κs = search needs
 
--- src/results.rt:97:9
 second-modifier-requires : tie.Need-second-modifier-requires
 second-modifier-requires c κs = search needs
 
--- src/results.rt:88:1
 returns : tie.Need-returns
 returns c =
     record {

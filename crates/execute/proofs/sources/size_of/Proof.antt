@@ -2,18 +2,13 @@
 use borrow.Author.Tests.{lt-ltb, le-ltb}
 use Rattle.execute.proofs.sources.size_of.Statement.{statement}
 use Rattle.execute.proofs.sources.size_of.Tie as tie
-use Rattle.execute.proofs.sources.size_of.Reads as reads
-use Rattle.execute.proofs.sources.size_of.Lts as lts
 
--- src/sources.rt:49:9
 returns : tie.Need-returns
 returns c = rw (lt-ltb _ _ (c .if1 .taken))
 
--- src/sources.rt:52:9
 returns-2 : tie.Need-returns-2
 returns-2 c = rw (le-ltb _ _ (c .before .if1 .left), lt-ltb _ _ (c .if2 .taken))
 
--- src/sources.rt:45:1
 returns-3 : tie.Need-returns-3
 returns-3 c = rw (le-ltb _ _ (c .before .if1 .left), le-ltb _ _ (c .if2 .left))
 

@@ -3,18 +3,13 @@ use borrow.Author.Tests.{lt-ltb, le-ltb}
 use borrow.Author.Needs.{needs}
 use Rattle.execute.proofs.sources.width_of.Statement.{statement}
 use Rattle.execute.proofs.sources.width_of.Tie as tie
-use Rattle.execute.proofs.sources.width_of.Reads as reads
-use Rattle.execute.proofs.sources.width_of.Lts as lts
 
--- src/sources.rt:36:9
 returns : tie.Need-returns
 returns c = (rw (lt-ltb _ _ (c .if1 .taken)), search needs)
 
--- src/sources.rt:39:9
 returns-2 : tie.Need-returns-2
 returns-2 c = (rw (le-ltb _ _ (c .before .if1 .left), lt-ltb _ _ (c .if2 .taken)), search needs)
 
--- src/sources.rt:32:1
 returns-3 : tie.Need-returns-3
 returns-3 c = (rw (le-ltb _ _ (c .before .if1 .left), le-ltb _ _ (c .if2 .left)), search needs)
 

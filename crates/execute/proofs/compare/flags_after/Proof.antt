@@ -8,18 +8,8 @@ use Rattle.execute.specs.Stores.{flags-kept}
 use Rattle.execute.specs.Readable.{legal-count, legal-channels}
 use Rattle.execute.specs.Effects.{flagFrom, flagMade}
 use borrow.Author.Needs.{needs}
-use Rattle.execute.proofs.execute.flags_after.Statement.{statement}
-use Rattle.execute.proofs.execute.flags_after.Tie as tie
-use Rattle.execute.proofs.execute.flags_after.Reads as reads
-use Rattle.execute.proofs.execute.flags_after.Lts as lts
-use Rattle.execute.proofs.compare.lowest_bits.Reads as lowest-bits-reads
-use Rattle.execute.proofs.execute.compares.Reads as compares-reads
-use Rattle.execute.proofs.flags.chosen.Reads as chosen-reads
-use Rattle.execute.proofs.flags.with_chosen.Reads as with-chosen-reads
-use Rattle.execute.proofs.sources.channels.Reads as channels-reads
-use Rattle.lanes.proofs.flags.flag_after.Reads as flag-after-reads
-use Rattle.lanes.proofs.mask.raised_mask.Reads as raised-mask-reads
-use Rattle.words.proofs.fields.qtr_ctrl.Reads as qtr-ctrl-reads
+use Rattle.execute.proofs.compare.flags_after.Statement.{statement}
+use Rattle.execute.proofs.compare.flags_after.Tie as tie
 
 -- The flag that cmp makes.
 compared : (c : tie.After-with-chosen)
@@ -29,51 +19,40 @@ compared c =
     flag-from (toWord (c .before .before .before .before .before .before .before .before .before .args .w)) (c .before .before .chosen .result) (c .before .before .before .before .before .before .before .before .before .args .enable) _ _ _ _ _ (c .before .before .before .before .before .before .before .before .before .args .results .now)
     (c .before .before .before .before .before .channels .ensures .0) (c .before .before .before .before .before .before .qtr-ctrl .ensures .0) (c .before .before .before .before .lowest-bits .ensures .0) (c .before .before .before .raised-mask .ensures) (c .before .flag-after .ensures .0)
 
--- src/execute.rt:115:8
 compares-requires : tie.Need-compares-requires
 compares-requires c κs = search needs
 
--- src/execute.rt:116:13
 qtr-ctrl-requires : tie.Need-qtr-ctrl-requires
 qtr-ctrl-requires c κs = search needs
 
--- src/execute.rt:117:13
 channels-requires : tie.Need-channels-requires
 channels-requires c κs = legal-count (plainIs (c .before .before .before .args .p)) (toWord (c .before .before .before .args .w)) (c .before .before .before .pre)
 
--- src/execute.rt:118:33
 lowest-bits-requires : tie.Need-lowest-bits-requires
 lowest-bits-requires c κs = search needs
 
--- src/execute.rt:118:13
 raised-mask-requires : tie.Need-raised-mask-requires
 raised-mask-requires c κs = search needs
 
--- src/execute.rt:119:31
 chosen-requires : tie.Need-chosen-requires
 chosen-requires c κs = search needs
 
--- src/execute.rt:119:49
 mul-flag-after : tie.Need-mul-flag-after
 mul-flag-after c = search needs
 
--- src/execute.rt:119:13
 flag-after-requires : tie.Need-flag-after-requires
 flag-after-requires c κs =
     let s = c .before .before .before .before .before .before .before in
     rw (c .before .before .before .channels .ensures .0, c .before .before .before .before .qtr-ctrl .ensures .0) (omega (arith, legal-channels (plainIs (s .args .p)) (toWord (s .args .w)) (s .pre)))
 
--- src/execute.rt:120:9
 with-chosen-requires : tie.Need-with-chosen-requires
 with-chosen-requires c κs = search needs
 
--- src/execute.rt:120:9
 returns : tie.Need-returns
 unfolding flagMade
 returns c =
     rw (← (c .before .before .before .before .before .before .before .before .compares .ensures), c .before .before .before .before .before .before .before .if1 .taken, ← (c .before .before .chosen .ensures), ← (compared c)) (c .with-chosen .ensures)
 
--- src/execute.rt:111:1
 returns-2 : tie.Need-returns-2
 unfolding flagMade
 returns-2 c = rw (← (c .before .compares .ensures), c .if1 .left) (flags-kept (toWord (c .before .before .args .w)) (c .before .before .args .flags))

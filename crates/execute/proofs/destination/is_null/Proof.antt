@@ -1,26 +1,18 @@
 -- The tests are those of the definition. Assumes nothing.
 use borrow.Author.Tests.{ne-eqb}
 use borrow.Author.Needs.{needs}
-use Rattle.execute.proofs.execute.is_null.Statement.{statement}
-use Rattle.execute.proofs.execute.is_null.Tie as tie
-use Rattle.execute.proofs.execute.is_null.Reads as reads
-use Rattle.execute.proofs.execute.is_null.Lts as lts
-use Rattle.words.proofs.fields.dst_file.Reads as dst-file-reads
-use Rattle.words.proofs.fields.dst_register.Reads as dst-register-reads
+use Rattle.execute.proofs.destination.is_null.Statement.{statement}
+use Rattle.execute.proofs.destination.is_null.Tie as tie
 
--- src/execute.rt:68:8
 dst-file-requires : tie.Need-dst-file-requires
 dst-file-requires c κs = search needs
 
--- src/execute.rt:69:16
 dst-register-requires : tie.Need-dst-register-requires
 dst-register-requires c κs = search needs
 
--- src/execute.rt:69:9
 returns : tie.Need-returns
 returns c = rw (← (c .before .before .dst-file .ensures .0), c .before .if1 .taken, c .dst-register .ensures .0)
 
--- src/execute.rt:65:1
 returns-2 : tie.Need-returns-2
 returns-2 c = rw (← (c .before .dst-file .ensures .0), ne-eqb _ _ (c .if1 .left))
 
