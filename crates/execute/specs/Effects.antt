@@ -2,7 +2,7 @@
 use mathlib.Core.Path.{_≡_, refl, sym, ap, ap₂, _∙_, subst}
 use mathlib.Core.Bool.{Bool, true, false, cond, false≢true}
 use mathlib.Core.List.{List}
-use Prim.Native.Nat.{ℕ, _+_, _≤_}
+use Prim.Native.Nat.{ℕ, _<_}
 use lib.ListN.{getD}
 use Rattle.paper.specs.Bits.{bit}
 use Rattle.paper.specs.Word.{qtrCtrl}
@@ -82,20 +82,22 @@ flag-of-cmp p w mask st e legal =
     subst (λ q. flagFrom w (chosenFlag w st) (enableOf q w mask st) (resultsOf q w st) ≡ comparedFlag w (awakeList mask) st) (sym e)
     (flag-compared w mask st (subst (λ q. LegalPlain q w) e legal))
 
+-- Channel k's is the one that the paper says.
+pub getD-results : (p : Plain) (w : ℕ) (st : Store) → LegalPlain p w → (k : ℕ) → k < channels w → getD (resultsOf p w st) k 0 ≡ channelStores p w st k
+getD-results p w st legal k h =
+    getD-values (channelMakes p w (quarterMask (predicateOf w st) (qtrCtrl w)) (st .registers)) (channels w) k h (count-channels w (legal-count p w legal))
+    ∙ makes-stores p w st (legal-channels p w legal) k h
+
 module _ (p : Plain) (w mask : ℕ) (st : Store) (legal : LegalPlain p w) where
   -- The registers are the paper's.
   pub written-effect : written w (quarterMask (enableOf p w mask st) (qtrCtrl w)) (st .registers) (resultsOf p w st) ≡ registersAfter p w (awakeList mask) st
   unfolding written registersAfter
   written-effect =
-      let fits : channelOf w 0 + channels w ≤ 16 = legal-channels p w legal in
-      let count : channels w ≤ 16 = count-channels w (legal-count p w legal) in
-      let made : ℕ → ℕ = channelMakes p w (quarterMask (predicateOf w st) (qtrCtrl w)) (st .registers) in
-      let e = scattered-same (st .registers) (dstElement w) (dstSize w) (isOn p w (awakeList mask) st) (isOn p w (awakeList mask) st)
-      (λ k. getD (resultsOf p w st) k 0) (channelStores p w st) (channels w)
-      (λ k h. refl) (λ k h. getD-values made (channels w) k h count ∙ makes-stores p w st fits k h) in
+      let from-list : ℕ → ℕ = λ k. getD (resultsOf p w st) k 0 in
       ap (cond (isNull w) (st .registers))
-      (scattered-masked w st (awakeList mask) mask fits (getD-awakeList mask) p (st .registers) (dstElement w) (dstSize w) (λ k. getD (resultsOf p w st) k 0)
-      ∙ e)
+      (scattered-masked w st (awakeList mask) mask (legal-channels p w legal) (getD-awakeList mask) p (st .registers) (dstElement w) (dstSize w) from-list
+      ∙ scattered-same (st .registers) (dstElement w) (dstSize w) (isOn p w (awakeList mask) st) (isOn p w (awakeList mask) st) from-list (channelStores p w st) (channels w)
+      (λ k h. refl) (getD-results p w st legal))
 
   -- The flag is the paper's.
   pub flag-effect : flagMade p w (chosenFlag w st) (enableOf p w mask st) (resultsOf p w st)
