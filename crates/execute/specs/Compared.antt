@@ -1,0 +1,80 @@
+-- What cmp finds, as a mask taken from its results: channel k's bit is the lowest of what the channel stores. Assumes nothing.
+use mathlib.Core.Path.{_≡_, refl, _∙_, subst}
+use mathlib.Core.Bool.{Bool, true, false, cond}
+use mathlib.Core.List.{List}
+use Prim.Native.Nat.{ℕ, _+_, _-_, _*_, _%_, _^_, _≤_, _<_}
+use native.Mathlib.Omega.{arith}
+use native.Mathlib.Nat.{mul-le-mul-right, mod-eq-of-lt}
+use native.Mathlib.Numerals.{add-one}
+use lib.Dec.{ltb}
+use lib.IntN.{_-ℤ_}
+use lib.ListN.{getD}
+use lib.Pow.{pow-mono}
+use Rattle.paper.specs.Bits.{bit}
+use Rattle.paper.specs.Word.{src0, src1, condModifier, saturate, dstType, qtrCtrl}
+use Rattle.paper.specs.Operation.{Plain}
+use Rattle.paper.specs.Value.{modZ, stored}
+use Rattle.paper.specs.Element.{compares, oneIf, result}
+use Rattle.paper.specs.Region.{channels}
+use Rattle.paper.specs.Enable.{Store, digit, ofBits, channelOf}
+use Rattle.paper.specs.Effect.{operand, finds}
+use Rattle.laws.specs.Bits.{bits-mod}
+use Rattle.laws.specs.Masks.{digit-bit, ofBits-less, bit-ofBits}
+use Rattle.lanes.specs.Masks.{raisedMask}
+use Rattle.lanes.specs.MaskLaws.{bit-raised}
+use Rattle.lanes.specs.Values.{values, getD-values}
+use Rattle.execute.specs.Results.{channelMakes}
+
+-- The lowest bits of the n first values: bit k is value k's.
+unfoldable pub lowestBits : List ℕ → ℕ → ℕ
+lowestBits results n = ofBits (λ k. bit (getD results k 0) 0) n
+
+-- One value more.
+pub lowest-more : (results : List ℕ) (k : ℕ) → k < 16 → lowestBits results k + getD results k 0 % 2 * 2 ^ k % 2 ^ 64 ≡ lowestBits results (k + 1)
+unfolding lowestBits ofBits
+lowest-more results k h =
+    let v : ℕ = getD results k 0 in
+    let lowest : digit (bit v 0) ≡ v % 2 = digit-bit v 0 ∙ bits-mod v 1 in
+    let one : v % 2 * 2 ^ k ≤ 1 * 2 ^ k = mul-le-mul-right (2 ^ k) (omega arith) in
+    let short : v % 2 * 2 ^ k % 2 ^ 64 ≡ v % 2 * 2 ^ k = mod-eq-of-lt (omega (arith, one, pow-mono {i = k} {j = 16} (omega arith))) in
+    rw (add-one k, lowest, short) (omega arith)
+
+-- The mask has n bits.
+pub lowest-less : (results : List ℕ) (n : ℕ) → n ≤ 16 → lowestBits results n < 2 ^ 16
+unfolding lowestBits
+lowest-less results n h = omega (arith, ofBits-less (λ k. bit (getD results k 0) 0) n, pow-mono {i = n} {j = 16} h)
+
+-- What a destination of any type stores for an outcome has the outcome as its lowest bit.
+stored-outcome : (t : ℕ) (b : Bool) → bit (stored false t (oneIf b)) 0 ≡ b
+unfolding stored modZ
+stored-outcome t b = go (ltb t 2) (ltb t 4) b
+  where
+    go : (p q b : Bool) → bit (modZ (oneIf b) (2 ^ cond p 32 (cond q 16 8))) 0 ≡ b
+    go true q true = refl
+    go true q false = refl
+    go false true true = refl
+    go false true false = refl
+    go false false true = refl
+    go false false false = refl
+
+-- What cmp stores for a channel has what it finds as its lowest bit.
+makes-outcome : (w predicate : ℕ) (registers : List ℕ) (k : ℕ) → saturate w ≡ 0
+    → bit (channelMakes Plain.cmp w predicate registers k) 0 ≡ compares (condModifier w) (operand w registers src0 k -ℤ operand w registers src1 k)
+unfolding channelMakes result
+makes-outcome w predicate registers k e =
+    rw e (stored-outcome (dstType w) (compares (condModifier w) (operand w registers src0 k -ℤ operand w registers src1 k)))
+
+-- By channel number, the mask says what the paper's cmp finds.
+pub bit-finds : (w predicate : ℕ) (st : Store) → saturate w ≡ 0 → channels w ≤ 16
+    → (m : ℕ) → channelOf w 0 ≤ m → m < channelOf w 0 + channels w
+    → bit (raisedMask (lowestBits (values (channelMakes Plain.cmp w predicate (st .registers)) (channels w)) (channels w)) (qtrCtrl w)) m ≡ finds w st m
+unfolding lowestBits finds
+bit-finds w predicate st e count m from before =
+    let n : ℕ = m - channelOf w 0 in
+    let own : n < channels w = omega arith in
+    let f : ℕ → ℕ = channelMakes Plain.cmp w predicate (st .registers) in
+    let mask : ℕ = ofBits (λ k. bit (getD (values f (channels w)) k 0) 0) (channels w) in
+    let at : 8 * qtrCtrl w + n ≡ m = omega arith in
+    subst (λ (i : ℕ). bit (raisedMask mask (qtrCtrl w)) i ≡ bit mask n) at (bit-raised mask (qtrCtrl w) n)
+    ∙ bit-ofBits (λ k. bit (getD (values f (channels w)) k 0) 0) (channels w) n own
+    ∙ rw (getD-values f (channels w) n own count) (makes-outcome w predicate (st .registers) n e)

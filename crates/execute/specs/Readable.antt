@@ -1,0 +1,101 @@
+-- What a legal word gives: sources that can be read, a destination that can be written. Assumes nothing.
+use mathlib.Core.Path.{_≡_, refl}
+use mathlib.Core.Bool.{Bool, true, false, _||_, true≢false}
+use mathlib.Core.List.{List·Memᴰ}
+use Prim.Native.Nat.{ℕ, _+_, _≤_, _<_}
+use native.Mathlib.Omega.{arith}
+use lib.Dec.{eqb, ltb, leb}
+use lib.Pow.{pow-mono}
+use borrow.Author.Tests.{leb-true, ltb-false, eqb-true}
+use Rattle.paper.specs.Limits.{registerBytes}
+use Rattle.paper.specs.Word.{Source, src0, src1, accessMode, accWrCtrl, execSize, saturate, predCtrl, condModifier, srcType, isImmediate}
+use Rattle.paper.specs.Operation.{Plain, traits, sources}
+use Rattle.paper.specs.Region.{channels, srcSize, srcElement, dstSize, dstElement}
+use Rattle.paper.specs.Legal.{anyOf, misplaced, unequalHalves, badModifier, isNull, quarterServed, conditionServed, controlServed, operandRuleBroken}
+use Rattle.paper.specs.Enable.{channelOf}
+use Rattle.laws.specs.Halfwords.{both}
+use Rattle.laws.specs.Regions.{LegalPlain, SourceShape, source-shape, source-inside, destination-inside}
+use Rattle.lanes.specs.Served.{plain-control, plain-channels}
+
+-- ---- channels
+
+-- Source x of a word can be read: there are 16 channels at most, and what is no immediate lies inside the registers.
+pub record Readable (x : Source) (w : ℕ) : Type 0 where
+  pub count : execSize w ≤ 4
+  pub shape : isImmediate x w ≡ false → SourceShape x w
+  pub inside : isImmediate x w ≡ false → (n : ℕ) → n < channels w → srcElement x w n + srcSize x w ≤ registerBytes
+
+-- A word's destination can be written: what is not null lies inside the registers.
+pub record Writable (w : ℕ) : Type 0 where
+  pub count : execSize w ≤ 4
+  pub inside : isNull w ≡ false → (n : ℕ) → n < channels w → dstElement w n + dstSize w ≤ registerBytes
+
+-- A served ExecSize code is at most 4.
+control-count : (compares saturates : Bool) (w : ℕ) → controlServed compares saturates w ≡ true → execSize w ≤ 4
+unfolding controlServed
+control-count compares saturates w e =
+    let a = both (eqb (accessMode w) 0) _ e in
+    let b = both (eqb (accWrCtrl w) 0) _ (a .1) in
+    leb-true (execSize w) 4 (both (leb (execSize w) 4) _ (b .1) .0)
+
+pub legal-count : (p : Plain) (w : ℕ) → LegalPlain p w → execSize w ≤ 4
+legal-count p w l = control-count (traits p .compares) (traits p .saturates) w (plain-control p w (l .served))
+
+-- So there are 16 channels at most,
+pub count-channels : (w : ℕ) → execSize w ≤ 4 → channels w ≤ 16
+count-channels w h = omega (arith, pow-mono {i = execSize w} {j = 4} h)
+
+-- and they end before channel 16.
+pub legal-channels : (p : Plain) (w : ℕ) → LegalPlain p w → channelOf w 0 + channels w ≤ 16
+legal-channels p w l = plain-channels p w (l .served)
+
+-- ---- operands
+
+-- Every source that an operation reads can be read if the word is legal,
+pub legal-readable : (p : Plain) (w : ℕ) → LegalPlain p w → (x : Source) → List·Memᴰ x (sources p) → Readable x w
+legal-readable p w l x m =
+    record {
+      count = legal-count p w l;
+      shape = source-shape p w (l .shape) x m;
+      inside = source-inside p w (l .shape) (l .reach) x m;
+    }
+
+-- and its destination can be written.
+pub legal-writable : (p : Plain) (w : ℕ) → LegalPlain p w → Writable w
+legal-writable p w l = record { count = legal-count p w l; inside = destination-inside p w (l .reach) }
+
+-- ---- single operations
+
+or-false : (a b : Bool) → (a || b) ≡ false → (a ≡ false) × (b ≡ false)
+or-false true b e = absurd (true≢false e)
+or-false false b e = (refl, e)
+
+-- mul's sources are no dwords.
+pub legal-factors : (w : ℕ) → LegalPlain Plain.mul w → (2 ≤ srcType src0 w) × (2 ≤ srcType src1 w)
+unfolding operandRuleBroken
+legal-factors w l =
+    let a = or-false (misplaced Plain.mul w) _ (l .operands) in
+    let b = or-false (anyOf (unequalHalves w) (sources Plain.mul)) _ (a .1) in
+    let c = or-false (anyOf (badModifier Plain.mul w) (sources Plain.mul)) _ (b .1) in
+    let d = or-false (ltb (srcType src0 w) 2) (ltb (srcType src1 w) 2) (c .1) in
+    (ltb-false (srcType src0 w) 2 (d .0), ltb-false (srcType src1 w) 2 (d .1))
+
+-- What does not serve Saturate has it clear.
+control-saturate : (compares : Bool) (w : ℕ) → controlServed compares false w ≡ true → saturate w ≡ 0
+unfolding controlServed
+control-saturate compares w e =
+    let a = both (eqb (accessMode w) 0) _ e in
+    let b = both (eqb (accWrCtrl w) 0) _ (a .1) in
+    let c = both (leb (execSize w) 4) _ (b .1) in
+    let d = both (quarterServed w) _ (c .1) in
+    let f = both (leb (predCtrl w) 1) _ (d .1) in
+    let g = both (conditionServed compares (condModifier w)) _ (f .1) in
+    eqb-true (saturate w) 0 (left (eqb (saturate w) 0) (g .1))
+  where
+    left : (a : Bool) → (a || false) ≡ true → a ≡ true
+    left true e = refl
+    left false e = e
+
+-- So cmp never saturates.
+pub legal-compared : (w : ℕ) → LegalPlain Plain.cmp w → saturate w ≡ 0
+legal-compared w l = control-saturate true w (plain-control Plain.cmp w (l .served))

@@ -1,0 +1,31 @@
+-- The store that the code holds as lent registers and a pair of flags. Assumes nothing.
+use mathlib.Core.Path.{_≡_, refl}
+use mathlib.Core.Bool.{Bool, true, false, cond}
+use mathlib.Core.List.{List, []}
+use Prim.Native.Nat.{ℕ}
+use lib.Dec.{eqb}
+use Rattle.paper.specs.Word.{flagChoice}
+use Rattle.paper.specs.Enable.{Store, chosenFlag}
+use Rattle.paper.specs.Effect.{withFlag}
+use Rattle.execute.specs.declared.flags.Flags.{Flags}
+
+-- The paper's store of registers and flags.
+abbrev pub storeOf : List ℕ → Flags → Store
+storeOf registers f = record { registers = registers; flag0 = f .flag0; flag1 = f .flag1 }
+
+-- The flags are those of a store with another number in the flag that the word chooses.
+pub record FlagsOf (r : Flags) (w : ℕ) (st : Store) (flag : ℕ) : Type 0 where
+  pub flag0 : r .flag0 ≡ withFlag w st [] flag .flag0
+  pub flag1 : r .flag1 ≡ withFlag w st [] flag .flag1
+
+-- With the number that the chosen flag has, the flags are as they were.
+pub flags-kept : (w : ℕ) (f : Flags) → FlagsOf f w (storeOf [] f) (chosenFlag w (storeOf [] f))
+flags-kept w f = record { flag0 = first (eqb (flagChoice w) 0); flag1 = second (eqb (flagChoice w) 0) }
+  where
+    first : (b : Bool) → f .flag0 ≡ cond b (cond b (f .flag0) (f .flag1)) (f .flag0)
+    first true = refl
+    first false = refl
+
+    second : (b : Bool) → f .flag1 ≡ cond b (f .flag1) (cond b (f .flag0) (f .flag1))
+    second true = refl
+    second false = refl

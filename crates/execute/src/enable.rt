@@ -1,0 +1,54 @@
+// Which channels an instruction works on, as masks by channel number.
+ghost use mathlib.Core.List.{[]};
+ghost use mathlib.Core.Path.{_≡_};
+ghost use Rattle.paper.specs.Word.{weCtrl};
+ghost use Rattle.paper.specs.Enable.{masks};
+ghost use Rattle.words.specs.Words.{toWord};
+ghost use Rattle.words.specs.Operations.{plainIs};
+ghost use Rattle.lanes.specs.Masks.{enableMask};
+ghost use Rattle.lanes.specs.MaskLaws.{predicateOf};
+ghost use Rattle.execute.specs.Stores.{storeOf};
+use crate::flags::Flags;
+use crate::flags::chosen;
+use lanes::mask::enable_mask;
+use lanes::mask::predicate_mask;
+use words::bytes::Word;
+use words::fields::pred_ctrl;
+use words::fields::pred_inv;
+use words::fields::we_ctrl;
+use words::operation::Plain;
+
+// The operation's predicate masks its channels: sel's chooses a source instead.
+fn masks(p: Plain) -> bool
+    ensures { λ r. ⌜ r ≡ masks (plainIs p) ⌝ }
+{
+    match p {
+        Plain::Mov => true,
+        Plain::Sel => false,
+        Plain::Not => true,
+        Plain::And => true,
+        Plain::Or => true,
+        Plain::Xor => true,
+        Plain::Shr => true,
+        Plain::Shl => true,
+        Plain::Asr => true,
+        Plain::Cmp => true,
+        Plain::Add => true,
+        Plain::Mul => true,
+        Plain::Avg => true,
+    }
+}
+
+// The channels whose predicate holds.
+pub fn predicate_of(w: Word, flags: Flags) -> u64
+    ensures { λ r. ⌜ r ≡ predicateOf (toWord w) (storeOf [] flags) ⌝ }
+{
+    predicate_mask(chosen(w, flags), pred_ctrl(w), pred_inv(w))
+}
+
+// The enabled channels, by those that are awake and those whose predicate holds.
+pub fn enable_of(p: Plain, w: Word, awake: u64, predicate: u64) -> u64
+    ensures { λ r. ⌜ r ≡ enableMask (weCtrl (toWord w)) (masks (plainIs p)) awake predicate ⌝ }
+{
+    enable_mask(awake, we_ctrl(w), masks(p), predicate)
+}
