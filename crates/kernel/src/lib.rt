@@ -1,0 +1,2 @@
+// A kernel: one instruction's judgement, the walk, the jumps, the check, and decoding at a place.
+pub mod instruction;
