@@ -1,2 +1,3 @@
 // A kernel: one instruction's judgement, the walk, the jumps, the check, and decoding at a place.
 pub mod instruction;
+pub mod walk;
