@@ -13,7 +13,7 @@ use Rattle.paper.specs.Limits.{instructionLimit}
 use Rattle.paper.specs.Kernel.{Instr, Judged, refused, passed, Parsed, bad, good, prepend, enter, walk}
 use Rattle.paper.specs.Jump.{nextOf, fetch, found, endFrom, endOf, lands}
 use Rattle.kernel.specs.declared.walk.Scan.{Scan}
-use Rattle.kernel.specs.Marks.{marked, Says, mark-more}
+use Rattle.kernel.specs.Marks.{places, marked, Says, mark-more}
 
 -- What the scan r says of what is left, judged as q, from byte `from` on, with c instructions counted and the marks m made before it.
 unfoldable pub Goes : ℕ → ℕ → List ℕ → Parsed → Scan → Type 0
@@ -39,11 +39,11 @@ regroup false true f e = refl
 regroup false false f e = refl
 
 -- One instruction more is one more counted and one more marked.
-goes-more : (i : Instr) (from c : ℕ) (m : List ℕ) (r : Scan) → i .place ≡ from / 8 → from / 8 < length m → (q : Parsed)
+goes-more : (i : Instr) (from c : ℕ) (m : List ℕ) (r : Scan) → i .place ≡ from / 8 → from / 8 < places → length m ≡ places → (q : Parsed)
     → Goes (from + 8 * i .size) (c + 1) (set m (from / 8) 1) q r → Goes from c m (prepend i q) r
 unfolding fetch endFrom Goes
-goes-more i from c m r e l (bad number offset) h = h
-goes-more i from c m r e l (good k) h = (h .0, omega (arith, h .1), λ p. h .2 p ∙ marks-more p)
+goes-more i from c m r e l z (bad number offset) h = h
+goes-more i from c m r e l z (good k) h = (h .0, omega (arith, h .1), λ p. h .2 p ∙ marks-more p)
   where
     next : (from + 8 * i .size) / 8 ≡ nextOf i
     next = omega arith
@@ -52,7 +52,7 @@ goes-more i from c m r e l (good k) h = (h .0, omega (arith, h .1), λ p. h .2 p
         → (marked (set m (from / 8) 1) p || (found (fetch k p) || eqb p (endFrom ((from + 8 * i .size) / 8) k)))
         ≡ (marked m p || (found (cond (eqb (i .place) p) (some i) (fetch k p)) || eqb p (endFrom (nextOf i) k)))
     marks-more p =
-        ap₂ (λ (x : Bool) (a : ℕ). x || (found (fetch k p) || eqb p (endFrom a k))) (mark-more m (from / 8) p l) next
+        ap₂ (λ (x : Bool) (a : ℕ). x || (found (fetch k p) || eqb p (endFrom a k))) (mark-more m (from / 8) p l z) next
         ∙ regroup (marked m p) (eqb (from / 8) p) (found (fetch k p)) (eqb p (endFrom (nextOf i) k))
         ∙ ap (λ (x : Bool). marked m p || (x || eqb p (endFrom (nextOf i) k)))
         (ap (λ (a : ℕ). eqb a p || found (fetch k p)) (sym e) ∙ sym (found-more (eqb (i .place) p) i (fetch k p)))
@@ -65,11 +65,11 @@ eqb-swap a b = go (eqb b a) refl
     go false e = ne-eqb a b (λ h. eqb-false b a e (sym h))
 
 -- At the end only the end itself is marked.
-goes-end : (from c : ℕ) (m : List ℕ) (r : Scan) → from / 8 < length m → r .good ≡ true → r .count ≡ c → r .marks ≡ set m (from / 8) 1
+goes-end : (from c : ℕ) (m : List ℕ) (r : Scan) → from / 8 < places → length m ≡ places → r .good ≡ true → r .count ≡ c → r .marks ≡ set m (from / 8) 1
     → Goes from c m (good []) r
 unfolding fetch endFrom Goes
-goes-end from c m r l g n e =
-    (g, omega arith, λ p. ap (λ (x : List ℕ). marked x p) e ∙ mark-more m (from / 8) p l ∙ ap (λ (x : Bool). marked m p || x) (eqb-swap (from / 8) p))
+goes-end from c m r l z g n e =
+    (g, omega arith, λ p. ap (λ (x : List ℕ). marked x p) e ∙ mark-more m (from / 8) p l z ∙ ap (λ (x : Bool). marked m p || x) (eqb-swap (from / 8) p))
 
 -- ---- the walk, a turn at a time
 
@@ -103,9 +103,9 @@ pub leads-start : (judge : ℕ → Judged) (end : ℕ) (m : List ℕ) → ((p : 
 leads-start judge end m bare r h = goes-whole m bare (walk judge end instructionLimit 0) r h
 
 module _ (judge : ℕ → Judged) (end from c : ℕ) (m : List ℕ) (q : Parsed) (leads : Leads judge end from c m q) where
-  pub leads-end : end ≤ from → from / 8 < length m → (r : Scan) → r .good ≡ true → r .count ≡ c → r .marks ≡ set m (from / 8) 1 → Says q r
-  leads-end h l r g n e =
-      leads r (subst (λ (x : Parsed). Goes from c m x r) (sym (walk-end judge end from (instructionLimit - c) h)) (goes-end from c m r l g n e))
+  pub leads-end : end ≤ from → from / 8 < places → length m ≡ places → (r : Scan) → r .good ≡ true → r .count ≡ c → r .marks ≡ set m (from / 8) 1 → Says q r
+  leads-end h l z r g n e =
+      leads r (subst (λ (x : Parsed). Goes from c m x r) (sym (walk-end judge end from (instructionLimit - c) h)) (goes-end from c m r l z g n e))
 
   module _ (inside : from < end) where
     pub leads-full : c ≡ instructionLimit → (r : Scan) → Says (bad 17 from) r → Says q r
@@ -125,11 +125,11 @@ module _ (judge : ℕ → Judged) (end from c : ℕ) (m : List ℕ) (q : Parsed)
           (subst (λ (x : Parsed). Goes from c m x r)
           (sym (ap (λ (n : ℕ). walk judge end n from) left ∙ walk-refused judge end from inside (instructionLimit - (c + 1)) x j)) s)
 
-      pub leads-passed : (size w : ℕ) → judge from ≡ passed size w → from / 8 < length m
+      pub leads-passed : (size w : ℕ) → judge from ≡ passed size w → from / 8 < places → length m ≡ places
           → Leads judge end (from + 8 * size) (c + 1) (set m (from / 8) 1) q
-      leads-passed size w j l r s =
+      leads-passed size w j l z r s =
           leads r
           (subst (λ (x : Parsed). Goes from c m x r)
           (sym (ap (λ (n : ℕ). walk judge end n from) left ∙ walk-passed judge end from inside (instructionLimit - (c + 1)) size w j))
-          (goes-more (record { place = from / 8; size = size; word = w }) from c m r refl l
+          (goes-more (record { place = from / 8; size = size; word = w }) from c m r refl l z
           (walk judge end (instructionLimit - (c + 1)) (from + 8 * size)) s))

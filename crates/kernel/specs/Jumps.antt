@@ -8,8 +8,15 @@ use native.Mathlib.Omega.{arith}
 use lib.Dec.{ltb}
 use lib.IntN.{ℤ, pos, negsuc, subℕ, _+ℤ_, pos-+ℤ-pos}
 use borrow.Author.Tests.{ltb-true, ltb-false, lt-ltb, le-ltb}
-use Rattle.paper.specs.Kernel.{Instr}
-use Rattle.paper.specs.Jump.{signedOf, targetOf, lands, jumpLands, firstAstray}
+use Rattle.paper.specs.Bits.{bits}
+use Rattle.paper.specs.Dictionary.{Dictionary}
+use Rattle.paper.specs.Kernel.{Instr, Forms}
+use Rattle.paper.specs.Operation.{branch, jmpi}
+use Rattle.paper.specs.Operation as paper
+use Rattle.paper.specs.Jump.{Distance, ownStart, distanceOf, nextOf, signedOf, reach, jumpOf, targetOf, lands, jumpLands, firstAstray}
+use Rattle.kernel.specs.declared.jumps.Astray.{Astray}
+use Rattle.kernel.specs.declared.jumps.Astray.the-variants.{Nowhere, Branch}
+use Rattle.kernel.specs.Standing.{Stands}
 use Rattle.laws.specs.Differences.{sub-add, sub-eq, is-pos, is-neg, sub-pos}
 
 -- A place of which the test `land` holds; none lies below 0.
@@ -26,6 +33,18 @@ landsBy land (some target) = landsAt land target
 unfoldable pub firstOut : (ℕ → Bool) → List Instr → Option ℕ
 firstOut land [] = none
 firstOut land (i ∷ rest) = let later = firstOut land rest in cond (landsBy land (targetOf i)) later (some (8 * i .place))
+
+abbrev pub instrOf : ℕ → ℕ → ℕ → Instr
+instrOf here size w = record { place = here; size = size; word = w }
+
+-- What the code's answer is: none, or the offset.
+abbrev pub astrayIs : Astray → Option ℕ
+astrayIs Nowhere = none
+astrayIs (Branch offset) = some offset
+
+-- The answer for whatever instructions stand in the bytes.
+abbrev pub FirstOut : Dictionary → List ℕ → (ℕ → Bool) → Astray → Type 0
+FirstOut D kernel land r = (forms : Forms) (k : List Instr) → Stands forms D kernel 0 k → astrayIs r ≡ firstOut land k
 
 -- ---- the paper's test
 
@@ -81,3 +100,19 @@ lands-from land a d n half e f = rw (e, f) (go (ltb d half) refl)
     go : (t : Bool) → ltb d half ≡ t → landsFrom land a d half ≡ landsAt land (pos a +ℤ cond t (pos d) (subℕ d (2 * half)))
     go true h = from-forward land a d half (ltb-true _ _ h) ∙ sym (ap (landsAt land) (pos-+ℤ-pos a d))
     go false h = back (ltb-false _ _ h)
+
+-- ---- the branches, of a word w in an instruction of `size` places from place `here` on, whose distance is d
+
+module _ (land : ℕ → Bool) (b : paper.Branch) (here size w d : ℕ) (t : Bool) where
+  pub far-branch : b ≡ jmpi → d ≡ bits w 96 32 → t ≡ landsFrom land (here + size) d (2 ^ 31)
+      → t ≡ landsBy land (jumpOf (branch b) (instrOf here size w))
+  unfolding jumpOf
+  far-branch e f h = h ∙ rw (f, e) (lands-from land (here + size) (bits w 96 32) 32 (2 ^ 31) refl refl)
+
+  -- if, else, endif, while
+  pub near-branch : distanceOf b ≡ record { lo = 48; width = 16; base = ownStart } → d ≡ bits w 48 16 → t ≡ landsFrom land here d (2 ^ 15)
+      → t ≡ landsBy land (jumpOf (branch b) (instrOf here size w))
+  unfolding jumpOf
+  near-branch e f h =
+      h ∙ ap (λ (x : ℕ). landsFrom land here x (2 ^ 15)) f ∙ lands-from land here (bits w 48 16) 16 (2 ^ 15) refl refl
+      ∙ ap (λ (f : Distance). landsAt land (reach f w here (here + size))) (sym e)

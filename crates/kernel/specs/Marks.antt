@@ -1,20 +1,24 @@
 -- The marks that a walk leaves: one for each place at which an instruction starts, and one for the end. Assumes nothing.
-use mathlib.Core.Bool.{Bool, true, false, cond, _||_, or-true, true≢false}
+use mathlib.Core.Bool.{Bool, true, false, cond, _||_, or-true, or-false, true≢false}
 use mathlib.Core.List.{List, [], _∷_}
 use mathlib.Core.Path.{_≡_, refl, sym, ap, ap₂, _∙_}
 use Prim.Native.Nat.{ℕ, zero, suc, _+_, _<_, _≤_}
 use native.Mathlib.Omega.{arith}
-use lib.Dec.{eqb}
-use lib.ListN.{length, getD, set, replicate, List·getD-eq-default}
+use lib.Dec.{eqb, ltb}
+use lib.ListN.{length, getD, set, replicate}
 use lib.Seq.{getD-set-same, getD-set-other}
-use borrow.Author.Tests.{eq-eqb, ne-eqb, eqb-true, eqb-false}
+use borrow.Author.Tests.{lt-ltb, le-ltb, eqb-true, eqb-false}
 use Rattle.paper.specs.Kernel.{Instr, Parsed, bad, good}
 use Rattle.paper.specs.Jump.{lands}
 use Rattle.kernel.specs.declared.walk.Scan.{Scan}
 
--- Place p is marked.
-abbrev pub marked : List ℕ → ℕ → Bool
-marked marks p = eqb (getD marks p 0) 1
+-- How many places there are to mark: those of the longest kernel, and its end.
+abbrev pub places : ℕ
+places = 2049
+
+-- Place p is marked. No place past the marks is.
+unfoldable pub marked : List ℕ → ℕ → Bool
+marked marks p = cond (ltb p places) (eqb (getD marks p 0) 1) false
 
 -- What a scan says of a kernel that is judged so: the refusal and its offset; or how many instructions there are, and by its marks at which
 -- places one starts or the kernel ends.
@@ -47,27 +51,38 @@ says-accepted (good k) r s g = record { instrs = k; judged = refl; count = s .1;
 
 -- ---- laws of marks
 
--- No place past the marks is marked.
-pub unmarked-past : (m : List ℕ) (p : ℕ) → length m ≤ p → marked m p ≡ false
-unmarked-past m p h = rw (List·getD-eq-default m 0 {n = p} h)
+blank-zero : (n p : ℕ) → getD {A = ℕ} (replicate n 0) p 0 ≡ 0
+blank-zero zero p = refl
+blank-zero (suc n) zero = refl
+blank-zero (suc n) (suc p) = blank-zero n p
 
 -- Before the first is marked, none is.
 pub blank-unmarked : (n p : ℕ) → marked (replicate n 0) p ≡ false
-blank-unmarked zero p = refl
-blank-unmarked (suc n) zero = refl
-blank-unmarked (suc n) (suc p) = blank-unmarked n p
+unfolding marked
+blank-unmarked n p = rw (blank-zero n p) (either (ltb p places))
+  where
+    either : (t : Bool) → cond t false false ≡ false
+    either true = refl
+    either false = refl
 
 -- One mark more.
-pub mark-more : (m : List ℕ) (q p : ℕ) → q < length m → marked (set m q 1) p ≡ (marked m p || eqb q p)
-mark-more m q p h = go (eqb q p) refl
+pub mark-more : (m : List ℕ) (q p : ℕ) → q < places → length m ≡ places → marked (set m q 1) p ≡ (marked m p || eqb q p)
+unfolding marked
+mark-more m q p h l = go (eqb q p) refl
   where
     go : (t : Bool) → eqb q p ≡ t → marked (set m q 1) p ≡ (marked m p || t)
     go true e =
-        let same : getD (set m q 1) p 0 ≡ 1 =
-        ap (λ (x : ℕ). getD (set m q 1) x 0) (sym (eqb-true q p e)) ∙ getD-set-same m q 1 0 h in
-        rw same (sym (or-true (marked m p)))
-    go false e = rw (getD-set-other m q p 1 0 (λ x. eqb-false q p e (sym x))) (sym (or-falsity (marked m p)))
-      where
-        or-falsity : (b : Bool) → (b || false) ≡ b
-        or-falsity true = refl
-        or-falsity false = refl
+        let same : q ≡ p = eqb-true q p e in
+        let lt : p < places = omega arith in
+        let one : getD (set m q 1) p 0 ≡ 1 = ap (λ (x : ℕ). getD (set m q 1) x 0) (sym same) ∙ getD-set-same m q 1 0 (omega arith) in
+        rw (lt-ltb _ _ lt, one) (sym (or-true (eqb (getD m p 0) 1)))
+    go false e = rw (getD-set-other m q p 1 0 (λ x. eqb-false q p e (sym x))) (sym (or-false (marked m p)))
+
+-- The code's two tests.
+pub marked-inside : (m : List ℕ) (p : ℕ) → p < places → marked m p ≡ eqb (getD m p 0) 1
+unfolding marked
+marked-inside m p h = rw (lt-ltb _ _ h)
+
+pub marked-past : (m : List ℕ) (p : ℕ) → places ≤ p → marked m p ≡ false
+unfolding marked
+marked-past m p h = rw (le-ltb _ _ h)

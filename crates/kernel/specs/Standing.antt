@@ -28,6 +28,34 @@ wordAt D kernel from = cond (isShort (numberAt kernel from 8)) (expand D (number
 abbrev pub Whole : List ℕ → ℕ → Type 0
 Whole kernel from = from + 8 * sizeAt kernel from ≤ length kernel
 
+one-or-two : (t : Bool) → (0 < cond t 1 2) × (cond t 1 2 ≤ 2)
+one-or-two true = (omega arith, omega arith)
+one-or-two false = (omega arith, omega arith)
+
+pub size-some : (kernel : List ℕ) (from : ℕ) → 0 < sizeAt kernel from
+size-some kernel from = one-or-two (isShort (numberAt kernel from 8)) .0
+
+-- These are its size and its word.
+pub record Fetches (D : Dictionary) (kernel : List ℕ) (from size w : ℕ) : Type 0 where
+  pub some : 0 < size
+  pub few : size ≤ 2
+  pub size-is : size ≡ sizeAt kernel from
+  pub word-is : w ≡ wordAt D kernel from
+
+module _ (D : Dictionary) (kernel : List ℕ) (from : ℕ) where
+  -- As the code finds them.
+  pub fetches-short : (w : ℕ) → isShort (numberAt kernel from 8) ≡ true → w ≡ expand D (numberAt kernel from 8) → Fetches D kernel from 1 w
+  fetches-short w s e = record { some = omega arith; few = omega arith; size-is = rw s; word-is = rw s e }
+
+  pub fetches-long : (w : ℕ) → isShort (numberAt kernel from 8) ≡ false → w ≡ numberAt kernel from 16 → Fetches D kernel from 2 w
+  fetches-long w s e = record { some = omega arith; few = omega arith; size-is = rw s; word-is = rw s e }
+
+  pub short-room : Whole kernel from → from + 8 ≤ length kernel
+  short-room h = omega (arith, size-some kernel from)
+
+  pub long-room : isShort (numberAt kernel from 8) ≡ false → Whole kernel from → from + 16 ≤ length kernel
+  long-room s h = let e : sizeAt kernel from ≡ 2 = rw s in omega arith
+
 -- What is known of an instruction that passed.
 pub record Fits (D : Dictionary) (kernel : List ℕ) (from size w : ℕ) : Type 0 where
   pub some : 0 < size
@@ -138,3 +166,9 @@ module _ (forms : Forms) (D : Dictionary) (kernel : List ℕ) where
             (omega (arith, s .0), h, ap (judgeAt forms D kernel) (sym from-is) ∙ s .2)
         | there h ↦ stands-fetch (from + 8 * j .size) (omega arith) k (s .3) p i (sym (fetch-there j k p h) ∙ e)
       ]
+
+-- Some instructions stand in the whole of the bytes.
+pub record Standing (D : Dictionary) (kernel : List ℕ) : Type 0 where
+  pub forms : Forms
+  pub instrs : List Instr
+  pub stands : Stands forms D kernel 0 instrs

@@ -1,3 +1,5 @@
 // A kernel: one instruction's judgement, the walk, the jumps, the check, and decoding at a place.
+pub mod fetch;
 pub mod instruction;
+pub mod jumps;
 pub mod walk;

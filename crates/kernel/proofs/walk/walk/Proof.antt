@@ -102,7 +102,7 @@ loop-again c =
       f .room,
       omega arith,
       simp length-set (l .inv .2),
-      leads-passed _ _ _ _ _ _ (l .inv .3) t h _ _ j (omega arith),
+      leads-passed _ _ _ _ _ _ (l .inv .3) t h _ _ j (omega arith) (l .inv .2),
     )
 
 -- src/walk.rt:47:5
@@ -113,7 +113,7 @@ array-write-marks-2 c = search needs
 returns-3 : tie.Need-returns-3 Inv-loop μ-loop
 returns-3 c =
     let l = c .before .loop in
-    leads-end _ _ _ _ _ _ (l .inv .3) (c .loop-test .left) (omega arith) _ refl refl refl
+    leads-end _ _ _ _ _ _ (l .inv .3) (c .loop-test .left) (omega arith) (l .inv .2) _ refl refl refl
 
 pub walk-spec : {M : Type 1} → statement M
 walk-spec =
