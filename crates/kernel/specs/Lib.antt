@@ -3,3 +3,5 @@ pub mod Judging
 pub mod Standing
 pub mod Marks
 pub mod Jumps
+pub mod Accepting
+pub mod Answers

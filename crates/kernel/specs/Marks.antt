@@ -31,6 +31,10 @@ pub says-bad : (number offset : ℕ) (r : Scan) → r .good ≡ false → r .num
 unfolding Says
 says-bad number offset r g n o = (g, n, o)
 
+-- What is said of an equal judgement.
+pub says-as : (q p : Parsed) (r : Scan) → q ≡ p → Says p r → Says q r
+says-as q p r e s = rw e s
+
 -- What a scan that refuses says.
 pub says-refused : (q : Parsed) (r : Scan) → Says q r → r .good ≡ false → q ≡ bad (r .number) (r .offset)
 unfolding Says
