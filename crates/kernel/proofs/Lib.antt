@@ -1,0 +1,3 @@
+-- Laws that only this crate's proofs cite.
+pub mod Walking
+pub mod Jumping

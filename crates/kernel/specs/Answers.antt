@@ -1,0 +1,101 @@
+-- What the code's answers are in the paper's terms. Assumes nothing.
+use mathlib.Core.Bool.{Bool, true, false, not, cond}
+use mathlib.Core.List.{List, []}
+use mathlib.Core.Path.{_≡_, refl, sym, ap, _∙_}
+use Prim.Native.Nat.{ℕ, _+_, _-_, _*_, _<_, _≤_}
+use native.Mathlib.Nat.{add-sub-cancel-left}
+use native.Mathlib.Omega.{arith}
+use lib.Dec.{leb}
+use lib.ListN.{length, take, drop}
+use borrow.Author.Tests.{le-leb, lt-leb, leb-true, leb-false}
+use Rattle.paper.specs.Dictionary.{dictionaryOf, inRange}
+use Rattle.paper.specs.Kernel.{longAndShort, Judged, refused, passed, judgeAt, Parsed, bad, good}
+use Rattle.paper.specs.Calls.{Answer, refusal, verdict, sized, accepted, checkedAs, checkCall, undecoded, decoded, judgedAs, decodeAt, partOf, decodePart}
+use Rattle.paper.specs.Calls as paper
+use Rattle.words.specs.Words.{toWord}
+use Rattle.kernel.specs.declared.walk.Scan.{Scan}
+use Rattle.kernel.specs.declared.check.Checked.{Checked}
+use Rattle.kernel.specs.declared.check.Checked.the-variants as checked
+use Rattle.kernel.specs.declared.decode.Decoded.{Decoded}
+use Rattle.kernel.specs.declared.decode.Decoded.the-variants.{Refused, Passed}
+use Rattle.kernel.specs.Standing.{fits}
+use Rattle.kernel.specs.Marks.{Says, says-refused, says-accepted}
+use Rattle.kernel.specs.Accepting.{right-sizes}
+
+abbrev pub checkedIs : Checked → Answer
+checkedIs (checked.Accepted count) = verdict 0 count
+checkedIs (checked.Refused number offset) = refusal number offset
+
+abbrev pub decodedIs : Decoded → paper.Decoded
+decodedIs (Refused number offset) = undecoded number offset
+decodedIs (Passed size w) = decoded size (toWord w)
+
+-- ---- the check
+
+module _ (dictionary kernel : List ℕ) (scan : Scan) (says : Says (accepted longAndShort dictionary kernel) scan) where
+  pub check-good : scan .good ≡ true → checkCall dictionary kernel ≡ verdict 0 (scan .count)
+  unfolding checkCall
+  check-good g =
+      let a = says-accepted (accepted longAndShort dictionary kernel) scan says g in
+      ap checkedAs (a .judged) ∙ ap (verdict 0) (sym (a .count))
+
+  pub check-bad : scan .good ≡ false → checkCall dictionary kernel ≡ refusal (scan .number) (scan .offset)
+  unfolding checkCall
+  check-bad g = ap checkedAs (says-refused (accepted longAndShort dictionary kernel) scan says g)
+
+-- ---- decoding, in the code's order
+
+module _ (dictionary kernel : List ℕ) (place : ℕ) where
+  pub decode-size : sized dictionary kernel ≡ false → decodeAt dictionary kernel place ≡ undecoded 1 0
+  unfolding decodeAt
+  decode-size h = rw h
+
+  module _ (right : sized dictionary kernel ≡ true) where
+    pub decode-range : inRange (dictionaryOf dictionary) ≡ false → decodeAt dictionary kernel place ≡ undecoded 2 0
+    unfolding decodeAt
+    decode-range h = rw (right, h)
+
+    module _ (range : inRange (dictionaryOf dictionary) ≡ true) where
+      pub decode-past : length kernel ≤ 8 * place → decodeAt dictionary kernel place ≡ undecoded 3 0
+      unfolding decodeAt
+      decode-past h = rw (right, range, le-leb _ _ h)
+
+      pub decode-far : 2048 ≤ place → decodeAt dictionary kernel place ≡ undecoded 3 0
+      decode-far h = decode-past (omega (arith, right-sizes dictionary kernel right .kernel-most))
+
+      pub decode-inside : (v : Judged) → 8 * place < length kernel → judgeAt longAndShort (dictionaryOf dictionary) kernel (8 * place) ≡ v
+          → decodeAt dictionary kernel place ≡ judgedAs (8 * place) v
+      unfolding decodeAt
+      decode-inside v h j = rw (right, range, lt-leb _ _ h, j)
+
+  -- ---- the part
+
+  pub part-none : (number offset : ℕ) → decodeAt dictionary kernel place ≡ undecoded number offset → [] ≡ decodePart dictionary kernel place
+  unfolding decodePart
+  part-none number offset e = rw e
+
+  pub part-some : (size w : ℕ) → decodeAt dictionary kernel place ≡ decoded size w
+      → take (8 * place + 8 * size - 8 * place) (drop (8 * place) kernel) ≡ decodePart dictionary kernel place
+  unfolding decodePart
+  part-some size w e = rw (e, add-sub-cancel-left (8 * place) (8 * size))
+
+  -- The part lies in the kernel.
+  pub part-fits : (size w : ℕ) → decodeAt dictionary kernel place ≡ decoded size w
+      → (8 * place + 8 * size ≤ length kernel) × (0 < size) × (length kernel ≤ 16384)
+  unfolding decodeAt
+  part-fits size w e =
+      go (sized dictionary kernel) refl (inRange (dictionaryOf dictionary)) refl (leb (length kernel) (8 * place)) refl
+      (judgeAt longAndShort (dictionaryOf dictionary) kernel (8 * place)) refl e
+    where
+      go : (a : Bool) → sized dictionary kernel ≡ a → (b : Bool) → inRange (dictionaryOf dictionary) ≡ b
+          → (t : Bool) → leb (length kernel) (8 * place) ≡ t → (v : Judged) → judgeAt longAndShort (dictionaryOf dictionary) kernel (8 * place) ≡ v
+          → cond (not a) (undecoded 1 0) (cond (not b) (undecoded 2 0) (cond t (undecoded 3 0) (judgedAs (8 * place) v))) ≡ decoded size w
+          → (8 * place + 8 * size ≤ length kernel) × (0 < size) × (length kernel ≤ 16384)
+      go false p b q t r v j e = let z : _≡_ {A = ℕ} 0 1 = cc in absurd (omega arith)
+      go true p false q t r v j e = let z : _≡_ {A = ℕ} 0 1 = cc in absurd (omega arith)
+      go true p true q true r v j e = let z : _≡_ {A = ℕ} 0 1 = cc in absurd (omega arith)
+      go true p true q false r (refused n) j e = let z : _≡_ {A = ℕ} 0 1 = cc in absurd (omega arith)
+      go true p true q false r (passed s x) j e =
+          let f = fits longAndShort (dictionaryOf dictionary) kernel (8 * place) s x (leb-false _ _ r) j in
+          let same : s ≡ size = cc in
+          (omega (arith, f .room), omega (arith, f .some), right-sizes dictionary kernel p .kernel-most)

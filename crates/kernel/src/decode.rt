@@ -1,0 +1,52 @@
+// Decoding at a place: 1, 2, and 3 to 11 of the instruction that starts there.
+use crate::accept::is_sized;
+use crate::instruction::Judged;
+use crate::instruction::judge_at;
+use words::bytes::Word;
+use words::dictionary::in_range;
+ghost use mathlib.Core.Path.{_≡_};
+ghost use Rattle.paper.specs.Calls.{decodeAt, decodePart};
+ghost use Rattle.kernel.specs.Answers.{decodedIs};
+
+// A refusal's number and offset; or the instruction's size in places of 8 bytes, and its word.
+pub enum Decoded {
+    Refused(u8, u64),
+    Passed(u8, Word),
+}
+
+// The instruction that starts at a place, whether or not the kernel has one there. A place at or past the end is 3 with offset 0.
+pub fn decode(dictionary: &[u8], kernel: &[u8], place: u64) -> Decoded
+    ensures { λ r. ⌜ decodedIs r ≡ decodeAt (now (dictionary .entry)) (now (kernel .entry)) place ⌝ }
+{
+    if !is_sized(dictionary, kernel) {
+        return Decoded::Refused(1, 0);
+    }
+    if !in_range(dictionary) {
+        return Decoded::Refused(2, 0);
+    }
+    if 2048 <= place {
+        return Decoded::Refused(3, 0);
+    }
+    let from = 8 * (place as usize);
+    if kernel.len() <= from {
+        return Decoded::Refused(3, 0);
+    }
+    match judge_at(false, dictionary, kernel, from) {
+        Judged::Refused(number) => Decoded::Refused(number, from as u64),
+        Judged::Passed(size, w) => Decoded::Passed(size, w),
+    }
+}
+
+// The bytes of that instruction, as a part of the kernel; none where it is refused.
+pub fn part<'a>(dictionary: &[u8], kernel: &'a [u8], place: u64) -> &'a [u8]
+    ensures { λ r. ⌜ now r ≡ decodePart (now (dictionary .entry)) (now (kernel .entry)) place ⌝ }
+{
+    match decode(dictionary, kernel, place) {
+        Decoded::Refused(_, _) => &kernel[..0],
+        Decoded::Passed(size, _) => {
+            let from = 8 * (place as usize);
+            let to = from + 8 * (size as usize);
+            &kernel[from..to]
+        }
+    }
+}
