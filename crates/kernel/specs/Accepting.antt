@@ -19,9 +19,9 @@ use Rattle.laws.specs.Parse.{jumps-good}
 use Rattle.kernel.specs.declared.walk.Scan.{Scan}
 use Rattle.kernel.specs.declared.jumps.Astray.{Astray}
 use Rattle.kernel.specs.declared.jumps.Astray.the-variants.{Nowhere, Branch}
-use Rattle.kernel.specs.Standing.{Stands, Standing, walk-stands, stands-fetch, fits}
+use Rattle.kernel.specs.Standing.{Whole, Fetches, Fits, fits, Stands, Standing, walk-stands, stands-fetch}
 use Rattle.kernel.specs.Marks.{marked, Says, Accepts, says-bad, says-refused, says-accepted}
-use Rattle.kernel.specs.Jumps.{firstOut, FirstOut, astrayIs, out-astray}
+use Rattle.kernel.specs.Jumps.{instrOf, FirstOut, astrayIs, out-astray}
 
 -- ---- 1
 
@@ -154,3 +154,18 @@ lands-fetch k p e n = go (fetch k p) refl
     go : (o : Option Instr) → fetch k p ≡ o → (i : Instr) × (fetch k p ≡ some i)
     go none h = absurd (n (eqb-true p (endOf k) (rw h at e)))
     go (some i) h = (i, h)
+
+-- So its bytes are there, and reading them gives the instruction.
+module _ (forms : Forms) (dictionary kernel : List ℕ) (k : List Instr) (h : AcceptedKernel forms dictionary kernel k) (p : ℕ) (i : Instr) (e : fetch k p ≡ some i) where
+  abbrev there : Fits (dictionaryOf dictionary) kernel (8 * p) (i .size) (i .word)
+  there = let f = accepted-fetch forms dictionary kernel k h p i e in fits forms (dictionaryOf dictionary) kernel (8 * p) (i .size) (i .word) (f .0) (f .2)
+
+  pub fetch-whole : Whole kernel (8 * p)
+  fetch-whole = omega (arith, there .room, there .size-is)
+
+  pub fetch-is : (size w : ℕ) → Fetches (dictionaryOf dictionary) kernel (8 * p) size w → i ≡ instrOf p size w
+  fetch-is size w f =
+      let at : i .place ≡ p = accepted-fetch forms dictionary kernel k h p i e .1 in
+      let long : i .size ≡ size = sym (f .size-is ∙ there .size-is) in
+      let same : i .word ≡ w = sym (f .word-is ∙ there .word-is) in
+      λ j. record { place = at j; size = long j; word = same j }

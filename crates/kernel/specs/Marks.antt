@@ -53,6 +53,14 @@ unfolding Says
 says-accepted (bad number offset) r s g = absurd (true≢false (sym g ∙ s .0))
 says-accepted (good k) r s g = record { instrs = k; judged = refl; count = s .1; marks = s .2 }
 
+-- The instructions of a kernel that is judged so; none of one that is refused.
+abbrev pub instrsOf : Parsed → List Instr
+instrsOf (bad number offset) = []
+instrsOf (good k) = k
+
+pub says-instrs : (q : Parsed) (r : Scan) → Says q r → r .good ≡ true → q ≡ good (instrsOf q)
+says-instrs q r s g = let a = says-accepted q r s g in a .judged ∙ ap (λ (x : Parsed). good (instrsOf x)) (sym (a .judged))
+
 -- ---- laws of marks
 
 blank-zero : (n p : ℕ) → getD {A = ℕ} (replicate n 0) p 0 ≡ 0
