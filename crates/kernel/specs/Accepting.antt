@@ -1,9 +1,9 @@
 -- An accepted kernel: how the code comes to accept or refuse, and what is then known. Assumes nothing.
 use mathlib.Core.Bool.{Bool, true, false, cond, _&&_, true≢false}
-use mathlib.Core.List.{List, [], _∷_}
+use mathlib.Core.List.{List}
 use mathlib.Core.Option.{Option, none, some}
-use mathlib.Core.Path.{_≡_, refl, sym, ap, _∙_, subst}
-use Prim.Native.Nat.{ℕ, _+_, _*_, _<_, _≤_}
+use mathlib.Core.Path.{_≡_, refl, sym, ap, _∙_}
+use Prim.Native.Nat.{ℕ, _*_, _<_, _≤_}
 use native.Mathlib.Omega.{arith}
 use lib.Dec.{eqb, leb}
 use lib.ListN.{length}
@@ -11,16 +11,16 @@ use borrow.Author.Tests.{eqb-true, leb-true}
 use Rattle.paper.specs.Limits.{instructionLimit, dictionaryBytes, kernelBytes}
 use Rattle.paper.specs.Dictionary.{dictionaryOf, inRange}
 use Rattle.paper.specs.Kernel.{Instr, Forms, passed, judgeAt, Parsed, bad, good, walk, parse}
-use Rattle.paper.specs.Jump.{fetch, found, endOf, lands, firstAstray, astray, withJumps}
+use Rattle.paper.specs.Jump.{fetch, endOf, lands, astray, withJumps}
 use Rattle.paper.specs.Calls.{sized, judgedKernel, accepted}
 use Rattle.laws.specs.Names.{Sound}
-use Rattle.laws.specs.Walk.{Walked, Brings, walked}
+use Rattle.laws.specs.Walk.{walked}
 use Rattle.laws.specs.Parse.{jumps-good}
 use Rattle.kernel.specs.declared.walk.Scan.{Scan}
 use Rattle.kernel.specs.declared.jumps.Astray.{Astray}
 use Rattle.kernel.specs.declared.jumps.Astray.the-variants.{Nowhere, Branch}
 use Rattle.kernel.specs.Standing.{Whole, Fetches, Fits, fits, Stands, Standing, walk-stands, stands-fetch}
-use Rattle.kernel.specs.Marks.{marked, Says, Accepts, says-bad, says-refused, says-accepted}
+use Rattle.kernel.specs.Marks.{marked, Says, says-bad, says-refused, says-accepted}
 use Rattle.kernel.specs.Jumps.{instrOf, FirstOut, astrayIs, out-astray}
 
 -- ---- 1

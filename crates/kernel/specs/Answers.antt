@@ -9,8 +9,8 @@ use lib.Dec.{leb, ltb}
 use lib.ListN.{length, take, drop}
 use borrow.Author.Tests.{le-leb, lt-leb, leb-false, ltb-true, ltb-false}
 use Rattle.paper.specs.Dictionary.{dictionaryOf, inRange}
-use Rattle.paper.specs.Kernel.{longAndShort, Judged, refused, passed, judgeAt, Parsed, bad, good}
-use Rattle.paper.specs.Calls.{Answer, refusal, verdict, sized, accepted, checkedAs, checkCall, undecoded, decoded, judgedAs, decodeAt, partOf, decodePart}
+use Rattle.paper.specs.Kernel.{longAndShort, Judged, refused, passed, judgeAt, good}
+use Rattle.paper.specs.Calls.{Answer, refusal, verdict, sized, accepted, checkedAs, checkCall, undecoded, decoded, judgedAs, decodeAt, decodePart}
 use Rattle.paper.specs.Calls as paper
 use Rattle.words.specs.Words.{toWord}
 use Rattle.kernel.specs.declared.walk.Scan.{Scan}

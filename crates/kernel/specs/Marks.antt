@@ -1,8 +1,8 @@
 -- The marks that a walk leaves: one for each place at which an instruction starts, and one for the end. Assumes nothing.
 use mathlib.Core.Bool.{Bool, true, false, cond, _||_, or-true, or-false, true≢false}
-use mathlib.Core.List.{List, [], _∷_}
+use mathlib.Core.List.{List, []}
 use mathlib.Core.Path.{_≡_, refl, sym, ap, ap₂, _∙_}
-use Prim.Native.Nat.{ℕ, zero, suc, _+_, _<_, _≤_}
+use Prim.Native.Nat.{ℕ, zero, suc, _<_, _≤_}
 use native.Mathlib.Omega.{arith}
 use lib.Dec.{eqb, ltb}
 use lib.ListN.{length, getD, set, replicate}

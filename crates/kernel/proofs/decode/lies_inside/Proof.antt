@@ -7,20 +7,15 @@ use borrow.Author.Tests.{le-ltb}
 use borrow.Author.Needs.{needs}
 use Rattle.kernel.proofs.decode.lies_inside.Statement.{statement}
 use Rattle.kernel.proofs.decode.lies_inside.Tie as tie
-use Rattle.kernel.proofs.decode.lies_inside.Reads as reads
-use Rattle.kernel.proofs.decode.lies_inside.Lts as lts
 
--- src/decode.rt:26:9
 returns : tie.Need-returns
 returns c =
     let a = c .before .args in
     sym (le-ltb (8 * a .place) (length (a .kernel .now)) (omega arith))
 
--- src/decode.rt:28:5
 mul-result : tie.Need-mul-result
 mul-result c = search needs
 
--- src/decode.rt:21:1
 returns-2 : tie.Need-returns-2
 returns-2 c = search needs
 
