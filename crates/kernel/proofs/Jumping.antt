@@ -1,7 +1,7 @@
 -- What is left of the second pass from where the code's loop stands. Assumes nothing.
-use mathlib.Core.Bool.{Bool, true, false, cond}
+use mathlib.Core.Bool.{Bool, true, false}
 use mathlib.Core.List.{List, [], _∷_}
-use mathlib.Core.Option.{Option, none, some}
+use mathlib.Core.Option.{none, some}
 use mathlib.Core.Path.{_≡_, refl, sym, ap, _∙_}
 use Prim.Native.Nat.{ℕ, _+_, _*_, _/_, _%_, _<_, _≤_}
 use native.Mathlib.Omega.{arith}
@@ -9,7 +9,7 @@ use lib.ListN.{length}
 use Rattle.paper.specs.Dictionary.{Dictionary}
 use Rattle.paper.specs.Kernel.{Instr, Forms}
 use Rattle.paper.specs.Jump.{targetOf}
-use Rattle.kernel.specs.Standing.{sizeAt, wordAt, Whole, Fetches, Stands, Standing, Next, stands-next, stands-end}
+use Rattle.kernel.specs.Standing.{Whole, Fetches, Stands, Standing, Next, stands-next, stands-end}
 use Rattle.kernel.specs.Jumps.{landsBy, firstOut, instrOf, FirstOut}
 use Rattle.kernel.specs.declared.jumps.Astray.the-variants.{Nowhere, Branch}
 
@@ -72,10 +72,9 @@ module _ (D : Dictionary) (kernel : List ℕ) (land : ℕ → Bool) (from : ℕ)
       left-on e forms k s =
           let l = left forms k s in
           let n = stands-next forms D kernel from (l .0) (l .1) inside in
-          let i = next-is forms (l .0) n in
-          (
+          let i = next-is forms (l .0) n in (
             n .later,
             rw (f .size-is ∙ n .fit .size-is) (n .stands),
             l .2 ∙ ap (firstOut land) (n .split) ∙ ap (λ (x : Instr). firstOut land (x ∷ n .later)) i
-            ∙ first-in land (instrOf (from / 8) size w) (n .later) e,
+                ∙ first-in land (instrOf (from / 8) size w) (n .later) e,
           )

@@ -1,17 +1,17 @@
 -- What is left of a walk from where the code's loop stands, and that it says of the whole what the loop says in the end. Over any judgement.
 -- Assumes nothing.
-use mathlib.Core.Bool.{Bool, true, false, cond, _||_, or-false}
-use mathlib.Core.List.{List, [], _∷_}
-use mathlib.Core.Option.{Option, none, some}
+use mathlib.Core.Bool.{Bool, true, false, cond, _||_}
+use mathlib.Core.List.{List, []}
+use mathlib.Core.Option.{Option, some}
 use mathlib.Core.Path.{_≡_, refl, sym, ap, ap₂, _∙_, subst}
 use Prim.Native.Nat.{ℕ, zero, suc, _+_, _-_, _*_, _/_, _<_, _≤_}
 use native.Mathlib.Omega.{arith}
-use lib.Dec.{eqb, ltb}
+use lib.Dec.{eqb}
 use lib.ListN.{length, set}
 use borrow.Author.Tests.{lt-ltb, le-ltb, eqb-true, eqb-false, eq-eqb, ne-eqb}
 use Rattle.paper.specs.Limits.{instructionLimit}
-use Rattle.paper.specs.Kernel.{Instr, Judged, refused, passed, Parsed, bad, good, prepend, enter, walk}
-use Rattle.paper.specs.Jump.{nextOf, fetch, found, endFrom, endOf, lands}
+use Rattle.paper.specs.Kernel.{Instr, Judged, refused, passed, Parsed, bad, good, prepend, walk}
+use Rattle.paper.specs.Jump.{nextOf, fetch, found, endFrom, lands}
 use Rattle.kernel.specs.declared.walk.Scan.{Scan}
 use Rattle.kernel.specs.Marks.{places, marked, Says, mark-more}
 

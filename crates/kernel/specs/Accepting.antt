@@ -1,9 +1,9 @@
 -- An accepted kernel: how the code comes to accept or refuse, and what is then known. Assumes nothing.
 use mathlib.Core.Bool.{Bool, true, false, cond, _&&_, true≢false}
-use mathlib.Core.List.{List, [], _∷_}
+use mathlib.Core.List.{List}
 use mathlib.Core.Option.{Option, none, some}
-use mathlib.Core.Path.{_≡_, refl, sym, ap, _∙_, subst}
-use Prim.Native.Nat.{ℕ, _+_, _*_, _<_, _≤_}
+use mathlib.Core.Path.{_≡_, refl, sym, ap, _∙_}
+use Prim.Native.Nat.{ℕ, _*_, _<_, _≤_}
 use native.Mathlib.Omega.{arith}
 use lib.Dec.{eqb, leb}
 use lib.ListN.{length}
@@ -11,17 +11,17 @@ use borrow.Author.Tests.{eqb-true, leb-true}
 use Rattle.paper.specs.Limits.{instructionLimit, dictionaryBytes, kernelBytes}
 use Rattle.paper.specs.Dictionary.{dictionaryOf, inRange}
 use Rattle.paper.specs.Kernel.{Instr, Forms, passed, judgeAt, Parsed, bad, good, walk, parse}
-use Rattle.paper.specs.Jump.{fetch, found, endOf, lands, firstAstray, astray, withJumps}
+use Rattle.paper.specs.Jump.{fetch, endOf, lands, astray, withJumps}
 use Rattle.paper.specs.Calls.{sized, judgedKernel, accepted}
 use Rattle.laws.specs.Names.{Sound}
-use Rattle.laws.specs.Walk.{Walked, Brings, walked}
+use Rattle.laws.specs.Walk.{walked}
 use Rattle.laws.specs.Parse.{jumps-good}
 use Rattle.kernel.specs.declared.walk.Scan.{Scan}
 use Rattle.kernel.specs.declared.jumps.Astray.{Astray}
 use Rattle.kernel.specs.declared.jumps.Astray.the-variants.{Nowhere, Branch}
-use Rattle.kernel.specs.Standing.{Stands, Standing, walk-stands, stands-fetch, fits}
-use Rattle.kernel.specs.Marks.{marked, Says, Accepts, says-bad, says-refused, says-accepted}
-use Rattle.kernel.specs.Jumps.{firstOut, FirstOut, astrayIs, out-astray}
+use Rattle.kernel.specs.Standing.{Whole, Fetches, Fits, fits, Stands, Standing, walk-stands, stands-fetch}
+use Rattle.kernel.specs.Marks.{marked, Says, says-bad, says-refused, says-accepted}
+use Rattle.kernel.specs.Jumps.{instrOf, FirstOut, astrayIs, out-astray}
 
 -- ---- 1
 
@@ -154,3 +154,18 @@ lands-fetch k p e n = go (fetch k p) refl
     go : (o : Option Instr) → fetch k p ≡ o → (i : Instr) × (fetch k p ≡ some i)
     go none h = absurd (n (eqb-true p (endOf k) (rw h at e)))
     go (some i) h = (i, h)
+
+-- So its bytes are there, and reading them gives the instruction.
+module _ (forms : Forms) (dictionary kernel : List ℕ) (k : List Instr) (h : AcceptedKernel forms dictionary kernel k) (p : ℕ) (i : Instr) (e : fetch k p ≡ some i) where
+  abbrev there : Fits (dictionaryOf dictionary) kernel (8 * p) (i .size) (i .word)
+  there = let f = accepted-fetch forms dictionary kernel k h p i e in fits forms (dictionaryOf dictionary) kernel (8 * p) (i .size) (i .word) (f .0) (f .2)
+
+  pub fetch-whole : Whole kernel (8 * p)
+  fetch-whole = omega (arith, there .room, there .size-is)
+
+  pub fetch-is : (size w : ℕ) → Fetches (dictionaryOf dictionary) kernel (8 * p) size w → i ≡ instrOf p size w
+  fetch-is size w f =
+      let at : i .place ≡ p = accepted-fetch forms dictionary kernel k h p i e .1 in
+      let long : i .size ≡ size = sym (f .size-is ∙ there .size-is) in
+      let same : i .word ≡ w = sym (f .word-is ∙ there .word-is) in
+      λ j. record { place = at j; size = long j; word = same j }

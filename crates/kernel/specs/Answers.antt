@@ -5,12 +5,12 @@ use mathlib.Core.Path.{_≡_, refl, sym, ap, _∙_}
 use Prim.Native.Nat.{ℕ, _+_, _-_, _*_, _<_, _≤_}
 use native.Mathlib.Nat.{add-sub-cancel-left}
 use native.Mathlib.Omega.{arith}
-use lib.Dec.{leb}
+use lib.Dec.{leb, ltb}
 use lib.ListN.{length, take, drop}
-use borrow.Author.Tests.{le-leb, lt-leb, leb-true, leb-false}
+use borrow.Author.Tests.{le-leb, lt-leb, leb-false, ltb-true, ltb-false}
 use Rattle.paper.specs.Dictionary.{dictionaryOf, inRange}
-use Rattle.paper.specs.Kernel.{longAndShort, Judged, refused, passed, judgeAt, Parsed, bad, good}
-use Rattle.paper.specs.Calls.{Answer, refusal, verdict, sized, accepted, checkedAs, checkCall, undecoded, decoded, judgedAs, decodeAt, partOf, decodePart}
+use Rattle.paper.specs.Kernel.{longAndShort, Judged, refused, passed, judgeAt, good}
+use Rattle.paper.specs.Calls.{Answer, refusal, verdict, sized, accepted, checkedAs, checkCall, undecoded, decoded, judgedAs, decodeAt, decodePart}
 use Rattle.paper.specs.Calls as paper
 use Rattle.words.specs.Words.{toWord}
 use Rattle.kernel.specs.declared.walk.Scan.{Scan}
@@ -56,17 +56,14 @@ module _ (dictionary kernel : List ℕ) (place : ℕ) where
     decode-range h = rw (right, h)
 
     module _ (range : inRange (dictionaryOf dictionary) ≡ true) where
-      pub decode-past : length kernel ≤ 8 * place → decodeAt dictionary kernel place ≡ undecoded 3 0
+      pub decode-past : ltb (8 * place) (length kernel) ≡ false → decodeAt dictionary kernel place ≡ undecoded 3 0
       unfolding decodeAt
-      decode-past h = rw (right, range, le-leb _ _ h)
+      decode-past h = rw (right, range, le-leb _ _ (ltb-false _ _ h))
 
-      pub decode-far : 2048 ≤ place → decodeAt dictionary kernel place ≡ undecoded 3 0
-      decode-far h = decode-past (omega (arith, right-sizes dictionary kernel right .kernel-most))
-
-      pub decode-inside : (v : Judged) → 8 * place < length kernel → judgeAt longAndShort (dictionaryOf dictionary) kernel (8 * place) ≡ v
+      pub decode-inside : (v : Judged) → ltb (8 * place) (length kernel) ≡ true → judgeAt longAndShort (dictionaryOf dictionary) kernel (8 * place) ≡ v
           → decodeAt dictionary kernel place ≡ judgedAs (8 * place) v
       unfolding decodeAt
-      decode-inside v h j = rw (right, range, lt-leb _ _ h, j)
+      decode-inside v h j = rw (right, range, lt-leb _ _ (ltb-true _ _ h), j)
 
   -- ---- the part
 

@@ -3,7 +3,7 @@ use mathlib.Core.Bool.{Bool, true, false, cond}
 use mathlib.Core.List.{List, [], _∷_}
 use mathlib.Core.Option.{Option, none, some}
 use mathlib.Core.Path.{_≡_, refl, sym, ap, _∙_}
-use Prim.Native.Nat.{ℕ, zero, suc, _+_, _-_, _*_, _^_, _<_, _≤_}
+use Prim.Native.Nat.{ℕ, _+_, _-_, _*_, _^_, _<_, _≤_}
 use native.Mathlib.Omega.{arith}
 use lib.Dec.{ltb}
 use lib.IntN.{ℤ, pos, negsuc, subℕ, _+ℤ_, pos-+ℤ-pos}
@@ -13,7 +13,7 @@ use Rattle.paper.specs.Dictionary.{Dictionary}
 use Rattle.paper.specs.Kernel.{Instr, Forms}
 use Rattle.paper.specs.Operation.{branch, jmpi}
 use Rattle.paper.specs.Operation as paper
-use Rattle.paper.specs.Jump.{Distance, ownStart, distanceOf, nextOf, signedOf, reach, jumpOf, targetOf, lands, jumpLands, firstAstray}
+use Rattle.paper.specs.Jump.{Distance, ownStart, distanceOf, signedOf, reach, jumpOf, targetOf, lands, jumpLands, firstAstray}
 use Rattle.kernel.specs.declared.jumps.Astray.{Astray}
 use Rattle.kernel.specs.declared.jumps.Astray.the-variants.{Nowhere, Branch}
 use Rattle.kernel.specs.Standing.{Stands}

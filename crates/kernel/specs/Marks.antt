@@ -1,8 +1,8 @@
 -- The marks that a walk leaves: one for each place at which an instruction starts, and one for the end. Assumes nothing.
 use mathlib.Core.Bool.{Bool, true, false, cond, _||_, or-true, or-false, true≢false}
-use mathlib.Core.List.{List, [], _∷_}
+use mathlib.Core.List.{List, []}
 use mathlib.Core.Path.{_≡_, refl, sym, ap, ap₂, _∙_}
-use Prim.Native.Nat.{ℕ, zero, suc, _+_, _<_, _≤_}
+use Prim.Native.Nat.{ℕ, zero, suc, _<_, _≤_}
 use native.Mathlib.Omega.{arith}
 use lib.Dec.{eqb, ltb}
 use lib.ListN.{length, getD, set, replicate}
@@ -52,6 +52,14 @@ pub says-accepted : (q : Parsed) (r : Scan) → Says q r → r .good ≡ true �
 unfolding Says
 says-accepted (bad number offset) r s g = absurd (true≢false (sym g ∙ s .0))
 says-accepted (good k) r s g = record { instrs = k; judged = refl; count = s .1; marks = s .2 }
+
+-- The instructions of a kernel that is judged so; none of one that is refused.
+abbrev pub instrsOf : Parsed → List Instr
+instrsOf (bad number offset) = []
+instrsOf (good k) = k
+
+pub says-instrs : (q : Parsed) (r : Scan) → Says q r → r .good ≡ true → q ≡ good (instrsOf q)
+says-instrs q r s g = let a = says-accepted q r s g in a .judged ∙ ap (λ (x : Parsed). good (instrsOf x)) (sym (a .judged))
 
 -- ---- laws of marks
 

@@ -2,11 +2,11 @@
 use crate::jumps::Astray;
 use crate::jumps::first_astray;
 use crate::walk::Scan;
+use crate::walk::refuse;
 use crate::walk::walk;
 use words::dictionary::in_range;
 ghost use mathlib.Core.Bool.{true};
 ghost use mathlib.Core.Path.{_≡_};
-ghost use Rattle.paper.specs.Kernel.{bad};
 ghost use Rattle.paper.specs.Calls.{sized, accepted};
 ghost use Rattle.kernel.specs.Judging.{formsIs};
 ghost use Rattle.kernel.specs.Marks.{Says};
@@ -21,14 +21,6 @@ pub fn is_sized(dictionary: &[u8], kernel: &[u8]) -> bool
         return false;
     }
     kernel.len() <= 16384
-}
-
-// A refusal, which marks nothing.
-fn refuse(number: u8, offset: u64) -> Scan
-    ensures { λ r. ⌜ Says (bad number offset) r ⌝ }
-{
-    let marks = [0u8; 2049];
-    Scan { good: false, number: number, offset: offset, count: 0, marks: marks }
 }
 
 // What is said of a kernel as a whole.

@@ -5,6 +5,9 @@ use crate::instruction::judge_at;
 use words::bytes::Word;
 use words::dictionary::in_range;
 ghost use mathlib.Core.Path.{_≡_};
+ghost use Prim.Native.Nat.{_*_, _≤_};
+ghost use lib.Dec.{ltb};
+ghost use lib.ListN.{length};
 ghost use Rattle.paper.specs.Calls.{decodeAt, decodePart};
 ghost use Rattle.kernel.specs.Answers.{decodedIs};
 
@@ -12,6 +15,17 @@ ghost use Rattle.kernel.specs.Answers.{decodedIs};
 pub enum Decoded {
     Refused(u8, u64),
     Passed(u8, Word),
+}
+
+// The place lies before the kernel's end. No kernel reaches place 2,048, so that the offset is only reckoned where it is small.
+fn lies_inside(kernel: &[u8], place: u64) -> bool
+    requires { ⌜ length (now kernel) ≤ 16384 ⌝ }
+    ensures { λ r. ⌜ r ≡ ltb (8 * place) (length (now (kernel .entry))) ⌝ }
+{
+    if 2048 <= place {
+        return false;
+    }
+    8 * (place as usize) < kernel.len()
 }
 
 // The instruction that starts at a place, whether or not the kernel has one there. A place at or past the end is 3 with offset 0.
@@ -24,13 +38,10 @@ pub fn decode(dictionary: &[u8], kernel: &[u8], place: u64) -> Decoded
     if !in_range(dictionary) {
         return Decoded::Refused(2, 0);
     }
-    if 2048 <= place {
+    if !lies_inside(kernel, place) {
         return Decoded::Refused(3, 0);
     }
     let from = 8 * (place as usize);
-    if kernel.len() <= from {
-        return Decoded::Refused(3, 0);
-    }
     match judge_at(false, dictionary, kernel, from) {
         Judged::Refused(number) => Decoded::Refused(number, from as u64),
         Judged::Passed(size, w) => Decoded::Passed(size, w),

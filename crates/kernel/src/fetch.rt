@@ -5,7 +5,6 @@ use words::bytes::read16;
 use words::expand::expand;
 use words::fields::is_short;
 ghost use mathlib.Core.Path.{_≡_};
-ghost use Prim.Native.Nat.{_≤_, _<_};
 ghost use lib.ListN.{length};
 ghost use Rattle.paper.specs.Dictionary.{dictionaryOf};
 ghost use Rattle.words.specs.Words.{toWord};
@@ -25,8 +24,14 @@ pub fn word_at(dictionary: &[u8], kernel: &[u8], from: usize) -> Fetched
     let s = read8(kernel, from);
     if is_short(s) {
         let short = expand(dictionary, s);
-        return Fetched { size: 1, word: short };
+        return Fetched {
+            size: 1,
+            word: short,
+        };
     }
     let long = read16(kernel, from);
-    Fetched { size: 2, word: long }
+    Fetched {
+        size: 2,
+        word: long,
+    }
 }

@@ -5,7 +5,7 @@ ghost use mathlib.Core.Path.{_≡_};
 ghost use Prim.Native.Nat.{_≤_};
 ghost use lib.ListN.{length};
 ghost use Rattle.paper.specs.Dictionary.{dictionaryOf};
-ghost use Rattle.paper.specs.Kernel.{parse};
+ghost use Rattle.paper.specs.Kernel.{bad, parse};
 ghost use Rattle.kernel.specs.Judging.{formsIs};
 ghost use Rattle.kernel.specs.Marks.{Says};
 
@@ -19,6 +19,20 @@ pub struct Scan {
     pub marks: [u8; 2049],
 }
 
+// A refusal, which marks nothing.
+pub fn refuse(number: u8, offset: u64) -> Scan
+    ensures { λ r. ⌜ Says (bad number offset) r ⌝ }
+{
+    let marks = [0u8; 2049];
+    Scan {
+        good: false,
+        number: number,
+        offset: offset,
+        count: 0,
+        marks: marks,
+    }
+}
+
 // The kernel's instructions, judged one after the other.
 pub fn walk(long: bool, dictionary: &[u8], kernel: &[u8]) -> Scan
     requires { ⌜ (length (now dictionary) ≡ 512) × (length (now kernel) ≤ 16384) ⌝ }
@@ -29,11 +43,11 @@ pub fn walk(long: bool, dictionary: &[u8], kernel: &[u8]) -> Scan
     let mut count: u64 = 0;
     while from < kernel.len() {
         if count == 1024 {
-            return Scan { good: false, number: 17, offset: from as u64, count: 0, marks: marks };
+            return refuse(17, from as u64);
         }
         match judge_at(long, dictionary, kernel, from) {
             Judged::Refused(number) => {
-                return Scan { good: false, number: number, offset: from as u64, count: 0, marks: marks };
+                return refuse(number, from as u64);
             }
             Judged::Passed(size, _) => {
                 let place = from / 8;
@@ -45,5 +59,11 @@ pub fn walk(long: bool, dictionary: &[u8], kernel: &[u8]) -> Scan
     }
     let end = from / 8;
     marks[end] = 1;
-    Scan { good: true, number: 0, offset: 0, count: count, marks: marks }
+    Scan {
+        good: true,
+        number: 0,
+        offset: 0,
+        count: count,
+        marks: marks,
+    }
 }

@@ -2,56 +2,40 @@
 -- Assumes nothing.
 use mathlib.Core.Path.{sym, _∙_}
 use borrow.Author.Tests.{not-true, not-false}
-use Rattle.kernel.specs.Judging.{formsIs}
 use Rattle.kernel.specs.Marks.{says-as}
 use Rattle.kernel.specs.Accepting.{parse-standing, accepted-size, accepted-range, accept-refused, accept-good, accept-astray}
 use borrow.Author.Needs.{needs}
 use Rattle.kernel.proofs.accept.accept.Statement.{statement}
 use Rattle.kernel.proofs.accept.accept.Tie as tie
-use Rattle.kernel.proofs.accept.accept.Reads as reads
-use Rattle.kernel.proofs.accept.accept.Lts as lts
-use Rattle.kernel.proofs.accept.is_sized.Reads as is-sized-reads
-use Rattle.kernel.proofs.accept.refuse.Reads as refuse-reads
-use Rattle.kernel.proofs.jumps.first_astray.Reads as first-astray-reads
-use Rattle.kernel.proofs.walk.walk.Reads as walk-reads
-use Rattle.words.proofs.dictionary.in_range.Reads as in-range-reads
 
--- src/accept.rt:35:9
 is-sized-requires : tie.Need-is-sized-requires
 is-sized-requires c κs = search needs
 
--- src/accept.rt:36:9
 refuse-requires : tie.Need-refuse-requires
 refuse-requires c κs = search needs
 
--- src/accept.rt:36:9
 returns : tie.Need-returns
 returns c =
     let z = sym (c .before .before .is-sized .ensures .0) ∙ not-true _ (c .before .if1 .taken) in
     says-as _ _ _ (accepted-size _ _ _ z) (c .refuse .ensures)
 
--- src/accept.rt:38:9
 in-range-requires : tie.Need-in-range-requires
 in-range-requires c κs = c .before .is-sized .ensures .1 (not-false _ (c .if1 .left)) .dictionary-is
 
--- src/accept.rt:39:9
 refuse-requires-2 : tie.Need-refuse-requires-2
 refuse-requires-2 c κs = search needs
 
--- src/accept.rt:39:9
 returns-2 : tie.Need-returns-2
 returns-2 c =
     let z = sym (c .before .before .before .before .is-sized .ensures .0) ∙ not-false _ (c .before .before .before .if1 .left) in
     let d = sym (c .before .before .in-range .ensures) ∙ not-true _ (c .before .if2 .taken) in
     says-as _ _ _ (accepted-range _ _ _ z d) (c .refuse2 .ensures)
 
--- src/accept.rt:41:9
 walk-requires : tie.Need-walk-requires
 walk-requires c κs =
     let s = c .before .before .before .is-sized .ensures .1 (not-false _ (c .before .before .if1 .left)) in
     (s .dictionary-is, s .kernel-most)
 
--- src/accept.rt:43:9
 returns-3 : tie.Need-returns-3
 returns-3 c =
     let z = sym (c .before .before .before .before .before .before .is-sized .ensures .0) ∙ not-false _ (c .before .before .before .before .before .if1 .left) in
@@ -59,26 +43,21 @@ returns-3 c =
     let w = c .before .before .walk in
     accept-refused _ _ _ z d (w .result) (w .ensures) (not-true _ (c .if3 .taken))
 
--- src/accept.rt:46:9
 first-astray-requires : tie.Need-first-astray-requires
 first-astray-requires c κs =
     let s = c .before .before .before .before .before .before .before .before .is-sized .ensures .1 (not-false _ (c .before .before .before .before .before .before .before .if1 .left)) in
     let w = c .before .before .before .before .walk in
     (s .dictionary-is, s .kernel-most, parse-standing _ _ _ (w .result) (w .ensures) (not-false _ (c .before .before .if3 .left)))
 
--- src/accept.rt:48:28
 enum-told : tie.Need-enum-told
 enum-told c = search needs
 
--- src/accept.rt:49:24
 enum-known-o : tie.Need-enum-known-o
 enum-known-o c = search needs
 
--- src/accept.rt:49:35
 refuse-requires-3 : tie.Need-refuse-requires-3
 refuse-requires-3 c κs = search needs
 
--- src/accept.rt:32:1
 returns-4 : tie.Need-returns-4
 returns-4 c =
     let z = sym (c .before .before .before .before .before .before .before .before .before .before .before .is-sized .ensures .0) ∙ not-false _ (c .before .before .before .before .before .before .before .before .before .before .if1 .left) in
@@ -86,7 +65,6 @@ returns-4 c =
     let w = c .before .before .before .before .before .before .before .walk in
     accept-good _ _ _ z d (w .result) (w .ensures) (not-false _ (c .before .before .before .before .before .if3 .left)) _ (c .before .before .first-astray .ensures) (c .enum-told .given .1)
 
--- src/accept.rt:32:1
 returns-5 : tie.Need-returns-5
 returns-5 c =
     let z = sym (c .before .before .before .before .before .before .before .before .before .before .before .before .before .is-sized .ensures .0) ∙ not-false _ (c .before .before .before .before .before .before .before .before .before .before .before .before .if1 .left) in

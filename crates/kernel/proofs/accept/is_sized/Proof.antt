@@ -4,14 +4,10 @@ use mathlib.Core.Bool.{true≢false}
 use mathlib.Core.Path.{sym}
 use Rattle.kernel.proofs.accept.is_sized.Statement.{statement}
 use Rattle.kernel.proofs.accept.is_sized.Tie as tie
-use Rattle.kernel.proofs.accept.is_sized.Reads as reads
-use Rattle.kernel.proofs.accept.is_sized.Lts as lts
 
--- src/accept.rt:18:9
 returns : tie.Need-returns
 returns c = (rw (ne-eqb _ _ (c .if1 .taken)), λ e. absurd (true≢false (sym e)))
 
--- src/accept.rt:14:1
 returns-2 : tie.Need-returns-2
 returns-2 c = (rw (eq-eqb _ _ (c .if1 .left)), λ e. record { dictionary-is = c .if1 .left; kernel-most = leb-true _ _ e })
 

@@ -4,19 +4,13 @@ use Rattle.kernel.specs.Answers.{check-good, check-bad}
 use borrow.Author.Needs.{needs}
 use Rattle.kernel.proofs.check.check.Statement.{statement}
 use Rattle.kernel.proofs.check.check.Tie as tie
-use Rattle.kernel.proofs.check.check.Reads as reads
-use Rattle.kernel.proofs.check.check.Lts as lts
-use Rattle.kernel.proofs.accept.accept.Reads as accept-reads
 
--- src/check.rt:17:9
 accept-requires : tie.Need-accept-requires
 accept-requires c κs = search needs
 
--- src/check.rt:19:9
 returns : tie.Need-returns
 returns c = sym (check-good _ _ _ (c .before .accept .ensures) (c .if1 .taken))
 
--- src/check.rt:14:1
 returns-2 : tie.Need-returns-2
 returns-2 c = sym (check-bad _ _ _ (c .before .accept .ensures) (c .if1 .left))
 

@@ -5,65 +5,49 @@ use Rattle.kernel.specs.Answers.{decodedIs, part-none, part-some, part-f
 use borrow.Author.Needs.{needs}
 use Rattle.kernel.proofs.decode.part.Statement.{statement}
 use Rattle.kernel.proofs.decode.part.Tie as tie
-use Rattle.kernel.proofs.decode.part.Reads as reads
-use Rattle.kernel.proofs.decode.part.Lts as lts
-use Rattle.kernel.proofs.decode.decode.Reads as decode-reads
 
--- src/decode.rt:44:11
 decode-requires : tie.Need-decode-requires
 decode-requires c κs = search needs
 
--- src/decode.rt:45:35
 enum-told : tie.Need-enum-told
 enum-told c = search needs
 
--- src/decode.rt:45:35
 slice-aggregate-result : tie.Need-slice-aggregate-result
 slice-aggregate-result c = search needs
 
--- src/decode.rt:46:25
 enum-known-size : tie.Need-enum-known-size
 enum-known-size c = search needs
 
--- src/decode.rt:47:24
 mul-from : tie.Need-mul-from
 mul-from c =
     let f = part-fits _ _ _ _ _ (sym (c .before .before .before .decode .ensures) ∙ ap decodedIs (c .before .size .given .1)) in
     omega (arith, f)
 
--- src/decode.rt:48:34
 cast-to : tie.Need-cast-to
 cast-to c = search needs
 
--- src/decode.rt:48:29
 mul-to : tie.Need-mul-to
 mul-to c = search needs
 
--- src/decode.rt:48:22
 add-to : tie.Need-add-to
 add-to c =
     let f = part-fits _ _ _ _ _ (sym (c .before .before .before .decode .ensures) ∙ ap decodedIs (c .before .size .given .1)) in
     omega (arith, f)
 
--- src/decode.rt:49:13
 sub-result : tie.Need-sub-result
 sub-result c = search needs
 
--- src/decode.rt:49:13
 part-result-start : tie.Need-part-result-start
 part-result-start c = search needs
 
--- src/decode.rt:49:13
 part-result-end : tie.Need-part-result-end
 part-result-end c =
     let f = part-fits _ _ _ _ _ (sym (c .before .before .before .decode .ensures) ∙ ap decodedIs (c .before .size .given .1)) in
     f .0
 
--- src/decode.rt:41:1
 returns : tie.Need-returns
 returns c = part-none _ _ _ _ _ (sym (c .before .before .before .decode .ensures) ∙ ap decodedIs (c .before .enum-told .given .1))
 
--- src/decode.rt:41:1
 returns-2 : tie.Need-returns-2
 returns-2 c = part-some _ _ _ _ _ (sym (c .before .before .before .before .decode .ensures) ∙ ap decodedIs (c .before .before .size .given .1))
 

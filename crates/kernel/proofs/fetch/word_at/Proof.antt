@@ -1,44 +1,31 @@
 use Rattle.kernel.specs.Standing.{short-room}
 -- The test of bit 29 is the definitions'. Assumes nothing.
-use mathlib.Core.Path.{_≡_, sym, ap, _∙_}
-use native.Mathlib.Omega.{arith}
+use mathlib.Core.Path.{sym, ap, _∙_}
 use Rattle.paper.specs.Expand.{isShort, expand}
-use Rattle.kernel.specs.Standing.{size-some, fetches-short, fetches-long, long-room}
+use Rattle.kernel.specs.Standing.{fetches-short, fetches-long, long-room}
 use borrow.Author.Needs.{needs}
 use Rattle.kernel.proofs.fetch.word_at.Statement.{statement}
 use Rattle.kernel.proofs.fetch.word_at.Tie as tie
-use Rattle.kernel.proofs.fetch.word_at.Reads as reads
-use Rattle.kernel.proofs.fetch.word_at.Lts as lts
-use Rattle.words.proofs.bytes.read16.Reads as read16-reads
-use Rattle.words.proofs.bytes.read8.Reads as read8-reads
-use Rattle.words.proofs.expand.expand.Reads as expand-reads
-use Rattle.words.proofs.fields.is_short.Reads as is-short-reads
 
--- src/fetch.rt:25:9
 read8-requires : tie.Need-read8-requires
 read8-requires c κs = short-room (λ _. 0) _ _ (c .before .before .pre .1)
 
--- src/fetch.rt:26:8
 is-short-requires : tie.Need-is-short-requires
 is-short-requires c κs = search needs
 
--- src/fetch.rt:27:13
 expand-requires : tie.Need-expand-requires
 expand-requires c κs = search needs
 
--- src/fetch.rt:28:9
 returns : tie.Need-returns
 returns c =
     let e = c .before .before .before .read8 .ensures in
     fetches-short _ _ _ _ (sym (c .before .before .is-short .ensures ∙ ap isShort e) ∙ c .before .if1 .taken) (c .expand .ensures ∙ ap (expand _) e)
 
--- src/fetch.rt:30:9
 read16-requires : tie.Need-read16-requires
 read16-requires c κs =
     let e = c .before .before .read8 .ensures in
     long-room (λ _. 0) _ _ (sym (c .before .is-short .ensures ∙ ap isShort e) ∙ c .if1 .left) (c .before .before .before .before .before .pre .1)
 
--- src/fetch.rt:21:1
 returns-2 : tie.Need-returns-2
 returns-2 c =
     let e = c .before .before .before .read8 .ensures in

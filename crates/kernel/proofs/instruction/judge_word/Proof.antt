@@ -5,26 +5,18 @@ use Rattle.paper.specs.Legal.{refusalOf}
 use borrow.Author.Needs.{needs}
 use Rattle.kernel.proofs.instruction.judge_word.Statement.{statement}
 use Rattle.kernel.proofs.instruction.judge_word.Tie as tie
-use Rattle.kernel.proofs.instruction.judge_word.Reads as reads
-use Rattle.kernel.proofs.instruction.judge_word.Lts as lts
-use Rattle.judge.proofs.refusal.judge.Reads as judge-reads
-use Rattle.judge.proofs.refusal.number_of.Reads as number-of-reads
 
--- src/instruction.rt:31:28
 judge-requires : tie.Need-judge-requires
 judge-requires c κs = search needs
 
--- src/instruction.rt:31:9
 number-of-requires : tie.Need-number-of-requires
 number-of-requires c κs = search needs
 
--- src/instruction.rt:33:9
 returns : tie.Need-returns
 returns c =
     let e : refusalOf _ ≡ 0 = sym (c .before .number-of .ensures .0 ∙ c .before .before .judge .ensures) ∙ c .if1 .taken in
     rw (eq-eqb _ _ e)
 
--- src/instruction.rt:28:1
 returns-2 : tie.Need-returns-2
 returns-2 c =
     let n = c .before .number-of .ensures .0 ∙ c .before .before .judge .ensures in

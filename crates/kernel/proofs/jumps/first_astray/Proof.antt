@@ -1,7 +1,7 @@
 -- The loop's invariant: whatever instructions stand in the bytes, those that stand from `from` on have the answer. The measure is what is left of the
 -- kernel. Assumes nothing.
-use mathlib.Core.Path.{_≡_, refl, sym, ap, _∙_}
-use Prim.Native.Nat.{ℕ, _+_, _-_, _*_, _%_, _≤_, _<_}
+use mathlib.Core.Path.{_≡_, refl, sym, _∙_}
+use Prim.Native.Nat.{_-_, _%_, _≤_}
 use native.Mathlib.Omega.{arith}
 use lib.ListN.{length}
 use borrow.Author.Needs.{needs}
@@ -11,10 +11,6 @@ use Rattle.kernel.specs.Marks.{marked}
 use Rattle.kernel.proofs.Jumping.{Left, left-start, left-end, left-whole, left-out, left-on}
 use Rattle.kernel.proofs.jumps.first_astray.Statement.{statement}
 use Rattle.kernel.proofs.jumps.first_astray.Tie as tie
-use Rattle.kernel.proofs.jumps.first_astray.Reads as reads
-use Rattle.kernel.proofs.jumps.first_astray.Lts as lts
-use Rattle.kernel.proofs.fetch.word_at.Reads as word-at-reads
-use Rattle.kernel.proofs.jumps.jump_lands.Reads as jump-lands-reads
 
 abbrev Inv-loop : tie.InvT-loop
 Inv-loop dictionary kernel marks from₀ from =
@@ -23,42 +19,34 @@ Inv-loop dictionary kernel marks from₀ from =
 abbrev μ-loop : tie.MeasureT-loop
 μ-loop dictionary kernel marks from₀ from = length kernel - from
 
--- src/jumps.rt:87:5
 loop-holds : tie.Need-loop-holds Inv-loop μ-loop
 loop-holds c = (search needs, refl, left-start _ _ _)
 
--- src/jumps.rt:88:13
 word-at-requires : tie.Need-word-at-requires Inv-loop μ-loop
 word-at-requires c κs = (search needs, left-whole _ _ _ _ (c .before .loop .inv .2) (c .loop-test .taken) (c .before .before .before .before .pre .2))
 
--- src/jumps.rt:90:13
 jump-lands-requires : tie.Need-jump-lands-requires Inv-loop μ-loop
 jump-lands-requires c κs = (search needs, search needs)
 
--- src/jumps.rt:91:13
 returns : tie.Need-returns Inv-loop μ-loop
 returns c =
     let l = c .before .before .before .before .loop in
     left-out _ _ _ _ (l .inv .2) (c .before .before .before .loop-test .taken) _ _ (c .before .before .word-at .ensures) (l .inv .1) (sym (c .before .jump-lands .ensures) ∙ not-true _ (c .if1 .taken))
 
--- src/jumps.rt:93:17
 mul-from : tie.Need-mul-from Inv-loop μ-loop
 mul-from c = search needs
 
--- src/jumps.rt:93:9
 add-from : tie.Need-add-from Inv-loop μ-loop
 add-from c =
     let l = c .before .before .before .before .loop in
     let h = left-whole _ _ _ _ (l .inv .2) (c .before .before .before .loop-test .taken) (c .before .before .before .before .before .before .before .pre .2) in
     omega (arith, c .before .before .word-at .ensures .size-is)
 
--- src/jumps.rt:87:5
 loop-less : tie.Need-loop-less Inv-loop μ-loop
 loop-less c =
     let f = c .before .before .word-at .ensures in
     omega (arith, c .before .before .before .loop-test .taken, f .some)
 
--- src/jumps.rt:87:5
 loop-again : tie.Need-loop-again Inv-loop μ-loop
 loop-again c =
     let l = c .before .before .before .before .loop in
@@ -67,7 +55,6 @@ loop-again c =
     let h = left-whole _ _ _ _ (l .inv .2) t (c .before .before .before .before .before .before .before .pre .2) in
     (omega (arith, f .size-is), omega arith, left-on _ _ _ _ (l .inv .2) t _ _ f (sym (c .before .jump-lands .ensures) ∙ not-false _ (c .if1 .left)))
 
--- src/jumps.rt:82:1
 returns-2 : tie.Need-returns-2 Inv-loop μ-loop
 returns-2 c = left-end _ _ _ _ (c .before .loop .inv .2) (c .loop-test .left)
 

@@ -1,57 +1,43 @@
 use Rattle.words.specs.Operations.{operationIs}
 -- Each case is the target's definition at the word's operation. Assumes nothing.
-use mathlib.Core.Path.{_≡_, sym, ap, _∙_}
+use mathlib.Core.Path.{sym, ap, _∙_}
 use Rattle.paper.specs.Jump.{jumpOf}
 use borrow.Author.Needs.{needs}
 use Rattle.kernel.proofs.jumps.jump_lands.Statement.{statement}
 use Rattle.kernel.proofs.jumps.jump_lands.Tie as tie
-use Rattle.kernel.proofs.jumps.jump_lands.Reads as reads
-use Rattle.kernel.proofs.jumps.jump_lands.Lts as lts
-use Rattle.kernel.proofs.jumps.branch_lands.Reads as branch-lands-reads
-use Rattle.words.proofs.fields.operation.Reads as operation-reads
 
--- src/jumps.rt:72:9
 operation-requires : tie.Need-operation-requires
 operation-requires c κs = search needs
 
--- src/jumps.rt:74:32
 enum-told : tie.Need-enum-told
 enum-told c = search needs
 
--- src/jumps.rt:75:27
 enum-told-2 : tie.Need-enum-told-2
 enum-told-2 c = search needs
 
--- src/jumps.rt:76:26
 enum-known-o : tie.Need-enum-known-o
 enum-known-o c = search needs
 
--- src/jumps.rt:76:32
 branch-lands-requires : tie.Need-branch-lands-requires
 branch-lands-requires c κs = search needs
 
--- src/jumps.rt:77:32
 enum-told-3 : tie.Need-enum-told-3
 enum-told-3 c = search needs
 
--- src/jumps.rt:68:1
 returns : tie.Need-returns
 unfolding jumpOf
 returns c =
     let o = sym (c .before .before .operation .ensures) ∙ ap operationIs (c .enum-told .given .1) in rw o
 
--- src/jumps.rt:68:1
 returns-2 : tie.Need-returns-2
 unfolding jumpOf
 returns-2 c =
     let o = sym (c .before .before .operation .ensures) ∙ ap operationIs (c .enum-told2 .given .1) in rw o
 
--- src/jumps.rt:68:1
 returns-3 : tie.Need-returns-3
 returns-3 c =
     let o = sym (c .before .before .before .before .operation .ensures) ∙ ap operationIs (c .before .before .o .given .1) in rw o (c .branch-lands .ensures)
 
--- src/jumps.rt:68:1
 returns-4 : tie.Need-returns-4
 unfolding jumpOf
 returns-4 c =

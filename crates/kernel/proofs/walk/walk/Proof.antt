@@ -1,21 +1,18 @@
 -- The loop's invariant: any scan that says what is left of the walk from byte `from` on, after `count` instructions and with the marks made so far,
 -- says what the whole parse is. The measure is what is left of the kernel. Assumes nothing.
 use mathlib.Core.Path.{_≡_, refl, sym, ap, _∙_}
-use Prim.Native.Nat.{ℕ, _+_, _-_, _*_, _≤_, _<_}
+use Prim.Native.Nat.{_-_, _≤_, _<_}
 use native.Mathlib.Omega.{arith}
 use lib.ListN.{length, length-set}
 use borrow.Author.Needs.{needs}
 use Rattle.paper.specs.Dictionary.{dictionaryOf}
 use Rattle.paper.specs.Kernel.{judgeAt, parse}
 use Rattle.kernel.specs.Judging.{judgedIs, formsIs}
-use Rattle.kernel.specs.Marks.{blank-unmarked, says-bad}
+use Rattle.kernel.specs.Marks.{blank-unmarked}
 use Rattle.kernel.specs.Standing.{fits}
 use Rattle.kernel.proofs.Walking.{Leads, leads-start, leads-full, leads-refused, leads-passed, leads-end}
 use Rattle.kernel.proofs.walk.walk.Statement.{statement}
 use Rattle.kernel.proofs.walk.walk.Tie as tie
-use Rattle.kernel.proofs.walk.walk.Reads as reads
-use Rattle.kernel.proofs.walk.walk.Lts as lts
-use Rattle.kernel.proofs.instruction.judge_at.Reads as judge-at-reads
 
 abbrev Inv-loop : tie.InvT-loop
 Inv-loop long dictionary kernel marks₀ from₀ count₀ marks from count =
@@ -27,54 +24,49 @@ Inv-loop long dictionary kernel marks₀ from₀ count₀ marks from count =
 abbrev μ-loop : tie.MeasureT-loop
 μ-loop long dictionary kernel marks₀ from₀ count₀ marks from count = length kernel - from
 
--- src/walk.rt:30:5
 loop-holds : tie.Need-loop-holds Inv-loop μ-loop
 unfolding parse
 loop-holds c = (search needs, search needs, search needs, leads-start _ _ _ (blank-unmarked 2049))
 
--- src/walk.rt:32:13
+refuse-requires : tie.Need-refuse-requires Inv-loop μ-loop
+refuse-requires c κs = search needs
+
 returns : tie.Need-returns Inv-loop μ-loop
 returns c =
-    let l = c .before .before .loop in
-    leads-full _ _ _ _ _ _ (l .inv .3) (c .before .loop-test .taken) (c .if1 .taken) _ (says-bad _ _ _ refl refl refl)
+    let l = c .before .before .before .loop in
+    leads-full _ _ _ _ _ _ (l .inv .3) (c .before .before .loop-test .taken) (c .before .if1 .taken) _ (c .refuse .ensures)
 
--- src/walk.rt:34:15
 judge-at-requires : tie.Need-judge-at-requires Inv-loop μ-loop
 judge-at-requires c κs = search needs
 
--- src/walk.rt:35:29
 enum-known-number : tie.Need-enum-known-number Inv-loop μ-loop
 enum-known-number c = search needs
 
--- src/walk.rt:36:17
+refuse-requires-2 : tie.Need-refuse-requires-2 Inv-loop μ-loop
+refuse-requires-2 c κs = search needs
+
 returns-2 : tie.Need-returns-2 Inv-loop μ-loop
 returns-2 c =
-    let l = c .before .before .before .before .before .before .loop in
-    let j = sym (c .before .before .before .judge-at .ensures) ∙ ap judgedIs (c .before .number .given .1) in
-    let h : l .count < 1024 = omega (arith, c .before .before .before .before .if1 .left) in
-    leads-refused _ _ _ _ _ _ (l .inv .3) (c .before .before .before .before .before .loop-test .taken) h _ j _ (says-bad _ _ _ refl refl refl)
+    let l = c .before .before .before .before .before .before .before .loop in
+    let j = sym (c .before .before .before .before .judge-at .ensures) ∙ ap judgedIs (c .before .before .number .given .1) in
+    let h : l .count < 1024 = omega (arith, c .before .before .before .before .before .if1 .left) in
+    leads-refused _ _ _ _ _ _ (l .inv .3) (c .before .before .before .before .before .before .loop-test .taken) h _ j _ (c .refuse2 .ensures)
 
--- src/walk.rt:38:28
 enum-known-size : tie.Need-enum-known-size Inv-loop μ-loop
 enum-known-size c = search needs
 
--- src/walk.rt:40:17
 array-write-marks : tie.Need-array-write-marks Inv-loop μ-loop
 array-write-marks c = search needs
 
--- src/walk.rt:41:17
 add-count : tie.Need-add-count Inv-loop μ-loop
 add-count c = search needs
 
--- src/walk.rt:42:30
 cast-from : tie.Need-cast-from Inv-loop μ-loop
 cast-from c = search needs
 
--- src/walk.rt:42:25
 mul-from : tie.Need-mul-from Inv-loop μ-loop
 mul-from c = search needs
 
--- src/walk.rt:42:17
 add-from : tie.Need-add-from Inv-loop μ-loop
 add-from c =
     let l = c .before .before .before .before .before .before .loop in
@@ -82,7 +74,6 @@ add-from c =
     let f = fits _ _ _ _ _ _ (c .before .before .before .before .before .loop-test .taken) j in
     omega (arith, f .room)
 
--- src/walk.rt:30:5
 loop-less : tie.Need-loop-less Inv-loop μ-loop
 loop-less c =
     let l = c .before .before .before .before .before .before .loop in
@@ -90,26 +81,22 @@ loop-less c =
     let f = fits _ _ _ _ _ _ (c .before .before .before .before .before .loop-test .taken) j in
     omega (arith, f .some)
 
--- src/walk.rt:30:5
 loop-again : tie.Need-loop-again Inv-loop μ-loop
 loop-again c =
     let l = c .before .before .before .before .before .before .loop in
     let t = c .before .before .before .before .before .loop-test .taken in
     let j = sym (c .before .before .before .judge-at .ensures) ∙ ap judgedIs (c .before .size .given .1) in
     let f = fits _ _ _ _ _ _ t j in
-    let h : l .count < 1024 = omega (arith, c .before .before .before .before .if1 .left) in
-    (
+    let h : l .count < 1024 = omega (arith, c .before .before .before .before .if1 .left) in (
       f .room,
       omega arith,
       simp length-set (l .inv .2),
       leads-passed _ _ _ _ _ _ (l .inv .3) t h _ _ j (omega arith) (l .inv .2),
     )
 
--- src/walk.rt:47:5
 array-write-marks-2 : tie.Need-array-write-marks-2 Inv-loop μ-loop
 array-write-marks-2 c = search needs
 
--- src/walk.rt:23:1
 returns-3 : tie.Need-returns-3 Inv-loop μ-loop
 returns-3 c =
     let l = c .before .loop in
@@ -122,9 +109,11 @@ walk-spec =
     Inv-loop
     μ-loop
     loop-holds
+    refuse-requires
     returns
     judge-at-requires
     enum-known-number
+    refuse-requires-2
     returns-2
     enum-known-size
     array-write-marks
