@@ -1,0 +1,3 @@
+-- What the program's text means, and when a case comes out as listed.
+pub mod Text
+pub mod Cases
