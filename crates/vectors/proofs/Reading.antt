@@ -2,14 +2,14 @@
 use mathlib.Core.Path.{_≡_, sym, _∙_}
 use mathlib.Core.List.{List, [], _∷_, _++_}
 use mathlib.Core.Bool.{Bool, true, false, cond}
-use Prim.Native.Nat.{ℕ, suc, _+_, _*_, _%_, _^_, _≤_, _<_}
+use Prim.Native.Nat.{ℕ, suc, _+_, _-_, _*_, _%_, _^_, _≤_, _<_}
 use native.Mathlib.Numerals.{add-one}
 use native.Mathlib.Omega.{arith}
 use lib.Dec.{leb}
-use lib.ListN.{length, getD, take, drop, set, drop-of-length-le}
+use lib.ListN.{length, getD, take, drop, set, length-drop, drop-of-length-le}
 use lib.Seq.{drop-cons, take-all, take-suc-set}
 use borrow.Author.Tests.{le-leb, lt-leb}
-use Rattle.vectors.specs.Text.{upTo, digitOf, hexFrom, pairOf, bytesIn}
+use Rattle.vectors.specs.Text.{upTo, rest, digitOf, hexFrom, pairOf, bytesIn}
 
 -- ---- how far it is to an ending
 
@@ -53,6 +53,10 @@ module _ (ending : ℕ) (text : List ℕ) (i : ℕ) (passed : upTo ending text �
   -- Any other byte is passed.
   pub up-to-on : i < length text → ending < getD text i 0 → upTo ending text ≡ upTo ending (drop (i + 1) text) + (i + 1)
   up-to-on h e = omega (arith, more ending text i h e)
+
+-- What a slice from the second field on holds.
+pub rest-is : (text : List ℕ) (size : ℕ) → size ≡ upTo 32 text → take (length text - size) (drop size text) ≡ rest text
+rest-is text size e = rw (take-all (length text - size) (drop size text) (simp length-drop (omega arith)), e)
 
 -- ---- numbers
 

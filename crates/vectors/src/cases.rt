@@ -12,7 +12,10 @@ use words::bytes::read8;
 use words::operation::Operation;
 use words::operation::operation_of;
 ghost use mathlib.Core.Path.{_≡_};
+ghost use Prim.Native.Nat.{_≤_};
 ghost use lib.ListN.{length};
+ghost use Rattle.vectors.specs.Text.{bytesIn, rest};
+ghost use Rattle.vectors.specs.Counts.{AtMostOne};
 
 // What is asked of a file's lines.
 pub enum Group {
@@ -22,22 +25,36 @@ pub enum Group {
     Stored,
 }
 
-// How a line came out. A comment is no case, nor, where expanding is asked, a word with no short word.
-pub enum Seen {
-    Right,
-    Wrong,
-    NoCase,
+// How many cases came out as listed, of how many.
+pub struct Count {
+    pub right: usize,
+    pub total: usize,
 }
 
-fn outcome(right: bool) -> Seen {
-    if right { Seen::Right } else { Seen::Wrong }
+// One case.
+fn one(right: bool) -> Count
+    ensures { λ r. ⌜ AtMostOne r ⌝ }
+{
+    if right {
+        return Count { right: 1, total: 1 };
+    }
+    Count { right: 0, total: 1 }
 }
 
-// The text starts with the name.
-fn starts_with(text: &[u8], name: &[u8]) -> bool {
+// A line that is no case.
+fn none() -> Count
+    ensures { λ r. ⌜ AtMostOne r ⌝ }
+{
+    Count { right: 0, total: 0 }
+}
+
+// ---- the parts of a line
+
+// The line starts with the name.
+fn starts_with(line: &[u8], name: &[u8]) -> bool {
     let mut i: usize = 0;
     while i < name.len() {
-        if byte_at(text, i) != name[i] {
+        if byte_at(line, i) != name[i] {
             return false;
         }
         i += 1;
@@ -45,56 +62,23 @@ fn starts_with(text: &[u8], name: &[u8]) -> bool {
     true
 }
 
-// The refusal of a word that has no short word: 4 for break and cont, which the paper does not list, and 13 for the others.
-fn refusal_listed(line: &[u8]) -> u64 {
-    if starts_with(line, b"break ") {
-        return 4;
-    }
-    if starts_with(line, b"cont ") {
-        return 4;
-    }
-    13
-}
-
-// A line of words: name, long word, and short word or -.
-fn shortened_as_listed(dictionary: &[u8], line: &[u8]) -> Seen {
+// The word in the second field.
+fn word_in(line: &[u8]) -> [u8; 16]
+    ensures { λ r. ⌜ (r ≡ bytesIn 16 (rest (now (line .entry)))) × (length r ≡ 16) ⌝ }
+{
     let name = size_to(line, FIELD);
-    let rest = &line[name..];
-    let word = bytes_in(rest);
-    let long = size_to(rest, FIELD);
-    let last = &rest[long..];
-    if byte_at(last, 0) == b'-' {
-        return outcome(shortens_as(dictionary, &word, refusal_listed(line), 0));
-    }
-    let short = bytes_in(last);
-    outcome(shortens_as(dictionary, &word, 0, read8(&short, 0)))
+    bytes_in(&line[name..])
 }
 
-// The same line, the other way.
-fn expanded_as_listed(dictionary: &[u8], line: &[u8]) -> Seen {
+// Where the third field starts.
+fn third(line: &[u8]) -> usize
+    ensures { λ r. ⌜ r ≤ length (now (line .entry)) ⌝ }
+{
     let name = size_to(line, FIELD);
-    let rest = &line[name..];
-    let word = bytes_in(rest);
-    let long = size_to(rest, FIELD);
-    let last = &rest[long..];
-    if byte_at(last, 0) == b'-' {
-        return Seen::NoCase;
-    }
-    let short = bytes_in(last);
-    outcome(expands_as(dictionary, &short[0..8], read8(&word, 0), read8(&word, 8)))
+    name + size_to(&line[name..], FIELD)
 }
 
-// A line of row J: name, word, and the number of its refusal or 0.
-fn judged_as_listed(line: &[u8]) -> Seen {
-    let name = size_to(line, FIELD);
-    let rest = &line[name..];
-    let word = bytes_in(rest);
-    let long = size_to(rest, FIELD);
-    let last = &rest[long..];
-    outcome(judged_as(&word, number_in(last)))
-}
-
-// The twelve numbers that follow a line's name.
+// The twelve numbers from the second field on.
 fn numbers_in(line: &[u8]) -> [u64; 12]
     ensures { λ r. ⌜ length r ≡ 12 ⌝ }
 {
@@ -110,12 +94,66 @@ fn numbers_in(line: &[u8]) -> [u64; 12]
     out
 }
 
-// A line of element cases: name, opcode, condition, predicate, Saturate, destination's type, type, modifier and pattern of src0 and of
-// src1, and the pattern that is stored.
-fn stored_as_listed(line: &[u8]) -> Seen {
+// ---- words: name, long word, and short word or -
+
+// The refusal of a word that has no short word: 4 for break and cont, which the paper does not list, and 13 for the others.
+fn refusal_listed(line: &[u8]) -> u64 {
+    if starts_with(line, b"break ") {
+        return 4;
+    }
+    if starts_with(line, b"cont ") {
+        return 4;
+    }
+    13
+}
+
+// Shortening gives the short word, or the refusal.
+fn shortened_as_listed(dictionary: &[u8], line: &[u8]) -> Count
+    ensures { λ r. ⌜ AtMostOne r ⌝ }
+{
+    let word = word_in(line);
+    let at = third(line);
+    let last = &line[at..];
+    if byte_at(last, 0) == b'-' {
+        return one(shortens_as(dictionary, &word, refusal_listed(line), 0));
+    }
+    let short = bytes_in(last);
+    one(shortens_as(dictionary, &word, 0, read8(&short, 0)))
+}
+
+// Expanding the short word, if there is one, gives the long word.
+fn expanded_as_listed(dictionary: &[u8], line: &[u8]) -> Count
+    ensures { λ r. ⌜ AtMostOne r ⌝ }
+{
+    let at = third(line);
+    let last = &line[at..];
+    if byte_at(last, 0) == b'-' {
+        return none();
+    }
+    let short = bytes_in(last);
+    let word = word_in(line);
+    one(expands_as(dictionary, &short[0..8], read8(&word, 0), read8(&word, 8)))
+}
+
+// ---- row J: name, word, and the number of its refusal or 0
+
+fn judged_as_listed(line: &[u8]) -> Count
+    ensures { λ r. ⌜ AtMostOne r ⌝ }
+{
+    let word = word_in(line);
+    let at = third(line);
+    one(judged_as(&word, number_in(&line[at..])))
+}
+
+// ---- elements: name, opcode, condition, predicate, Saturate, destination's type, type, modifier and pattern of src0 and of src1, and the pattern
+// that is stored
+
+fn stored_as_listed(line: &[u8]) -> Count
+    ensures { λ r. ⌜ AtMostOne r ⌝ }
+{
     let n = numbers_in(line);
     match operation_of(n[0]) {
-        Operation::Makes(p) => outcome(stores_as(
+        Operation::Makes(p) => one(stores_as(
             p,
             n[1],
             n[2] == 1,
@@ -129,14 +167,18 @@ fn stored_as_listed(line: &[u8]) -> Seen {
             n[10],
             n[11],
         )),
-        _ => Seen::Wrong,
+        _ => one(false),
     }
 }
 
-// How a line comes out in its group.
-pub fn came_out(group: Group, dictionary: &[u8], line: &[u8]) -> Seen {
+// ---- any line
+
+// How a line comes out in its group. A comment is no case.
+pub fn came_out(group: Group, dictionary: &[u8], line: &[u8]) -> Count
+    ensures { λ r. ⌜ AtMostOne r ⌝ }
+{
     if byte_at(line, 0) == b'#' {
-        return Seen::NoCase;
+        return none();
     }
     match group {
         Group::Shortened => shortened_as_listed(dictionary, line),

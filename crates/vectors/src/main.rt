@@ -5,9 +5,9 @@ mod elements;
 mod sheet;
 mod tally;
 mod text;
+use cases::Count;
 use cases::Group;
 use libc::STDOUT_FILENO;
-use tally::Count;
 use tally::load;
 use tally::tally;
 
@@ -30,47 +30,22 @@ fn report(name: &[u8], group: Group, dictionary: &[u8; 512], path: &[u8]) {
     print_line(name, tally(group, dictionary, &text[..n]));
 }
 
-// The dictionary that the file lists, and a line that says how many numbers it lists.
+// The dictionary that the file lists.
 fn read_dictionary(path: &[u8], dictionary: &mut [u8; 512]) {
     let mut text = io::large_buffer();
     let file = os::open_read(path);
     let n = io::read_full(file, &mut text);
     libc::close(file);
-    let count = load(&text[..n], dictionary);
-    print_line(
-        b"dictionary numbers read",
-        Count {
-            right: count,
-            total: 128,
-        },
-    );
+    load(&text[..n], dictionary);
 }
 
+// The groups one after the other.
 fn main() {
     let mut dictionary = [0u8; 512];
     read_dictionary(b"dictionary-000.txt", &mut dictionary);
-    report(
-        b"words shortened or refused as listed",
-        Group::Shortened,
-        &dictionary,
-        b"sandybridge-words.txt",
-    );
-    report(
-        b"short words expanded as listed",
-        Group::Expanded,
-        &dictionary,
-        b"sandybridge-words.txt",
-    );
-    report(
-        b"words of row J judged as the sheet says",
-        Group::Judged,
-        &dictionary,
-        b"row-j.txt",
-    );
-    report(
-        b"elements stored as worked out",
-        Group::Stored,
-        &dictionary,
-        b"element-cases.txt",
-    );
+    let words = b"sandybridge-words.txt";
+    report(b"words shortened or refused as listed", Group::Shortened, &dictionary, words);
+    report(b"short words expanded as listed", Group::Expanded, &dictionary, words);
+    report(b"words of row J judged as the sheet says", Group::Judged, &dictionary, b"row-j.txt");
+    report(b"elements stored as worked out", Group::Stored, &dictionary, b"element-cases.txt");
 }

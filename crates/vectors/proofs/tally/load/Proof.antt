@@ -1,5 +1,4 @@
 use Rattle.vectors.proofs.Reading.{size-some}
-
 use Prim.Native.Nat.{_≤_, _-_}
 use lib.ListN.{length}
 use borrow.Author.Needs.{needs}
@@ -17,59 +16,59 @@ Inv-loop text dictionary₀ n₀ at₀ dictionary n at = (at ≤ length text) ×
 abbrev μ-loop : tie.MeasureT-loop
 μ-loop text dictionary₀ n₀ at₀ dictionary n at = length text - at
 
--- src/tally.rt:89:5
+-- src/tally.rt:57:5
 loop-holds : tie.Need-loop-holds Inv-loop μ-loop
 loop-holds c = search needs
 
--- src/tally.rt:90:32
+-- src/tally.rt:58:32
 sub-size-to : tie.Need-sub-size-to Inv-loop μ-loop
 sub-size-to c = search needs
 
--- src/tally.rt:90:32
+-- src/tally.rt:58:32
 part-size-to-start : tie.Need-part-size-to-start Inv-loop μ-loop
 part-size-to-start c = search needs
 
--- src/tally.rt:90:32
+-- src/tally.rt:58:32
 part-size-to-end : tie.Need-part-size-to-end Inv-loop μ-loop
 part-size-to-end c = search needs
 
--- src/tally.rt:90:24
+-- src/tally.rt:58:24
 size-to-requires : tie.Need-size-to-requires Inv-loop μ-loop
 size-to-requires c κs = search needs
 
--- src/tally.rt:90:19
+-- src/tally.rt:58:19
 add-end : tie.Need-add-end Inv-loop μ-loop
 add-end c = search needs
 
--- src/tally.rt:91:40
+-- src/tally.rt:59:40
 sub-put-listed : tie.Need-sub-put-listed Inv-loop μ-loop
 sub-put-listed c = search needs
 
--- src/tally.rt:91:40
+-- src/tally.rt:59:40
 part-put-listed-start : tie.Need-part-put-listed-start Inv-loop μ-loop
 part-put-listed-start c = search needs
 
--- src/tally.rt:91:40
+-- src/tally.rt:59:40
 part-put-listed-end : tie.Need-part-put-listed-end Inv-loop μ-loop
 part-put-listed-end c = search needs
 
--- src/tally.rt:91:14
+-- src/tally.rt:59:14
 put-listed-requires : tie.Need-put-listed-requires Inv-loop μ-loop
 put-listed-requires c κs = search needs
 
--- src/tally.rt:91:9
+-- src/tally.rt:59:9
 add-n : tie.Need-add-n Inv-loop μ-loop
 add-n c = search needs
 
--- src/tally.rt:89:5
+-- src/tally.rt:57:5
 loop-less : tie.Need-loop-less Inv-loop μ-loop
 loop-less c = omega (arith, size-some _ _ _ (c .before .before .before .size-to .ensures .0) (search needs))
 
--- src/tally.rt:89:5
+-- src/tally.rt:57:5
 loop-again : tie.Need-loop-again Inv-loop μ-loop
 loop-again c = (search needs, omega (arith, size-some _ _ _ (c .before .before .before .size-to .ensures .0) (search needs)))
 
--- src/tally.rt:86:1
+-- src/tally.rt:54:1
 returns : tie.Need-returns Inv-loop μ-loop
 returns c = search needs
 
