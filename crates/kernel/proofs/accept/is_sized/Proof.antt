@@ -1,6 +1,6 @@
+-- The two tests are the definition's. Assumes nothing.
 use borrow.Author.Tests.{eq-eqb, ne-eqb, leb-true}
 use mathlib.Core.Bool.{true≢false}
--- The two tests are the definition's. Assumes nothing.
 use mathlib.Core.Path.{sym}
 use Rattle.kernel.proofs.accept.is_sized.Statement.{statement}
 use Rattle.kernel.proofs.accept.is_sized.Tie as tie

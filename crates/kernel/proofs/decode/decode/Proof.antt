@@ -1,6 +1,6 @@
+-- The tests are the definition's, in its order. Assumes nothing.
 use Prim.Native.Nat.{_*_, _<_}
 use lib.ListN.{length}
--- The tests are the definition's, in its order. Assumes nothing.
 use mathlib.Core.Path.{sym, ap, _∙_}
 use native.Mathlib.Omega.{arith}
 use borrow.Author.Tests.{not-true, not-false, ltb-true}

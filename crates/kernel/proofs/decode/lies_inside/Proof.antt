@@ -1,6 +1,6 @@
+-- A place of 2,048 or more lies past the longest kernel's end. Assumes nothing.
 use Prim.Native.Nat.{_*_}
 use lib.ListN.{length}
--- A place of 2,048 or more lies past the longest kernel's end. Assumes nothing.
 use mathlib.Core.Path.{sym}
 use native.Mathlib.Omega.{arith}
 use borrow.Author.Tests.{le-ltb}

@@ -1,5 +1,5 @@
-use Rattle.kernel.specs.Standing.{short-room}
 -- The test of bit 29 is the definitions'. Assumes nothing.
+use Rattle.kernel.specs.Standing.{short-room}
 use mathlib.Core.Path.{sym, ap, _∙_}
 use Rattle.paper.specs.Expand.{isShort, expand}
 use Rattle.kernel.specs.Standing.{fetches-short, fetches-long, long-room}

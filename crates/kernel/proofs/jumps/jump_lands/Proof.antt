@@ -1,5 +1,5 @@
-use Rattle.words.specs.Operations.{operationIs}
 -- Each case is the target's definition at the word's operation. Assumes nothing.
+use Rattle.words.specs.Operations.{operationIs}
 use mathlib.Core.Path.{sym, ap, _∙_}
 use Rattle.paper.specs.Jump.{jumpOf}
 use borrow.Author.Needs.{needs}

@@ -1,4 +1,3 @@
-
 use borrow.Author.Needs.{needs}
 use Rattle.vectors.proofs.elements.dword_factor.Statement.{statement}
 use Rattle.vectors.proofs.elements.dword_factor.Tie as tie

@@ -1,0 +1,2 @@
+-- What the checking program prints.
+pub mod Printed

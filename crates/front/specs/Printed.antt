@@ -1,0 +1,52 @@
+-- The four numbers that the checking program prints (the paper, "The checking program"). Assumes nothing.
+use mathlib.Core.Bool.{Bool, true, false, cond, _&&_}
+use mathlib.Core.List.{List}
+use mathlib.Core.Path.{_≡_, refl, sym, ap, _∙_}
+use Prim.Native.Nat.{ℕ, _<_, _≤_}
+use native.Mathlib.Omega.{arith}
+use lib.Dec.{eqb, leb}
+use lib.ListN.{length, take, length-take}
+use borrow.Author.Tests.{lt-leb}
+use Rattle.paper.specs.Calls.{Answer, checkCall, accepted}
+use Rattle.front.specs.declared.report.Report.{Report}
+
+-- Named as the lines are.
+pub record Printed : Type 0 where
+  pub verdict : ℕ
+  pub at : ℕ
+  pub instructions : ℕ
+  pub bytes : ℕ
+
+-- The kernel's length stands last where it is accepted, and 0 where it is refused.
+unfoldable pub printedAs : Answer → ℕ → Printed
+printedAs a length =
+    record { verdict = a .number; at = a .offset; instructions = a .count; bytes = cond (eqb (a .number) 0) length 0 }
+
+unfoldable pub printed : List ℕ → List ℕ → Printed
+printed dictionary kernel = printedAs (checkCall dictionary kernel) (length kernel)
+
+abbrev pub reportIs : Report → Printed
+reportIs r = record { verdict = r .verdict; at = r .at; instructions = r .instructions; bytes = r .bytes }
+
+-- ---- laws
+
+pub printed-by : (dictionary kernel : List ℕ) (a : Answer) → checkCall dictionary kernel ≡ a → printed dictionary kernel ≡ printedAs a (length kernel)
+unfolding printed
+printed-by dictionary kernel a e = ap (λ x. printedAs x (length kernel)) e
+
+and-false : (b : Bool) → (b && false) ≡ false
+and-false true = refl
+and-false false = refl
+
+-- A kernel that is too long is refused by 1, whatever it holds.
+pub printed-over : (dictionary kernel : List ℕ) → 16384 < length kernel
+    → printed dictionary kernel ≡ record { verdict = 1; at = 0; instructions = 0; bytes = 0 }
+unfolding printed printedAs checkCall accepted
+printed-over dictionary kernel h = rw (lt-leb _ _ h, and-false)
+
+-- So the program, which reads one byte more than is allowed, prints what the whole input calls for.
+pub printed-cut : (dictionary kernel : List ℕ) → 16384 < length kernel → printed dictionary kernel ≡ printed dictionary (take 16385 kernel)
+printed-cut dictionary kernel h =
+    let most : 16385 ≤ length kernel = omega arith in
+    let still : 16384 < length (take 16385 kernel) = simp length-take (omega arith) in
+    printed-over dictionary kernel h ∙ sym (printed-over dictionary (take 16385 kernel) still)
