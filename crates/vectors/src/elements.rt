@@ -72,7 +72,16 @@ pub fn stores_as(
         return false;
     }
     let made = element(
-        p, condition, holds, saturated, destination, kind0, modifier0, pattern0, kind1, modifier1,
+        p,
+        condition,
+        holds,
+        saturated,
+        destination,
+        kind0,
+        modifier0,
+        pattern0,
+        kind1,
+        modifier1,
         pattern1,
     );
     made == want

@@ -5,6 +5,7 @@ mod elements;
 mod sheet;
 mod tally;
 mod text;
+
 use cases::Count;
 use cases::Group;
 use libc::STDOUT_FILENO;
@@ -44,8 +45,28 @@ fn main() {
     let mut dictionary = [0u8; 512];
     read_dictionary(b"dictionary-000.txt", &mut dictionary);
     let words = b"sandybridge-words.txt";
-    report(b"words shortened or refused as listed", Group::Shortened, &dictionary, words);
-    report(b"short words expanded as listed", Group::Expanded, &dictionary, words);
-    report(b"words of row J judged as the sheet says", Group::Judged, &dictionary, b"row-j.txt");
-    report(b"elements stored as worked out", Group::Stored, &dictionary, b"element-cases.txt");
+    report(
+        b"words shortened or refused as listed",
+        Group::Shortened,
+        &dictionary,
+        words,
+    );
+    report(
+        b"short words expanded as listed",
+        Group::Expanded,
+        &dictionary,
+        words,
+    );
+    report(
+        b"words of row J judged as the sheet says",
+        Group::Judged,
+        &dictionary,
+        b"row-j.txt",
+    );
+    report(
+        b"elements stored as worked out",
+        Group::Stored,
+        &dictionary,
+        b"element-cases.txt",
+    );
 }

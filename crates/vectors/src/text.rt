@@ -6,6 +6,7 @@ ghost use Rattle.vectors.specs.Text.{upTo, digitOf, hexNumber, pairOf, b
 
 // The greatest byte that ends a line, and the greatest that ends a field.
 pub const LINE: u8 = 10;
+
 pub const FIELD: u8 = 32;
 
 // A byte as a number.
