@@ -79,6 +79,11 @@ module _ (n v : ℕ) (text : List ℕ) (i : ℕ) (passed : n ≡ hexFrom v (drop
 
 -- ---- bytes
 
+-- The byte of two digits.
+pub pair-is : (text : List ℕ) (at x a y b : ℕ) → x ≡ digitOf a → a ≡ getD text at 0 → y ≡ digitOf b → b ≡ getD text (at + 1) 0 → x * 16 + y ≡ pairOf text at
+unfolding pairOf
+pair-is text at x a y b ex ea ey eb = rw (ex, ea, ey, eb)
+
 -- One byte more.
 pub bytes-on : (text out : List ℕ) (i v : ℕ) → i < length out → take i out ≡ bytesIn i text → v ≡ pairOf text (2 * i) → take (i + 1) (set out i v) ≡ bytesIn (i + 1) text
 unfolding bytesIn

@@ -41,13 +41,6 @@ fn one(right: bool) -> Count
     Count { right: 0, total: 1 }
 }
 
-// A line that is no case.
-fn none() -> Count
-    ensures { λ r. ⌜ AtMostOne r ⌝ }
-{
-    Count { right: 0, total: 0 }
-}
-
 // ---- the parts of a line
 
 // The line starts with the name.
@@ -128,7 +121,7 @@ fn expanded_as_listed(dictionary: &[u8], line: &[u8]) -> Count
     let at = third(line);
     let last = &line[at..];
     if byte_at(last, 0) == b'-' {
-        return none();
+        return Count { right: 0, total: 0 };
     }
     let short = bytes_in(last);
     let word = word_in(line);
@@ -178,7 +171,7 @@ pub fn came_out(group: Group, dictionary: &[u8], line: &[u8]) -> Count
     ensures { λ r. ⌜ AtMostOne r ⌝ }
 {
     if byte_at(line, 0) == b'#' {
-        return none();
+        return Count { right: 0, total: 0 };
     }
     match group {
         Group::Shortened => shortened_as_listed(dictionary, line),

@@ -1,14 +1,11 @@
+-- Each return is a case of the two tests. Assumes nothing.
 use borrow.Author.Tests.{lt-ltb, le-ltb}
 use Rattle.vectors.proofs.elements.either_dword.Statement.{statement}
 use Rattle.vectors.proofs.elements.either_dword.Tie as tie
-use Rattle.vectors.proofs.elements.either_dword.Reads as reads
-use Rattle.vectors.proofs.elements.either_dword.Lts as lts
 
--- src/elements.rt:15:9
 returns : tie.Need-returns
 returns c = simp (lt-ltb _ _ (c .if1 .taken))
 
--- src/elements.rt:11:1
 returns-2 : tie.Need-returns-2
 returns-2 c = simp (le-ltb _ _ (c .if1 .left))
 

@@ -1,14 +1,11 @@
-use Rattle.vectors.proofs.Reading.{size-some}
+-- The loop's invariant: each line has a byte, so that no more numbers than bytes are counted. Its measure: the bytes left. Assumes nothing.
 use Prim.Native.Nat.{_≤_, _-_}
-use lib.ListN.{length}
 use borrow.Author.Needs.{needs}
+use lib.ListN.{length}
 use native.Mathlib.Omega.{arith}
+use Rattle.vectors.proofs.Reading.{size-some}
 use Rattle.vectors.proofs.tally.load.Statement.{statement}
 use Rattle.vectors.proofs.tally.load.Tie as tie
-use Rattle.vectors.proofs.tally.load.Reads as reads
-use Rattle.vectors.proofs.tally.load.Lts as lts
-use Rattle.vectors.proofs.tally.put_listed.Reads as put-listed-reads
-use Rattle.vectors.proofs.text.size_to.Reads as size-to-reads
 
 abbrev Inv-loop : tie.InvT-loop
 Inv-loop text dictionary₀ n₀ at₀ dictionary n at = (at ≤ length text) × (n ≤ at)
@@ -16,59 +13,45 @@ Inv-loop text dictionary₀ n₀ at₀ dictionary n at = (at ≤ length text) ×
 abbrev μ-loop : tie.MeasureT-loop
 μ-loop text dictionary₀ n₀ at₀ dictionary n at = length text - at
 
--- src/tally.rt:57:5
 loop-holds : tie.Need-loop-holds Inv-loop μ-loop
 loop-holds c = search needs
 
--- src/tally.rt:58:32
 sub-size-to : tie.Need-sub-size-to Inv-loop μ-loop
 sub-size-to c = search needs
 
--- src/tally.rt:58:32
 part-size-to-start : tie.Need-part-size-to-start Inv-loop μ-loop
 part-size-to-start c = search needs
 
--- src/tally.rt:58:32
 part-size-to-end : tie.Need-part-size-to-end Inv-loop μ-loop
 part-size-to-end c = search needs
 
--- src/tally.rt:58:24
 size-to-requires : tie.Need-size-to-requires Inv-loop μ-loop
 size-to-requires c κs = search needs
 
--- src/tally.rt:58:19
 add-end : tie.Need-add-end Inv-loop μ-loop
 add-end c = search needs
 
--- src/tally.rt:59:40
 sub-put-listed : tie.Need-sub-put-listed Inv-loop μ-loop
 sub-put-listed c = search needs
 
--- src/tally.rt:59:40
 part-put-listed-start : tie.Need-part-put-listed-start Inv-loop μ-loop
 part-put-listed-start c = search needs
 
--- src/tally.rt:59:40
 part-put-listed-end : tie.Need-part-put-listed-end Inv-loop μ-loop
 part-put-listed-end c = search needs
 
--- src/tally.rt:59:14
 put-listed-requires : tie.Need-put-listed-requires Inv-loop μ-loop
 put-listed-requires c κs = search needs
 
--- src/tally.rt:59:9
 add-n : tie.Need-add-n Inv-loop μ-loop
 add-n c = search needs
 
--- src/tally.rt:57:5
 loop-less : tie.Need-loop-less Inv-loop μ-loop
 loop-less c = omega (arith, size-some _ _ _ (c .before .before .before .size-to .ensures .0) (search needs))
 
--- src/tally.rt:57:5
 loop-again : tie.Need-loop-again Inv-loop μ-loop
 loop-again c = (search needs, omega (arith, size-some _ _ _ (c .before .before .before .size-to .ensures .0) (search needs)))
 
--- src/tally.rt:54:1
 returns : tie.Need-returns Inv-loop μ-loop
 returns c = search needs
 

@@ -1,21 +1,17 @@
-use denote.Ref.{now}
-use mathlib.Core.Path.{sym}
-use lib.ListN.{List·getD-eq-default}
+-- Past the end the list's own default is read. Assumes nothing.
 use borrow.Author.Needs.{needs}
+use denote.Ref.{now}
+use lib.ListN.{List·getD-eq-default}
+use mathlib.Core.Path.{sym}
 use Rattle.vectors.proofs.text.byte_at.Statement.{statement}
 use Rattle.vectors.proofs.text.byte_at.Tie as tie
-use Rattle.vectors.proofs.text.byte_at.Reads as reads
-use Rattle.vectors.proofs.text.byte_at.Lts as lts
 
--- src/text.rt:37:16
 shared-slice-read-result : tie.Need-shared-slice-read-result
 shared-slice-read-result c = search needs
 
--- src/text.rt:37:9
 returns : tie.Need-returns
 returns c = search needs
 
--- src/text.rt:33:1
 returns-2 : tie.Need-returns-2
 returns-2 c = sym (List·getD-eq-default (now (c .before .args .text)) 0 (c .if1 .left))
 

@@ -1,41 +1,31 @@
-use native.Mathlib.Omega.{arith}
-use borrow.Author.Tests.{lt-ltb, le-ltb}
+-- Each return is a case of the definition's tests. Assumes nothing.
 use borrow.Author.Needs.{needs}
+use borrow.Author.Tests.{lt-ltb, le-ltb}
+use native.Mathlib.Omega.{arith}
 use Rattle.vectors.proofs.text.digit.Statement.{statement}
 use Rattle.vectors.proofs.text.digit.Tie as tie
-use Rattle.vectors.proofs.text.digit.Reads as reads
-use Rattle.vectors.proofs.text.digit.Lts as lts
-use Rattle.vectors.proofs.text.wide.Reads as wide-reads
 
--- src/text.rt:47:9
 returns : tie.Need-returns
 returns c = (simp (lt-ltb _ _ (c .if1 .taken)), search needs)
 
--- src/text.rt:50:9
 wide-requires : tie.Need-wide-requires
 wide-requires c κs = search needs
 
--- src/text.rt:50:9
 returns-2 : tie.Need-returns-2
 returns-2 c = (simp (le-ltb _ _ (c .before .before .if1 .left), lt-ltb _ _ (c .before .if2 .taken)) (c .wide .ensures .0), omega arith)
 
--- src/text.rt:53:9
 returns-3 : tie.Need-returns-3
 returns-3 c = (simp (le-ltb _ _ (c .before .before .if1 .left), le-ltb _ _ (c .before .if2 .left), lt-ltb _ _ (c .if3 .taken)), search needs)
 
--- src/text.rt:56:21
 sub-wide : tie.Need-sub-wide
 sub-wide c = search needs
 
--- src/text.rt:56:9
 wide-requires-2 : tie.Need-wide-requires-2
 wide-requires-2 c κs = search needs
 
--- src/text.rt:56:9
 returns-4 : tie.Need-returns-4
 returns-4 c = (simp (le-ltb _ _ (c .before .before .before .before .if1 .left), le-ltb _ _ (c .before .before .before .if2 .left), le-ltb _ _ (c .before .before .if3 .left), lt-ltb _ _ (c .before .if4 .taken)) (c .wide2 .ensures .0), omega arith)
 
--- src/text.rt:43:1
 returns-5 : tie.Need-returns-5
 returns-5 c = (simp (le-ltb _ _ (c .before .before .before .if1 .left), le-ltb _ _ (c .before .before .if2 .left), le-ltb _ _ (c .before .if3 .left), le-ltb _ _ (c .if4 .left)), search needs)
 
