@@ -1,0 +1,3 @@
+// The machine: channels that are awake, wait or are off, branches, the lent state, one step.
+pub mod channels;
+pub mod masks;
