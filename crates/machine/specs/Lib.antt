@@ -3,3 +3,4 @@ pub mod Together
 pub mod Numbered
 pub mod Channels
 pub mod Moves
+pub mod Branches

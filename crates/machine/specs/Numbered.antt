@@ -125,3 +125,15 @@ module _ (g : ℕ → Channel → Bool) (f : ℕ → Channel) where
       go : (b : Bool) → eqb m 0 ≡ b → someone g 0 (numbered f 0 16) ≡ not b
       go true z = none-passes (λ k q. e k q ∙ ap (λ (x : ℕ). bit x k) (eqb-true m 0 z) ∙ bit-zero k)
       go false z = some-passes m h (λ k q p. e k q ∙ p) (eqb-false m 0 z)
+
+same-passes : (g h : ℕ → Channel → Bool) (f : ℕ → Channel) (n c : ℕ) → ((k : ℕ) → n ≤ k → k < n + c → g k (f k) ≡ h k (f k))
+    → someone g n (numbered f n c) ≡ someone h n (numbered f n c)
+unfolding numbered someone
+same-passes g h f n zero e = refl
+same-passes g h f n (suc c) e =
+    ap₂ _||_ (e n (omega arith) (omega arith)) (same-passes g h f (suc n) c (λ k p q. e k (omega arith) (omega arith)))
+
+-- Tests that agree on 16 channels are passed alike.
+pub some-same : (g h : ℕ → Channel → Bool) (f : ℕ → Channel) → ((k : ℕ) → k < 16 → g k (f k) ≡ h k (f k))
+    → someone g 0 (numbered f 0 16) ≡ someone h 0 (numbered f 0 16)
+some-same g h f e = same-passes g h f 0 16 (λ k p q. e k (omega arith))

@@ -1,3 +1,4 @@
 // The machine: channels that are awake, wait or are off, branches, the lent state, one step.
+pub mod branch;
 pub mod channels;
 pub mod masks;
