@@ -4,3 +4,4 @@ pub mod Numbered
 pub mod Channels
 pub mod Moves
 pub mod Branches
+pub mod States

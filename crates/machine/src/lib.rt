@@ -2,3 +2,4 @@
 pub mod branch;
 pub mod channels;
 pub mod masks;
+pub mod state;
