@@ -5,3 +5,4 @@ pub mod Channels
 pub mod Moves
 pub mod Branches
 pub mod States
+pub mod Steps

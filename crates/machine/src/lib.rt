@@ -2,4 +2,6 @@
 pub mod branch;
 pub mod channels;
 pub mod masks;
+pub mod start;
 pub mod state;
+pub mod step;
