@@ -1,0 +1,7 @@
+// The machine: channels that are awake, wait or are off, branches, the lent state, one step.
+pub mod branch;
+pub mod channels;
+pub mod masks;
+pub mod start;
+pub mod state;
+pub mod step;

@@ -1,0 +1,45 @@
+// The start: place 0, sixteen channels, awake where the mask has 1 and off for good where it has 0, flags given.
+use crate::channels::Channels;
+use crate::state::State;
+use crate::state::write_state;
+use execute::flags::Flags;
+use words::calls::Wrote;
+ghost use mathlib.Core.Path.{_≡_};
+ghost use mathlib.Core.List.{List};
+ghost use Prim.Native.Nat.{ℕ};
+ghost use Rattle.paper.specs.Calls.{startCall};
+ghost use Rattle.laws.specs.Demands.{begun};
+ghost use Rattle.words.specs.Wrote.{wroteAs};
+ghost use Rattle.machine.specs.States.{stateIs, SaneState};
+
+// The state at a start.
+pub fn started(mask: u16, flag0: u16, flag1: u16) -> State
+    ensures { λ r. ⌜ ((registers : List ℕ) → stateIs registers r ≡ begun registers flag0 flag1 mask) × SaneState r ⌝ }
+{
+    let flags = Flags {
+        flag0: flag0 as u64,
+        flag1: flag1 as u64,
+    };
+    let channels = Channels {
+        awake: mask as u64,
+        waiting: 0,
+        places: [0; 16],
+    };
+    State {
+        flags: flags,
+        channels: channels,
+        place: 0,
+    }
+}
+
+// Writes the state at a start to bytes that are lent for it. 1 where they are not 42; they then stay as they are.
+pub fn start(mask: u16, flag0: u16, flag1: u16, bytes: &mut [u8]) -> Wrote
+    ensures { λ r. ⌜ (wroteAs r ≡ startCall mask flag0 flag1 (now (bytes .entry)) .answer)
+        × (now (bytes .exit) ≡ startCall mask flag0 flag1 (now (bytes .entry)) .output) ⌝ }
+{
+    if bytes.len() != 42 {
+        return Wrote::Refused(1, 0);
+    }
+    write_state(bytes, started(mask, flag0, flag1));
+    Wrote::Fine(0)
+}
