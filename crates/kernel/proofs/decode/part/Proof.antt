@@ -43,7 +43,7 @@ part-result-start c = search needs
 part-result-end : tie.Need-part-result-end
 part-result-end c =
     let f = part-fits _ _ _ _ _ (sym (c .before .before .before .decode .ensures) ∙ ap decodedIs (c .before .size .given .1)) in
-    f .0
+    omega (arith, f)
 
 returns : tie.Need-returns
 returns c = part-none _ _ _ _ _ (sym (c .before .before .before .decode .ensures) ∙ ap decodedIs (c .before .enum-told .given .1))
