@@ -120,10 +120,15 @@ module _ (c r : Channels) (mask : ℕ) (m : Wakes c mask r) where
 
 -- Masks and places so made wake the channels of a mask.
 pub wakes-made : (c : Channels) (mask : ℕ)
-    → Wakes c mask (record { awake = eitherMask (c .awake) mask; waiting = withoutMask (c .waiting) mask; places = values (placeAfter (c .places) mask 0) 16 })
+    → Wakes c mask
+    (record { awake = eitherMask (c .awake) mask; waiting = withoutMask (c .waiting) mask; places = values (placeAfter (c .places) mask 0) 16 })
 wakes-made c mask =
     record {
-      formed = record { sixteen = length-values (placeAfter (c .places) mask 0) 16; awakeFits = eitherMask-less (c .awake) mask; waitingFits = withoutMask-less (c .waiting) mask };
+      formed = record {
+        sixteen = length-values (placeAfter (c .places) mask 0) 16;
+        awakeFits = eitherMask-less (c .awake) mask;
+        waitingFits = withoutMask-less (c .waiting) mask;
+      };
       awakes = λ k q. bit-either (c .awake) mask k q;
       waits = λ k q. bit-without (c .waiting) mask k q;
       places = λ k q. getD-values (placeAfter (c .places) mask 0) 16 k q (lit≤ tt);
@@ -204,10 +209,15 @@ module _ (c r : Channels) (mask place : ℕ) (m : Parks c mask place r) (s : San
 
 -- Masks and places so made have the channels of a mask wait.
 pub parks-made : (c : Channels) (mask place : ℕ)
-    → Parks c mask place (record { awake = withoutMask (c .awake) mask; waiting = eitherMask (c .waiting) mask; places = values (placeAfter (c .places) mask place) 16 })
+    → Parks c mask place
+    (record { awake = withoutMask (c .awake) mask; waiting = eitherMask (c .waiting) mask; places = values (placeAfter (c .places) mask place) 16 })
 parks-made c mask place =
     record {
-      formed = record { sixteen = length-values (placeAfter (c .places) mask place) 16; awakeFits = withoutMask-less (c .awake) mask; waitingFits = eitherMask-less (c .waiting) mask };
+      formed = record {
+        sixteen = length-values (placeAfter (c .places) mask place) 16;
+        awakeFits = withoutMask-less (c .awake) mask;
+        waitingFits = eitherMask-less (c .waiting) mask;
+      };
       awakes = λ k q. bit-without (c .awake) mask k q;
       waits = λ k q. bit-either (c .waiting) mask k q;
       places = λ k q. getD-values (placeAfter (c .places) mask place) 16 k q (lit≤ tt);

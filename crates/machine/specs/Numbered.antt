@@ -9,7 +9,7 @@ use lib.Dec.{eqb, lit<}
 use lib.ListN.{length, getD}
 use borrow.Author.Tests.{eqb-true, eqb-false}
 use Rattle.paper.specs.Bits.{bit}
-use Rattle.paper.specs.Machine.{Channel, off, awake, waiting, each, someone, startFrom}
+use Rattle.paper.specs.Machine.{Channel, off, awake, each, someone, startFrom}
 use Rattle.paper.specs.State.{channelIn, channelsIn, maskOf}
 use Rattle.laws.specs.Masks.{ofBits-same, ofBits-bit, same-bits}
 use Rattle.machine.specs.Together.{bit-zero}

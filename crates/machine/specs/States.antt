@@ -2,15 +2,15 @@
 use mathlib.Core.Path.{_≡_, refl, ap, sym, _∙_}
 use mathlib.Core.Bool.{Bool, true, false, not, cond, false≢true}
 use mathlib.Core.List.{List, [], _∷_, _++_, map, append-nil, append-assoc}
-use Prim.Native.Nat.{ℕ, zero, suc, _+_, _*_, _^_, _≤_, _<_}
+use Prim.Native.Nat.{ℕ, zero, suc, _+_, _*_, _≤_, _<_}
 use native.Mathlib.Omega.{arith}
 use lib.Dec.{eqb, lit≤}
 use lib.ListN.{length, getD, take, drop, length-map, length-take, length-append, length-drop, List·getD-map, drop-of-length-le}
 use lib.Seq.{take-all, take-suc, drop-drop, ext-getD}
 use borrow.Author.Tests.{eqb-true}
-use Rattle.paper.specs.Bits.{bit, bytesOf, putAt}
+use Rattle.paper.specs.Bits.{bytesOf, putAt}
 use Rattle.paper.specs.Machine as paper
-use Rattle.paper.specs.Machine.{Channel, off, isAwake}
+use Rattle.paper.specs.Machine.{off, isAwake}
 use Rattle.paper.specs.State.{half, awakeBit, waitingBit, waitingPlace, channelIn, oneOfThree, channelsIn, allThree, isWaiting, placeIn, maskOf, stateBytes}
 use Rattle.laws.specs.Halfwords.{halves, length-halves}
 use Rattle.laws.specs.StateBytes.{numbersOf, state-halves, each-of-three}

@@ -1,11 +1,10 @@
 -- What a step asks of the laws: which channels are awake, what does nothing, and a start's channels. Assumes nothing.
 use mathlib.Core.Path.{_≡_, refl, ap, sym, _∙_}
-use mathlib.Core.Bool.{Bool, true, false, cond, false≢true}
+use mathlib.Core.Bool.{Bool, false≢true}
 use mathlib.Core.List.{List, map}
 use Prim.Native.Nat.{ℕ, _<_}
 use lib.Dec.{lit<}
-use lib.ListN.{getD, replicate, length-replicate}
-use Rattle.paper.specs.Bits.{bit}
+use lib.ListN.{replicate}
 use Rattle.paper.specs.Operation.{nop, unlisted, operation}
 use Rattle.paper.specs.Enable.{Store}
 use Rattle.paper.specs.Effect.{effect}

@@ -1,5 +1,5 @@
 -- The predicate's mask is that of the flags, so the branch by the mask is the paper's. Assumes nothing.
-use mathlib.Core.Path.{_≡_, _∙_, ap}
+use mathlib.Core.Path.{_∙_, ap}
 use Prim.Native.Nat.{ℕ, _<_}
 use mathlib.Core.List.{[]}
 use Rattle.paper.specs.Bits.{bit}
@@ -11,17 +11,9 @@ use Rattle.words.specs.Operations.{branchIs}
 use Rattle.execute.specs.Stores.{storeOf}
 use Rattle.machine.specs.Channels.{channelsIs}
 use Rattle.machine.specs.Branches.{waysTo, actBy, act-mask}
-use Rattle.paper.specs.Enable.{chosenFlag}
-use Rattle.machine.specs.Branches.{act-mask}
-use mathlib.Core.Path.{_∙_, ap}
-use native.Mathlib.Omega.{arith}
 use borrow.Author.Needs.{needs}
 use Rattle.machine.proofs.branch.act.Statement.{statement}
 use Rattle.machine.proofs.branch.act.Tie as tie
-use Rattle.machine.proofs.branch.act.Reads as reads
-use Rattle.machine.proofs.branch.act.Lts as lts
-use Rattle.execute.proofs.enable.predicate_of.Reads as predicate-of-reads
-use Rattle.machine.proofs.branch.act_by.Reads as act-by-reads
 
 predicate-of-requires : tie.Need-predicate-of-requires
 predicate-of-requires c κs = search needs

@@ -1,18 +1,10 @@
 -- Each arm is the paper's arm: the channels that wait are those of the mask, and the callee answers the place. Assumes nothing.
 use mathlib.Core.Path.{refl, _∙_}
 use Prim.Native.Nat.{_-_}
-use Rattle.paper.specs.Bits.{bit}
 use Rattle.machine.specs.Branches.{actBy, park-all, park-others, forks, fork-lands, jumps, jump-lands}
-use Rattle.machine.specs.Branches.{actBy, park-all, park-others, forks, fork-lands, jumps}
 use borrow.Author.Needs.{needs}
 use Rattle.machine.proofs.branch.act_by.Statement.{statement}
 use Rattle.machine.proofs.branch.act_by.Tie as tie
-use Rattle.machine.proofs.branch.act_by.Reads as reads
-use Rattle.machine.proofs.branch.act_by.Lts as lts
-use Rattle.machine.proofs.branch.fork.Reads as fork-reads
-use Rattle.machine.proofs.branch.jump.Reads as jump-reads
-use Rattle.machine.proofs.branch.repeat.Reads as repeat-reads
-use Rattle.machine.proofs.channels.park.Reads as park-reads
 
 enum-told : tie.Need-enum-told
 enum-told c = search needs

@@ -4,9 +4,6 @@ use Rattle.paper.specs.Machine.{onward}
 use borrow.Author.Needs.{needs}
 use Rattle.machine.proofs.branch.fork.Statement.{statement}
 use Rattle.machine.proofs.branch.fork.Tie as tie
-use Rattle.machine.proofs.branch.fork.Reads as reads
-use Rattle.machine.proofs.branch.fork.Lts as lts
-use Rattle.machine.proofs.channels.someone_here.Reads as someone-here-reads
 
 someone-here-requires : tie.Need-someone-here-requires
 someone-here-requires c κs = search needs

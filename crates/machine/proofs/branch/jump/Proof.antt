@@ -3,9 +3,6 @@ use mathlib.Core.Path.{refl, sym, _∙_}
 use borrow.Author.Needs.{needs}
 use Rattle.machine.proofs.branch.jump.Statement.{statement}
 use Rattle.machine.proofs.branch.jump.Tie as tie
-use Rattle.machine.proofs.branch.jump.Reads as reads
-use Rattle.machine.proofs.branch.jump.Lts as lts
-use Rattle.lanes.proofs.mask.bit.Reads as bit-reads
 
 bit-requires : tie.Need-bit-requires
 bit-requires c κs = search needs

@@ -1,14 +1,10 @@
 -- The branches are those of the paper's while, whose test the callee answers; the channels that wait are those of the predicate's complement.
 -- Assumes nothing.
-use mathlib.Core.Path.{refl, sym, _∙_}
+use mathlib.Core.Path.{sym, _∙_}
 use Rattle.machine.specs.Branches.{actBy, park-others}
 use borrow.Author.Needs.{needs}
 use Rattle.machine.proofs.branch.repeat.Statement.{statement}
 use Rattle.machine.proofs.branch.repeat.Tie as tie
-use Rattle.machine.proofs.branch.repeat.Reads as reads
-use Rattle.machine.proofs.branch.repeat.Lts as lts
-use Rattle.machine.proofs.channels.park.Reads as park-reads
-use Rattle.machine.proofs.channels.someone_awake.Reads as someone-awake-reads
 
 someone-awake-requires : tie.Need-someone-awake-requires
 someone-awake-requires c κs = search needs

@@ -8,12 +8,6 @@ use Rattle.machine.specs.Moves.{parks-made, parks-channels, parks-sane}
 use borrow.Author.Needs.{needs}
 use Rattle.machine.proofs.channels.park.Statement.{statement}
 use Rattle.machine.proofs.channels.park.Tie as tie
-use Rattle.machine.proofs.channels.park.Reads as reads
-use Rattle.machine.proofs.channels.park.Lts as lts
-use Rattle.machine.proofs.channels.places_after.Reads as places-after-reads
-use Rattle.machine.proofs.masks.both.Reads as both-reads
-use Rattle.machine.proofs.masks.either.Reads as either-reads
-use Rattle.machine.proofs.masks.without.Reads as without-reads
 
 both-requires : tie.Need-both-requires
 both-requires c κs = search needs

@@ -3,9 +3,6 @@ use mathlib.Core.Path.{sym, _∙_}
 use borrow.Author.Needs.{needs}
 use Rattle.machine.proofs.channels.place_after.Statement.{statement}
 use Rattle.machine.proofs.channels.place_after.Tie as tie
-use Rattle.machine.proofs.channels.place_after.Reads as reads
-use Rattle.machine.proofs.channels.place_after.Lts as lts
-use Rattle.lanes.proofs.mask.bit.Reads as bit-reads
 
 bit-requires : tie.Need-bit-requires
 bit-requires c κs = search needs

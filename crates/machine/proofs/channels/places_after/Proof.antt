@@ -9,9 +9,6 @@ use Rattle.execute.specs.Results.{values-more}
 use Rattle.machine.specs.Moves.{placeAfter}
 use Rattle.machine.proofs.channels.places_after.Statement.{statement}
 use Rattle.machine.proofs.channels.places_after.Tie as tie
-use Rattle.machine.proofs.channels.places_after.Reads as reads
-use Rattle.machine.proofs.channels.places_after.Lts as lts
-use Rattle.machine.proofs.channels.place_after.Reads as place-after-reads
 
 abbrev Inv-loop : tie.InvT-loop
 Inv-loop places mask place after₀ n₀ after n = (n ≤ 16) × (length after ≡ 16) × (after ≡ values (placeAfter places mask place) n)

@@ -7,9 +7,6 @@ use Rattle.machine.specs.Moves.{someone-of}
 use borrow.Author.Needs.{needs}
 use Rattle.machine.proofs.channels.someone_awake.Statement.{statement}
 use Rattle.machine.proofs.channels.someone_awake.Tie as tie
-use Rattle.machine.proofs.channels.someone_awake.Reads as reads
-use Rattle.machine.proofs.channels.someone_awake.Lts as lts
-use Rattle.machine.proofs.masks.both.Reads as both-reads
 
 both-requires : tie.Need-both-requires
 both-requires c κs = search needs

@@ -4,9 +4,6 @@ use Rattle.machine.specs.Moves.{waits-bits, someone-up, someone-there}
 use borrow.Author.Needs.{needs}
 use Rattle.machine.proofs.channels.someone_here.Statement.{statement}
 use Rattle.machine.proofs.channels.someone_here.Tie as tie
-use Rattle.machine.proofs.channels.someone_here.Reads as reads
-use Rattle.machine.proofs.channels.someone_here.Lts as lts
-use Rattle.machine.proofs.channels.waits_mask.Reads as waits-mask-reads
 
 returns : tie.Need-returns
 returns c =

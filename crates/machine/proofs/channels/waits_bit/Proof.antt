@@ -1,7 +1,5 @@
 -- The bit is 1 where the channel's waiting bit is 1 and its place is the one asked for. Assumes nothing.
-use mathlib.Core.Path.{_≡_, sym, _∙_}
-use mathlib.Core.Bool.{true, false}
-use Prim.Native.Nat.{_*_, _^_}
+use mathlib.Core.Path.{sym, _∙_}
 use native.Mathlib.Nat.{zero-mul}
 use native.Mathlib.Omega.{arith}
 use borrow.Author.Tests.{eq-eqb, ne-eqb}
@@ -9,9 +7,6 @@ use lib.Pow.{shl-exact}
 use borrow.Author.Needs.{needs}
 use Rattle.machine.proofs.channels.waits_bit.Statement.{statement}
 use Rattle.machine.proofs.channels.waits_bit.Tie as tie
-use Rattle.machine.proofs.channels.waits_bit.Reads as reads
-use Rattle.machine.proofs.channels.waits_bit.Lts as lts
-use Rattle.lanes.proofs.mask.bit.Reads as bit-reads
 
 bit-requires : tie.Need-bit-requires
 bit-requires c κs = search needs

@@ -7,9 +7,6 @@ use Rattle.paper.specs.Enable.{ofBits}
 use Rattle.machine.specs.Moves.{waitsThere, waits-more, waits-less}
 use Rattle.machine.proofs.channels.waits_mask.Statement.{statement}
 use Rattle.machine.proofs.channels.waits_mask.Tie as tie
-use Rattle.machine.proofs.channels.waits_mask.Reads as reads
-use Rattle.machine.proofs.channels.waits_mask.Lts as lts
-use Rattle.machine.proofs.channels.waits_bit.Reads as waits-bit-reads
 
 abbrev Inv-loop : tie.InvT-loop
 Inv-loop waiting places place mask₀ n₀ mask n = (n ≤ 16) × (mask ≡ ofBits (waitsThere waiting places place) n)

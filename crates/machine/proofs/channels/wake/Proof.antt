@@ -3,12 +3,6 @@ use Rattle.machine.specs.Moves.{waits-bits, waits-none, none-waits, none
 use borrow.Author.Needs.{needs}
 use Rattle.machine.proofs.channels.wake.Statement.{statement}
 use Rattle.machine.proofs.channels.wake.Tie as tie
-use Rattle.machine.proofs.channels.wake.Reads as reads
-use Rattle.machine.proofs.channels.wake.Lts as lts
-use Rattle.machine.proofs.channels.places_after.Reads as places-after-reads
-use Rattle.machine.proofs.channels.waits_mask.Reads as waits-mask-reads
-use Rattle.machine.proofs.masks.either.Reads as either-reads
-use Rattle.machine.proofs.masks.without.Reads as without-reads
 
 returns : tie.Need-returns
 returns c =

@@ -3,8 +3,6 @@ use mathlib.Core.Path.{refl}
 use Rattle.machine.specs.Together.{bothMask-less, and-both}
 use Rattle.machine.proofs.masks.both.Statement.{statement}
 use Rattle.machine.proofs.masks.both.Tie as tie
-use Rattle.machine.proofs.masks.both.Reads as reads
-use Rattle.machine.proofs.masks.both.Lts as lts
 
 returns : tie.Need-returns
 returns c = rw (and-both (c .args .a) (c .args .b) (c .pre)) (refl, bothMask-less (c .args .a) (c .args .b))

@@ -3,8 +3,6 @@ use mathlib.Core.Path.{refl}
 use Rattle.machine.specs.Together.{eitherMask-less, or-either}
 use Rattle.machine.proofs.masks.either.Statement.{statement}
 use Rattle.machine.proofs.masks.either.Tie as tie
-use Rattle.machine.proofs.masks.either.Reads as reads
-use Rattle.machine.proofs.masks.either.Lts as lts
 
 returns : tie.Need-returns
 returns c = rw (or-either (c .args .a) (c .args .b) (c .pre .0) (c .pre .1)) (refl, eitherMask-less (c .args .a) (c .args .b))

@@ -4,8 +4,6 @@ use Rattle.machine.specs.Together.{withoutMask-less, and-without}
 use borrow.Author.Needs.{needs}
 use Rattle.machine.proofs.masks.without.Statement.{statement}
 use Rattle.machine.proofs.masks.without.Tie as tie
-use Rattle.machine.proofs.masks.without.Reads as reads
-use Rattle.machine.proofs.masks.without.Lts as lts
 
 sub-result : tie.Need-sub-result
 sub-result c = search needs

@@ -4,16 +4,9 @@ use mathlib.Core.List.{[]}
 use borrow.Author.Tests.{eq-eqb, ne-eqb}
 use Rattle.paper.specs.State.{stateBytes}
 use Rattle.paper.specs.Calls.{startCall}
-use mathlib.Core.Path.{_≡_, refl, ap, sym, _∙_}
-use mathlib.Core.List.{List, []}
-use Prim.Native.Nat.{ℕ}
 use borrow.Author.Needs.{needs}
 use Rattle.machine.proofs.start.start.Statement.{statement}
 use Rattle.machine.proofs.start.start.Tie as tie
-use Rattle.machine.proofs.start.start.Reads as reads
-use Rattle.machine.proofs.start.start.Lts as lts
-use Rattle.machine.proofs.start.started.Reads as started-reads
-use Rattle.machine.proofs.state.write_state.Reads as write-state-reads
 
 returns : tie.Need-returns
 unfolding startCall

@@ -4,8 +4,6 @@ use native.Mathlib.Omega.{arith}
 use Rattle.machine.specs.Steps.{start-channels, start-sane}
 use Rattle.machine.proofs.start.started.Statement.{statement}
 use Rattle.machine.proofs.start.started.Tie as tie
-use Rattle.machine.proofs.start.started.Reads as reads
-use Rattle.machine.proofs.start.started.Lts as lts
 
 returns : tie.Need-returns
 returns c =

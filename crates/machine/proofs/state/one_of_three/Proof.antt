@@ -4,14 +4,9 @@ use mathlib.Core.Bool.{true, false}
 use Prim.Native.Nat.{ℕ}
 use Rattle.paper.specs.Bits.{bit}
 use Rattle.paper.specs.State.{waitingBit, oneOfThree}
-use Rattle.paper.specs.State.{oneOfThree}
 use borrow.Author.Needs.{needs}
 use Rattle.machine.proofs.state.one_of_three.Statement.{statement}
 use Rattle.machine.proofs.state.one_of_three.Tie as tie
-use Rattle.machine.proofs.state.one_of_three.Reads as reads
-use Rattle.machine.proofs.state.one_of_three.Lts as lts
-use Rattle.lanes.proofs.mask.bit.Reads as bit-reads
-use Rattle.words.proofs.bytes.read2.Reads as read2-reads
 
 read2-requires : tie.Need-read2-requires
 read2-requires c κs = search needs

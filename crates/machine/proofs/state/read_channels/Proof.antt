@@ -4,10 +4,6 @@ use Rattle.machine.specs.States.{read-channels, read-sane}
 use borrow.Author.Needs.{needs}
 use Rattle.machine.proofs.state.read_channels.Statement.{statement}
 use Rattle.machine.proofs.state.read_channels.Tie as tie
-use Rattle.machine.proofs.state.read_channels.Reads as reads
-use Rattle.machine.proofs.state.read_channels.Lts as lts
-use Rattle.machine.proofs.state.read_places.Reads as read-places-reads
-use Rattle.words.proofs.bytes.read2.Reads as read2-reads
 
 read2-requires : tie.Need-read2-requires
 read2-requires c κs = search needs

@@ -10,9 +10,6 @@ use Rattle.execute.specs.Results.{values-more}
 use borrow.Author.Needs.{needs}
 use Rattle.machine.proofs.state.read_places.Statement.{statement}
 use Rattle.machine.proofs.state.read_places.Tie as tie
-use Rattle.machine.proofs.state.read_places.Reads as reads
-use Rattle.machine.proofs.state.read_places.Lts as lts
-use Rattle.words.proofs.bytes.read2.Reads as read2-reads
 
 abbrev Inv-loop : tie.InvT-loop
 Inv-loop bytes places₀ n₀ places n = (n ≤ 16) × (length places ≡ 16) × (places ≡ values (waitingPlace bytes) n) × ((k : ℕ) → k < n → waitingPlace bytes k < 65536)

@@ -1,13 +1,8 @@
 -- Each number is the one in the bytes. Assumes nothing.
-use mathlib.Core.Path.{refl}
 use Rattle.paper.specs.State.{stateOf}
 use borrow.Author.Needs.{needs}
 use Rattle.machine.proofs.state.read_state.Statement.{statement}
 use Rattle.machine.proofs.state.read_state.Tie as tie
-use Rattle.machine.proofs.state.read_state.Reads as reads
-use Rattle.machine.proofs.state.read_state.Lts as lts
-use Rattle.machine.proofs.state.read_channels.Reads as read-channels-reads
-use Rattle.words.proofs.bytes.read2.Reads as read2-reads
 
 read2-requires : tie.Need-read2-requires
 read2-requires c κs = search needs

@@ -10,9 +10,6 @@ use Rattle.machine.specs.States.{not-three}
 use borrow.Author.Needs.{needs}
 use Rattle.machine.proofs.state.three.Statement.{statement}
 use Rattle.machine.proofs.state.three.Tie as tie
-use Rattle.machine.proofs.state.three.Reads as reads
-use Rattle.machine.proofs.state.three.Lts as lts
-use Rattle.machine.proofs.state.one_of_three.Reads as one-of-three-reads
 
 abbrev Inv-loop : tie.InvT-loop
 Inv-loop bytes n₀ n = (n ≤ 16) × (allThree bytes n ≡ true)

@@ -9,13 +9,8 @@ use Rattle.paper.specs.Bits.{putAt}
 use Rattle.laws.specs.Scatter.{length-putAt}
 use Rattle.machine.specs.States.{placesPut}
 use borrow.Author.Needs.{needs}
-use Prim.Native.Nat.{_-_, _≤_}
-use lib.ListN.{length}
 use Rattle.machine.proofs.state.write_places.Statement.{statement}
 use Rattle.machine.proofs.state.write_places.Tie as tie
-use Rattle.machine.proofs.state.write_places.Reads as reads
-use Rattle.machine.proofs.state.write_places.Lts as lts
-use Rattle.words.proofs.bytes.write2.Reads as write2-reads
 
 abbrev Inv-loop : tie.InvT-loop
 Inv-loop bytes₀ places n₀ bytes n = (n ≤ 16) × (length bytes ≡ length bytes₀) × (bytes ≡ placesPut bytes₀ places n)

@@ -3,10 +3,6 @@ use Rattle.machine.specs.States.{state-written}
 use borrow.Author.Needs.{needs}
 use Rattle.machine.proofs.state.write_state.Statement.{statement}
 use Rattle.machine.proofs.state.write_state.Tie as tie
-use Rattle.machine.proofs.state.write_state.Reads as reads
-use Rattle.machine.proofs.state.write_state.Lts as lts
-use Rattle.machine.proofs.state.write_places.Reads as write-places-reads
-use Rattle.words.proofs.bytes.write2.Reads as write2-reads
 
 write2-requires : tie.Need-write2-requires
 write2-requires c κs = search needs

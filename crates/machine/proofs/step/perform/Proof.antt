@@ -7,16 +7,9 @@ use Rattle.execute.specs.Stores.{storeOf}
 use Rattle.machine.specs.Channels.{channelsIs}
 use Rattle.machine.specs.Branches.{waysTo}
 use Rattle.machine.specs.Steps.{pass-made, idle-made, nop-idle, unlisted-idle}
-use mathlib.Core.Path.{_≡_, refl, sym, ap, _∙_}
-use Rattle.paper.specs.Operation.{plain, nop, unlisted, operation}
-use Rattle.words.specs.Operations.{plainIs, operationIs}
 use borrow.Author.Needs.{needs}
 use Rattle.machine.proofs.step.perform.Statement.{statement}
 use Rattle.machine.proofs.step.perform.Tie as tie
-use Rattle.machine.proofs.step.perform.Reads as reads
-use Rattle.machine.proofs.step.perform.Lts as lts
-use Rattle.execute.proofs.execute.execute.Reads as execute-reads
-use Rattle.machine.proofs.branch.act.Reads as act-reads
 
 enum-known-o : tie.Need-enum-known-o
 enum-known-o c = search needs
@@ -49,9 +42,10 @@ returns c =
     let a = s .args in
     let p = s .pre in
     let e = c .before .before .execute .ensures in
-    let st = storeOf (a .registers .now) (a .flags) in (
+    let st = storeOf (a .registers .now) (a .flags) in
+    let after = storeOf (c .before .before .execute .last .1 .1 .1 .1 .0) (c .before .before .execute .result) in (
       rw (c .before .before .before .before .before .o .given .1)
-          (pass-made (a .c) (p .1 .0) (toWord (a .w)) (waysTo (a .next) (a .target)) st (storeOf (c .before .before .execute .last .1 .1 .1 .1 .0) (c .before .before .execute .result)) (e .0) (e .1 .0)),
+          (pass-made (a .c) (p .1 .0) (toWord (a .w)) (waysTo (a .next) (a .target)) st after (e .0) (e .1 .0)),
       record { channels = p .1 .0; flag0 = e .1 .1 .0; flag1 = e .1 .1 .1; place = p .1 .3 },
     )
 

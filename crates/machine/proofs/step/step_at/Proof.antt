@@ -3,11 +3,6 @@ use mathlib.Core.Path.{_∙_}
 use borrow.Author.Needs.{needs}
 use Rattle.machine.proofs.step.step_at.Statement.{statement}
 use Rattle.machine.proofs.step.step_at.Tie as tie
-use Rattle.machine.proofs.step.step_at.Reads as reads
-use Rattle.machine.proofs.step.step_at.Lts as lts
-use Rattle.machine.proofs.channels.wake.Reads as wake-reads
-use Rattle.machine.proofs.step.perform.Reads as perform-reads
-use Rattle.words.proofs.fields.operation.Reads as operation-reads
 
 wake-requires : tie.Need-wake-requires
 wake-requires c κs = search needs
