@@ -63,7 +63,7 @@ srcServed w x =
     cond (isImmediate x w) (leb (srcType x w) 3)
     (eqb (srcFile x w) grf && (eqb (srcAddrMode x w) 0 && leb (srcType x w) 5))
 
--- Served all through, but for its branches' own needs.
+-- Every field of an operation with operands is served: control, destination, and the sources that it reads.
 unfoldable pub plainServed : Plain → ℕ → Bool
 plainServed p w =
     controlServed (traits p .compares) (traits p .saturates) w
