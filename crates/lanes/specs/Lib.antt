@@ -5,4 +5,5 @@ pub mod MaskLaws
 pub mod FlagLaws
 pub mod Regions
 pub mod Values
+pub mod Mapped
 pub mod Served

@@ -1,0 +1,25 @@
+-- An element has as many bits as its type, so that its value can be told. Assumes nothing.
+use borrow.Author.Needs.{needs}
+use Rattle.lanes.specs.Served.{type-size}
+use Rattle.operands.specs.Reads.{element-less}
+use Rattle.operands.proofs.read.read_as.Statement.{statement}
+use Rattle.operands.proofs.read.read_as.Tie as tie
+
+read-element-requires : tie.Need-read-element-requires
+read-element-requires c κs = (rw (c .before .pre .0) (type-size (c .before .args .kind)), c .before .pre .1)
+
+load-requires : tie.Need-load-requires
+load-requires c κs =
+    let s = c .before .before in
+    rw (c .read-element .ensures, s .pre .0) (element-less (s .args .registers .now) (λ i. c .before .shared-slice-known .given i .fits) (s .args .kind) (s .args .from))
+
+returns : tie.Need-returns
+returns c = rw (← (c .before .read-element .ensures)) (c .load .ensures)
+
+pub read-as-spec : {M : Type 1} → statement M
+read-as-spec =
+    tie.close
+    (tie.spec
+    read-element-requires
+    load-requires
+    returns)

@@ -1,0 +1,3 @@
+-- What is read of the registers, as numbers.
+pub mod Reads
+pub mod Shapes

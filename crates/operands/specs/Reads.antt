@@ -1,0 +1,34 @@
+-- Elements of the registers read as numbers. Assumes nothing.
+use mathlib.Core.Path.{_≡_}
+use mathlib.Core.List.{List}
+use Prim.Native.Nat.{ℕ, zero, suc, _+_, _*_, _^_, _≤_, _<_}
+use native.Mathlib.Omega.{arith}
+use native.Mathlib.Nat.{pow-suc}
+use lib.Dec.{lit<}
+use lib.ListN.{getD}
+use Rattle.paper.specs.Bits.{number, numberAt}
+use Rattle.paper.specs.Value.{width, sizeOf, value}
+use Rattle.laws.specs.Bytes.{numberAt-suc}
+use Rattle.laws.specs.Values.{size-patterns}
+use Rattle.element.specs.Biased.{ex, Near}
+use Rattle.lanes.specs.Mapped.{Mapped}
+
+-- v stands for the value of a type's pattern, and lies as near to 0 as the type's values do.
+abbrev pub Reads : ℕ → ℕ → ℕ → Type 0
+Reads kind pattern v = (ex v ≡ value kind pattern) × Near (width kind) v
+
+-- Of sixteen numbers, each of the n first stands for the element of `size` bytes at its channel's byte; the others stay.
+unfoldable pub ElementsRead : List ℕ → (ℕ → ℕ) → ℕ → ℕ → ℕ → List ℕ → List ℕ → Type 0
+ElementsRead registers element kind size n old new = Mapped (λ k a b. Reads kind (numberAt registers (element k) size) b) n old new
+
+-- The number of n bytes is below 256 to the n.
+number-less : (registers : List ℕ) → ((i : ℕ) → getD registers i 0 < 256) → (n from : ℕ) → numberAt registers from n < 256 ^ n
+unfolding numberAt number
+number-less registers bytes zero from = lit< tt
+number-less registers bytes (suc n) from =
+    rw (numberAt-suc registers from n, pow-suc 256 n) (omega (arith, bytes from, number-less registers bytes n (from + 1)))
+
+-- An element has its type's bits.
+pub element-less : (registers : List ℕ) → ((i : ℕ) → getD registers i 0 < 256) → (kind from : ℕ)
+    → numberAt registers from (sizeOf kind) < 2 ^ width kind
+element-less registers bytes kind from = rw (← (size-patterns kind)) (number-less registers bytes (sizeOf kind) from)

@@ -1,0 +1,6 @@
+// What the channels of a source read, as numbers.
+pub mod modify;
+pub mod packed;
+pub mod read;
+pub mod rows;
+pub mod spread;

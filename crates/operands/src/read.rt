@@ -1,0 +1,17 @@
+// One element of the registers, as a number.
+use element::value::load;
+use lanes::load::read_element;
+ghost use mathlib.Core.Path.{_≡_};
+ghost use Prim.Native.Nat.{_+_, _≤_};
+ghost use lib.ListN.{length};
+ghost use Rattle.paper.specs.Bits.{numberAt};
+ghost use Rattle.paper.specs.Value.{sizeOf};
+ghost use Rattle.operands.specs.Reads.{Reads};
+
+// The number that an element of a type means; its size is given beside the type.
+pub fn read_as(registers: &[u8], from: usize, kind: u64, size: usize) -> u64
+    requires { ⌜ (size ≡ sizeOf kind) × (from + size ≤ length (now registers)) ⌝ }
+    ensures { λ r. ⌜ Reads kind (numberAt (now (registers .entry)) from size) r ⌝ }
+{
+    load(kind, read_element(registers, from, size))
+}
