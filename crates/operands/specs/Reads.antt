@@ -17,9 +17,13 @@ use Rattle.lanes.specs.Mapped.{Mapped}
 abbrev pub Reads : ℕ → ℕ → ℕ → Type 0
 Reads kind pattern v = (ex v ≡ value kind pattern) × Near (width kind) v
 
+-- v stands for the element of `size` bytes at byte `from`.
+unfoldable pub ElementRead : List ℕ → ℕ → ℕ → ℕ → ℕ → Type 0
+ElementRead registers from kind size v = Reads kind (numberAt registers from size) v
+
 -- Of sixteen numbers, each of the n first stands for the element of `size` bytes at its channel's byte; the others stay.
 unfoldable pub ElementsRead : List ℕ → (ℕ → ℕ) → ℕ → ℕ → ℕ → List ℕ → List ℕ → Type 0
-ElementsRead registers element kind size n old new = Mapped (λ k a b. Reads kind (numberAt registers (element k) size) b) n old new
+ElementsRead registers element kind size n old new = Mapped (λ k a b. ElementRead registers (element k) kind size b) n old new
 
 -- The number of n bytes is below 256 to the n.
 number-less : (registers : List ℕ) → ((i : ℕ) → getD registers i 0 < 256) → (n from : ℕ) → numberAt registers from n < 256 ^ n

@@ -1,4 +1,5 @@
 // What the channels of a source read, as numbers.
+pub mod gather;
 pub mod modify;
 pub mod packed;
 pub mod read;

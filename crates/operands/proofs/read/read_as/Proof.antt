@@ -1,7 +1,7 @@
 -- An element has as many bits as its type, so that its value can be told. Assumes nothing.
 use borrow.Author.Needs.{needs}
 use Rattle.lanes.specs.Served.{type-size}
-use Rattle.operands.specs.Reads.{element-less}
+use Rattle.operands.specs.Reads.{ElementRead, element-less}
 use Rattle.operands.proofs.read.read_as.Statement.{statement}
 use Rattle.operands.proofs.read.read_as.Tie as tie
 
@@ -14,6 +14,7 @@ load-requires c κs =
     rw (c .read-element .ensures, s .pre .0) (element-less (s .args .registers .now) (λ i. c .before .shared-slice-known .given i .fits) (s .args .kind) (s .args .from))
 
 returns : tie.Need-returns
+unfolding ElementRead
 returns c = rw (← (c .before .read-element .ensures)) (c .load .ensures)
 
 pub read-as-spec : {M : Type 1} → statement M
