@@ -2,3 +2,4 @@
 pub mod Reads
 pub mod Shapes
 pub mod Halves
+pub mod Sources

@@ -4,4 +4,5 @@ pub mod modify;
 pub mod packed;
 pub mod read;
 pub mod rows;
+pub mod sources;
 pub mod spread;
