@@ -1,4 +1,3 @@
 -- Laws of numbers held as v + 2^63.
-pub mod Base
 pub mod Types
 pub mod Operations

@@ -13,7 +13,7 @@ use Rattle.paper.specs.Value.{floorZ}
 use Rattle.paper.specs.Element.{average, logic, complement, isZero}
 use Rattle.laws.specs.Differences.{sub-cases, is-pos, sub-eq, sub-pos, sub-neg, abs-pos, abs-neg, sub-add, sub-sub, sub-mul, sub-floor, sub-lt, ltb-by}
 use Rattle.element.specs.Biased.{ex}
-use Rattle.element.proofs.Base.{ex-pos, ex-mod, base-multiple}
+use Rattle.element.specs.Base.{ex-pos, ex-mod, base-multiple}
 
 -- ---- modifiers
 

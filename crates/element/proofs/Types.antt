@@ -13,7 +13,7 @@ use Rattle.paper.specs.Value.{width, isSigned, value, least, greatest, modZ, cl
 use Rattle.laws.specs.Differences.{is-pos, sub-eq, neg-of}
 use Rattle.element.specs.Biased.{ex, Near, signBit}
 use Rattle.element.specs.Operands.{width-most}
-use Rattle.element.proofs.Base.{ex-pos, ex-mod, ex-lt, ex-cond}
+use Rattle.element.specs.Base.{ex-pos, ex-mod, ex-lt, ex-cond}
 
 -- ---- the sign bit
 

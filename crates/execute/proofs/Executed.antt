@@ -1,5 +1,5 @@
 -- What `execute` has made when it returns is the paper's effect. Assumes nothing.
-use mathlib.Core.Path.{_≡_, sym, ap, _∙_}
+use mathlib.Core.Path.{_≡_, sym, ap, _∙_, subst}
 use mathlib.Core.List.{List, []}
 use Prim.Native.Nat.{ℕ, _*_, _<_}
 use native.Mathlib.Omega.{arith}
@@ -15,12 +15,11 @@ use Rattle.laws.specs.Regions.{LegalPlain}
 use Rattle.laws.specs.Lasting.{Fit, effect-fits}
 use Rattle.lanes.specs.Masks.{enableMask, quarterMask, raisedMask, awakeList}
 use Rattle.lanes.specs.MaskLaws.{predicateOf, enableOf}
-use Rattle.lanes.specs.Values.{values}
 use Rattle.execute.specs.declared.flags.Flags.{Flags}
 use Rattle.execute.specs.Stores.{storeOf, FlagsOf}
-use Rattle.execute.specs.Results.{channelMakes}
+use Rattle.execute.specs.Results.{Makes}
 use Rattle.execute.specs.Compared.{lowestBits}
-use Rattle.execute.specs.Effects.{written, flagFrom, flagMade, resultsOf, store-effect}
+use Rattle.execute.specs.Effects.{written, flagFrom, flagMade, MadeOf, store-effect}
 
 -- ---- cmp's flag
 
@@ -42,7 +41,7 @@ pub record Made (p : Plain) (w awake : ℕ) (registers : List ℕ) (f : Flags) (
   pub enables : enable ≡ enableMask (weCtrl w) (masks p) awake predicate
   pub own-holds : holding ≡ quarterMask predicate quarter
   pub own-enables : working ≡ quarterMask enable quarter
-  pub makes : results ≡ values (channelMakes p w holding registers) (channels w)
+  pub makes : Makes p w holding registers results
 
 module _ (p : Plain) (w awake : ℕ) (registers : List ℕ) (f : Flags) (quarter predicate enable holding working : ℕ) (results : List ℕ)
     (o : operation w ≡ plain p) (legal : LegalPlain p w) (made : Made p w awake registers f quarter predicate enable holding working results) where
@@ -50,13 +49,15 @@ module _ (p : Plain) (w awake : ℕ) (registers : List ℕ) (f : Flags) (quarter
   enabled : enable ≡ enableOf p w awake (storeOf registers f)
   enabled = made .enables ∙ ap (enableMask (weCtrl w) (masks p) awake) (made .holds)
 
-  resulting : results ≡ resultsOf p w (storeOf registers f)
-  resulting = made .makes ∙ rw (made .own-holds, made .of-word, made .holds)
+  resulting : MadeOf p w (storeOf registers f) results
+  resulting =
+      let mask : holding ≡ quarterMask (predicateOf w (storeOf registers f)) (qtrCtrl w) = made .own-holds ∙ rw (made .of-word, made .holds) in
+      subst (λ (m : ℕ). Makes p w m registers results) mask (made .makes)
 
   -- So is the store.
   store-made : effect w (awakeList awake) (storeOf registers f)
       ≡ withFlag w (storeOf registers f) (written w working registers results) (flagMade p w (chosenFlag w (storeOf registers f)) enable results)
-  store-made = rw (made .own-enables, made .of-word, enabled, resulting) (store-effect p w awake (storeOf registers f) legal o)
+  store-made = rw (made .own-enables, made .of-word, enabled) (store-effect p w awake (storeOf registers f) results legal resulting o)
 
   -- Registers that are so written are the paper's.
   pub registers-made : (after : List ℕ) → after ≡ written w working registers results

@@ -1,29 +1,28 @@
 -- What cmp finds, as a mask taken from its results: channel k's bit is the lowest of what the channel stores. Assumes nothing.
-use mathlib.Core.Path.{_≡_, refl, _∙_, subst}
+use mathlib.Core.Path.{_≡_, refl, sym, ap, _∙_, subst}
 use mathlib.Core.Bool.{Bool, true, false, cond}
 use mathlib.Core.List.{List}
 use Prim.Native.Nat.{ℕ, _+_, _-_, _*_, _%_, _^_, _≤_, _<_}
 use native.Mathlib.Omega.{arith}
 use native.Mathlib.Nat.{mul-le-mul-right, mod-eq-of-lt}
 use native.Mathlib.Numerals.{add-one}
-use lib.Dec.{ltb}
+use lib.Dec.{eqb, ltb}
 use lib.IntN.{_-ℤ_}
 use lib.ListN.{getD}
 use lib.Pow.{pow-mono}
 use Rattle.paper.specs.Bits.{bit}
 use Rattle.paper.specs.Word.{src0, src1, condModifier, saturate, dstType, qtrCtrl}
 use Rattle.paper.specs.Operation.{Plain}
-use Rattle.paper.specs.Value.{modZ, stored}
+use Rattle.paper.specs.Value.{width, modZ, stored}
 use Rattle.paper.specs.Element.{compares, oneIf, result}
 use Rattle.paper.specs.Region.{channels}
 use Rattle.paper.specs.Enable.{Store, digit, ofBits, channelOf}
 use Rattle.paper.specs.Effect.{operand, finds}
-use Rattle.laws.specs.Bits.{bits-mod}
+use Rattle.laws.specs.Bits.{bits-mod, bits-below}
 use Rattle.laws.specs.Masks.{digit-bit, ofBits-less, bit-ofBits}
 use Rattle.lanes.specs.Masks.{raisedMask}
 use Rattle.lanes.specs.MaskLaws.{bit-raised}
-use Rattle.lanes.specs.Values.{values, getD-values}
-use Rattle.execute.specs.Results.{channelMakes}
+use Rattle.execute.specs.Results.{channelMakes, Makes}
 
 -- The lowest bits of the n first values: bit k is value k's.
 unfoldable pub lowestBits : List ℕ → ℕ → ℕ
@@ -64,17 +63,30 @@ unfolding channelMakes result
 makes-outcome w predicate registers k e =
     rw e (stored-outcome (dstType w) (compares (condModifier w) (operand w registers src0 k -ℤ operand w registers src1 k)))
 
+-- A number's lowest bit is that of its low bits.
+bit-low : (kind v : ℕ) → bit v 0 ≡ bit (v % 2 ^ width kind) 0
+bit-low kind v = go (ltb kind 2) (ltb kind 4)
+  where
+    same : (q : ℕ) → bit v 0 ≡ bit (v % 2 ^ (1 + q)) 0
+    same q = ap (λ (x : ℕ). eqb x 1) (sym (bits-below 0 1 q v))
+
+    go : (p q : Bool) → bit v 0 ≡ bit (v % 2 ^ cond p 32 (cond q 16 8)) 0
+    go true q = same 31
+    go false true = same 15
+    go false false = same 7
+
 -- By channel number, the mask says what the paper's cmp finds.
-pub bit-finds : (w predicate : ℕ) (st : Store) → saturate w ≡ 0 → channels w ≤ 16
+pub bit-finds : (w predicate : ℕ) (st : Store) (made : List ℕ) → saturate w ≡ 0 → Makes Plain.cmp w predicate (st .registers) made
     → (m : ℕ) → channelOf w 0 ≤ m → m < channelOf w 0 + channels w
-    → bit (raisedMask (lowestBits (values (channelMakes Plain.cmp w predicate (st .registers)) (channels w)) (channels w)) (qtrCtrl w)) m ≡ finds w st m
-unfolding lowestBits finds
-bit-finds w predicate st e count m from before =
+    → bit (raisedMask (lowestBits made (channels w)) (qtrCtrl w)) m ≡ finds w st m
+unfolding lowestBits finds Makes
+bit-finds w predicate st made e makes m from before =
     let n : ℕ = m - channelOf w 0 in
     let own : n < channels w = omega arith in
-    let f : ℕ → ℕ = channelMakes Plain.cmp w predicate (st .registers) in
-    let mask : ℕ = ofBits (λ k. bit (getD (values f (channels w)) k 0) 0) (channels w) in
+    let mask : ℕ = ofBits (λ k. bit (getD made k 0) 0) (channels w) in
     let at : 8 * qtrCtrl w + n ≡ m = omega arith in
     subst (λ (i : ℕ). bit (raisedMask mask (qtrCtrl w)) i ≡ bit mask n) at (bit-raised mask (qtrCtrl w) n)
-    ∙ bit-ofBits (λ k. bit (getD (values f (channels w)) k 0) 0) (channels w) n own
-    ∙ rw (getD-values f (channels w) n own count) (makes-outcome w predicate (st .registers) n e)
+    ∙ bit-ofBits (λ k. bit (getD made k 0) 0) (channels w) n own
+    ∙ bit-low (dstType w) (getD made n 0)
+    ∙ ap (λ (v : ℕ). bit v 0) (makes n own)
+    ∙ makes-outcome w predicate (st .registers) n e

@@ -2,23 +2,24 @@
 use mathlib.Core.Path.{_≡_, refl, sym, ap, ap₂, _∙_, subst}
 use mathlib.Core.Bool.{Bool, true, false, cond, false≢true}
 use mathlib.Core.List.{List}
-use Prim.Native.Nat.{ℕ, _<_}
+use Prim.Native.Nat.{ℕ, _%_, _^_, _<_}
 use lib.ListN.{getD}
 use Rattle.paper.specs.Bits.{bit}
-use Rattle.paper.specs.Word.{qtrCtrl}
+use Rattle.paper.specs.Word.{qtrCtrl, dstType}
 use Rattle.paper.specs.Operation.{Plain, Operation, plain, nop, branch, unlisted, operation, traits}
 use Rattle.paper.specs.Region.{channels, dstSize, dstElement}
 use Rattle.paper.specs.Legal.{isNull}
 use Rattle.paper.specs.Enable.{Store, chosenFlag, channelOf, flagAfter}
 use Rattle.paper.specs.Effect.{scattered, channelStores, isOn, registersAfter, finds, comparedFlag, plainEffect, withFlag, effect}
 use Rattle.laws.specs.Regions.{LegalPlain}
+use Rattle.laws.specs.Values.{size-patterns}
 use Rattle.laws.specs.Scatter.{scattered-same}
 use Rattle.lanes.specs.Masks.{quarterMask, raisedMask, awakeList}
 use Rattle.lanes.specs.MaskLaws.{predicateOf, enableOf, getD-awakeList}
 use Rattle.lanes.specs.Served.{scattered-masked, flag-masked}
-use Rattle.lanes.specs.Values.{values, getD-values}
-use Rattle.execute.specs.Readable.{legal-count, count-channels, legal-channels, legal-compared}
-use Rattle.execute.specs.Results.{channelMakes, makes-stores}
+use Rattle.execute.specs.Readable.{legal-channels, legal-compared}
+use Rattle.execute.specs.Results.{Makes, makes-stores}
+use Rattle.execute.specs.Stored.{scattered-low}
 use Rattle.execute.specs.Compared.{lowestBits, bit-finds}
 
 -- ---- what the code does
@@ -61,61 +62,62 @@ only-cmp Plain.add e = absurd (false≢true e)
 only-cmp Plain.mul e = absurd (false≢true e)
 only-cmp Plain.avg e = absurd (false≢true e)
 
--- The patterns that an instruction's channels store, by the mask that its predicate makes.
-abbrev pub resultsOf : Plain → ℕ → Store → List ℕ
-resultsOf p w st = values (channelMakes p w (quarterMask (predicateOf w st) (qtrCtrl w)) (st .registers)) (channels w)
+-- What an instruction's channels have made, by the mask that its predicate makes.
+abbrev pub MadeOf : Plain → ℕ → Store → List ℕ → Type 0
+MadeOf p w st made = Makes p w (quarterMask (predicateOf w st) (qtrCtrl w)) (st .registers) made
 
 -- cmp's flag is the paper's.
-flag-compared : (w mask : ℕ) (st : Store) → LegalPlain Plain.cmp w
-    → flagFrom w (chosenFlag w st) (enableOf Plain.cmp w mask st) (resultsOf Plain.cmp w st) ≡ comparedFlag w (awakeList mask) st
+flag-compared : (w mask : ℕ) (st : Store) (made : List ℕ) → LegalPlain Plain.cmp w → MadeOf Plain.cmp w st made
+    → flagFrom w (chosenFlag w st) (enableOf Plain.cmp w mask st) made ≡ comparedFlag w (awakeList mask) st
 unfolding flagFrom comparedFlag
-flag-compared w mask st legal =
+flag-compared w mask st made legal makes =
     flag-masked w st (awakeList mask) mask (legal-channels Plain.cmp w legal) (getD-awakeList mask) Plain.cmp (chosenFlag w st)
-    (raisedMask (lowestBits (resultsOf Plain.cmp w st) (channels w)) (qtrCtrl w))
+    (raisedMask (lowestBits made (channels w)) (qtrCtrl w))
     (finds w st)
-    (bit-finds w (quarterMask (predicateOf w st) (qtrCtrl w)) st (legal-compared w legal) (count-channels w (legal-count Plain.cmp w legal)))
+    (bit-finds w (quarterMask (predicateOf w st) (qtrCtrl w)) st made (legal-compared w legal) makes)
 
 -- So is that of any operation that is cmp.
-flag-of-cmp : (p : Plain) (w mask : ℕ) (st : Store) → p ≡ Plain.cmp → LegalPlain p w
-    → flagFrom w (chosenFlag w st) (enableOf p w mask st) (resultsOf p w st) ≡ comparedFlag w (awakeList mask) st
-flag-of-cmp p w mask st e legal =
-    subst (λ q. flagFrom w (chosenFlag w st) (enableOf q w mask st) (resultsOf q w st) ≡ comparedFlag w (awakeList mask) st) (sym e)
-    (flag-compared w mask st (subst (λ q. LegalPlain q w) e legal))
+flag-of-cmp : (p : Plain) (w mask : ℕ) (st : Store) (made : List ℕ) → p ≡ Plain.cmp → LegalPlain p w → MadeOf p w st made
+    → flagFrom w (chosenFlag w st) (enableOf p w mask st) made ≡ comparedFlag w (awakeList mask) st
+flag-of-cmp p w mask st made e legal makes =
+    subst (λ q. flagFrom w (chosenFlag w st) (enableOf q w mask st) made ≡ comparedFlag w (awakeList mask) st) (sym e)
+    (flag-compared w mask st made (subst (λ q. LegalPlain q w) e legal) (subst (λ q. MadeOf q w st made) e makes))
 
--- Channel k's is the one that the paper says.
-pub getD-results : (p : Plain) (w : ℕ) (st : Store) → LegalPlain p w → (k : ℕ) → k < channels w → getD (resultsOf p w st) k 0 ≡ channelStores p w st k
-getD-results p w st legal k h =
-    getD-values (channelMakes p w (quarterMask (predicateOf w st) (qtrCtrl w)) (st .registers)) (channels w) k h (count-channels w (legal-count p w legal))
-    ∙ makes-stores p w st (legal-channels p w legal) k h
+module _ (p : Plain) (w mask : ℕ) (st : Store) (made : List ℕ) (legal : LegalPlain p w) (makes : MadeOf p w st made) where
+  -- Channel k's low bits are the pattern that the paper says.
+  low-stores : (k : ℕ) → k < channels w → getD made k 0 % 256 ^ dstSize w ≡ channelStores p w st k
+  unfolding Makes
+  low-stores k h = rw (size-patterns (dstType w)) (makes k h ∙ makes-stores p w st (legal-channels p w legal) k h)
 
-module _ (p : Plain) (w mask : ℕ) (st : Store) (legal : LegalPlain p w) where
   -- The registers are the paper's.
-  pub written-effect : written w (quarterMask (enableOf p w mask st) (qtrCtrl w)) (st .registers) (resultsOf p w st) ≡ registersAfter p w (awakeList mask) st
+  pub written-effect : written w (quarterMask (enableOf p w mask st) (qtrCtrl w)) (st .registers) made ≡ registersAfter p w (awakeList mask) st
   unfolding written registersAfter
   written-effect =
-      let from-list : ℕ → ℕ = λ k. getD (resultsOf p w st) k 0 in
+      let from-list : ℕ → ℕ = λ k. getD made k 0 in
+      let low : ℕ → ℕ = λ k. getD made k 0 % 256 ^ dstSize w in
       ap (cond (isNull w) (st .registers))
       (scattered-masked w st (awakeList mask) mask (legal-channels p w legal) (getD-awakeList mask) p (st .registers) (dstElement w) (dstSize w) from-list
-      ∙ scattered-same (st .registers) (dstElement w) (dstSize w) (isOn p w (awakeList mask) st) (isOn p w (awakeList mask) st) from-list (channelStores p w st) (channels w)
-      (λ k h. refl) (getD-results p w st legal))
+      ∙ scattered-low (st .registers) (dstElement w) (dstSize w) (isOn p w (awakeList mask) st) from-list (channels w)
+      ∙ scattered-same (st .registers) (dstElement w) (dstSize w) (isOn p w (awakeList mask) st) (isOn p w (awakeList mask) st) low (channelStores p w st) (channels w)
+      (λ k h. refl) low-stores)
 
   -- The flag is the paper's.
-  pub flag-effect : flagMade p w (chosenFlag w st) (enableOf p w mask st) (resultsOf p w st)
+  pub flag-effect : flagMade p w (chosenFlag w st) (enableOf p w mask st) made
       ≡ cond (traits p .compares) (comparedFlag w (awakeList mask) st) (chosenFlag w st)
   unfolding flagMade
   flag-effect = go (traits p .compares) refl
     where
       go : (b : Bool) → traits p .compares ≡ b
-          → cond b (flagFrom w (chosenFlag w st) (enableOf p w mask st) (resultsOf p w st)) (chosenFlag w st)
+          → cond b (flagFrom w (chosenFlag w st) (enableOf p w mask st) made) (chosenFlag w st)
           ≡ cond b (comparedFlag w (awakeList mask) st) (chosenFlag w st)
-      go true e = flag-of-cmp p w mask st (only-cmp p e) legal
+      go true e = flag-of-cmp p w mask st made (only-cmp p e) legal makes
       go false e = refl
 
   -- The store after is the one that the code leaves.
   pub store-effect : operation w ≡ plain p
       → effect w (awakeList mask) st
       ≡ withFlag w st
-      (written w (quarterMask (enableOf p w mask st) (qtrCtrl w)) (st .registers) (resultsOf p w st))
-      (flagMade p w (chosenFlag w st) (enableOf p w mask st) (resultsOf p w st))
+      (written w (quarterMask (enableOf p w mask st) (qtrCtrl w)) (st .registers) made)
+      (flagMade p w (chosenFlag w st) (enableOf p w mask st) made)
   unfolding plainEffect
   store-effect o = effect-plain p w (awakeList mask) st o ∙ ap₂ (withFlag w st) (sym written-effect) (sym flag-effect)

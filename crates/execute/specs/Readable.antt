@@ -14,16 +14,11 @@ use Rattle.paper.specs.Region.{channels, srcSize, srcElement, dstSize, dstEleme
 use Rattle.paper.specs.Legal.{anyOf, misplaced, unequalHalves, badModifier, isNull, quarterServed, conditionServed, controlServed, operandRuleBroken}
 use Rattle.paper.specs.Enable.{channelOf}
 use Rattle.laws.specs.Halfwords.{both}
-use Rattle.laws.specs.Regions.{LegalPlain, SourceShape, source-shape, source-inside, destination-inside}
+use Rattle.laws.specs.Regions.{LegalPlain, source-shape, source-inside, destination-inside}
 use Rattle.lanes.specs.Served.{plain-control, plain-channels}
+use Rattle.operands.specs.Sources.{Readable}
 
 -- ---- channels
-
--- Source x of a word can be read: there are 16 channels at most, and what is no immediate lies inside the registers.
-pub record Readable (x : Source) (w : ℕ) : Type 0 where
-  pub count : execSize w ≤ 4
-  pub shape : isImmediate x w ≡ false → SourceShape x w
-  pub inside : isImmediate x w ≡ false → (n : ℕ) → n < channels w → srcElement x w n + srcSize x w ≤ registerBytes
 
 -- A word's destination can be written: what is not null lies inside the registers.
 pub record Writable (w : ℕ) : Type 0 where
@@ -41,11 +36,7 @@ control-count compares saturates w e =
 pub legal-count : (p : Plain) (w : ℕ) → LegalPlain p w → execSize w ≤ 4
 legal-count p w l = control-count (traits p .compares) (traits p .saturates) w (plain-control p w (l .served))
 
--- So there are 16 channels at most,
-pub count-channels : (w : ℕ) → execSize w ≤ 4 → channels w ≤ 16
-count-channels w h = omega (arith, pow-mono {i = execSize w} {j = 4} h)
-
--- and they end before channel 16.
+-- Its channels end before channel 16.
 pub legal-channels : (p : Plain) (w : ℕ) → LegalPlain p w → channelOf w 0 + channels w ≤ 16
 legal-channels p w l = plain-channels p w (l .served)
 

@@ -1,16 +1,16 @@
--- The patterns that an instruction's channels store, from the patterns that they read. Assumes nothing.
-use mathlib.Core.Path.{_≡_, refl, sym, ap, subst}
+-- What an instruction's channels make of their operands, and that its low bits are the pattern that the paper stores. Assumes nothing.
+use mathlib.Core.Path.{_≡_, refl, sym, ap, _∙_, subst}
 use mathlib.Core.Bool.{Bool, true, false, cond, true≢false}
 use mathlib.Core.List.{List, [], _∷_}
-use Prim.Native.Nat.{ℕ, zero, suc, _+_, _^_, _≤_, _<_}
-use native.Mathlib.Numerals.{add-one}
+use Prim.Native.Nat.{ℕ, zero, suc, _+_, _%_, _^_, _≤_, _<_}
 use native.Mathlib.Omega.{arith}
 use lib.Dec.{eqb, lit<}
-use lib.ListN.{length, getD, set, replicate}
+use lib.IntN.{ℤ}
+use lib.ListN.{length, getD, replicate, getD-replicate}
 use Rattle.paper.specs.Bits.{bit}
 use Rattle.paper.specs.Word.{src0, src1, condModifier, saturate, dstType, srcType, qtrCtrl}
 use Rattle.paper.specs.Operation as paper
-use Rattle.paper.specs.Value.{width, value, modified, stored}
+use Rattle.paper.specs.Value.{width, modZ, clampTo, stored}
 use Rattle.paper.specs.Element.{result}
 use Rattle.paper.specs.Region.{channels}
 use Rattle.paper.specs.Enable.{Store, channelOf}
@@ -18,13 +18,14 @@ use Rattle.paper.specs.Effect.{operand, channelResult, channelStores}
 use Rattle.laws.specs.Regions.{LegalPlain}
 use Rattle.words.specs.Operations.{plainIs}
 use Rattle.words.specs.declared.operation.Plain.{Plain}
-use Rattle.element.specs.Operands.{Patterns, result-one}
+use Rattle.element.specs.Biased.{ex, Near, near-mono}
+use Rattle.element.specs.Base.{ex-mod}
+use Rattle.element.specs.Operands.{Operands, width-most, width-short, result-one}
+use Rattle.lanes.specs.Mapped.{Mapped}
 use Rattle.lanes.specs.Masks.{quarterMask}
 use Rattle.lanes.specs.MaskLaws.{predicateOf, bit-quarter, bit-predicate}
-use Rattle.lanes.specs.Values.{fill, values, getD-copies}
-use Rattle.execute.specs.Patterns.{patternOf, patternsOf, modifierOf, getD-patterns, operand-pattern, pattern-less}
+use Rattle.operands.specs.Sources.{OperandRead}
 use Rattle.execute.specs.Readable.{legal-factors}
-use Rattle.execute.specs.declared.results.Making.{Making}
 
 -- ---- the second source, where there is one
 
@@ -32,18 +33,8 @@ use Rattle.execute.specs.declared.results.Making.{Making}
 abbrev pub readsTwo : paper.Plain → Bool
 readsTwo p = eqb (length (paper.sources p)) 2
 
--- The second patterns, their type and their modifier: src1's, or zeros of one byte where src1 is not read.
-unfoldable pub secondPatterns : paper.Plain → ℕ → List ℕ → List ℕ
-secondPatterns p w registers = cond (readsTwo p) (patternsOf w registers src1) (replicate 16 0)
-
-unfoldable pub secondType : paper.Plain → ℕ → ℕ
-secondType p w = cond (readsTwo p) (srcType src1 w) 4
-
-unfoldable pub secondModifier : paper.Plain → ℕ → ℕ
-secondModifier p w = cond (readsTwo p) (modifierOf w src1) 0
-
 -- An operation that does not read two sources reads src0 alone.
-pub one-source : (p : paper.Plain) → readsTwo p ≡ false → paper.sources p ≡ src0 ∷ []
+one-source : (p : paper.Plain) → readsTwo p ≡ false → paper.sources p ≡ src0 ∷ []
 one-source paper.mov e = refl
 one-source paper.sel e = absurd (true≢false e)
 one-source paper.not e = refl
@@ -58,99 +49,123 @@ one-source paper.add e = absurd (true≢false e)
 one-source paper.mul e = absurd (true≢false e)
 one-source paper.avg e = absurd (true≢false e)
 
--- ---- what the loop makes
+-- The type as near to 0 as whose values the second numbers lie: src1's, or one of bytes.
+abbrev pub secondType : paper.Plain → ℕ → ℕ
+secondType p w = cond (readsTwo p) (srcType src1 w) 4
 
--- What a loop over the channels is told is what the word says.
-pub record MakingMeans (m : Making) (p : paper.Plain) (w : ℕ) : Type 0 where
-  pub condition : m .condition ≡ condModifier w
-  pub saturated : m .saturated ≡ eqb (saturate w) 1
-  pub destination : m .destination ≡ dstType w
-  pub kind0 : m .kind0 ≡ srcType src0 w
-  pub modifier0 : m .modifier0 ≡ modifierOf w src0
-  pub kind1 : m .kind1 ≡ secondType p w
-  pub modifier1 : m .modifier1 ≡ secondModifier p w
+-- Each of the n first numbers lies near, and stands for what its channel of src1 reads if there is a second source.
+pub record SecondRead (p : paper.Plain) (w : ℕ) (registers : List ℕ) (n : ℕ) (values : List ℕ) : Type 0 where
+  pub near : (k : ℕ) → k < n → Near (width (secondType p w)) (getD values k 0)
+  pub reads : readsTwo p ≡ true → (k : ℕ) → k < n → ex (getD values k 0) ≡ operand w registers src1 k
 
--- The pattern that channel k stores, from those that it reads; bit k of the predicate mask says whether its predicate holds.
-unfoldable pub makes : paper.Plain → Making → ℕ → List ℕ → List ℕ → ℕ → ℕ
-makes p m predicate first second k =
-    stored (m .saturated) (m .destination)
-    (result p (m .condition) (bit predicate k)
-    (modified (m .modifier0) (value (m .kind0) (getD first k 0)))
-    (modified (m .modifier1) (value (m .kind1) (getD second k 0))))
+pub second-read : (p : paper.Plain) (w : ℕ) (registers : List ℕ) (n : ℕ) (old new : List ℕ) → readsTwo p ≡ true
+    → OperandRead w registers src1 n old new → SecondRead p w registers n new
+unfolding OperandRead
+second-read p w registers n old new e m =
+    record { near = λ k h. rw e (m .done k h .1); reads = λ t k h. m .done k h .0 }
 
--- The same in the paper's terms.
+pub second-none : (p : paper.Plain) (w : ℕ) (registers : List ℕ) (n : ℕ) (values : List ℕ) → readsTwo p ≡ false
+    → ((k : ℕ) → k < n → Near 8 (getD values k 0)) → SecondRead p w registers n values
+second-none p w registers n values e near =
+    record { near = λ k h. rw e (near k h); reads = λ t k h. absurd (true≢false (sym t ∙ e)) }
+
+-- What stands for 0 is near.
+pub zeros-near : (v n : ℕ) → v ≡ 2 ^ 63 → n ≤ 16 → (k : ℕ) → k < n → Near 8 (getD (replicate 16 v) k 0)
+zeros-near v n e h k q = rw (getD-replicate 16 k v 0 (omega arith), e) (record { above = lit< tt; below = lit< tt })
+
+-- ---- the stages
+
+-- Each of the n first numbers becomes the result of the operation on it and on the second.
+unfoldable pub Combined : paper.Plain → ℕ → ℕ → ℕ → List ℕ → List ℕ → List ℕ → Type 0
+Combined p condition predicate n first second made =
+    Mapped (λ k a b. ex b ≡ result p condition (bit predicate k) (ex a) (ex (getD second k 0))) n first made
+
+-- The low bits of each of the n first numbers become what is stored for it.
+unfoldable pub Kept : Bool → ℕ → ℕ → List ℕ → List ℕ → Type 0
+Kept saturated kind n old new = Mapped (λ k a b. b % 2 ^ width kind ≡ stored saturated kind (ex a)) n old new
+
+-- There are sixteen still.
+pub read-sixteen : (w : ℕ) (registers : List ℕ) (n : ℕ) (old new : List ℕ) → OperandRead w registers src0 n old new → length new ≡ 16
+unfolding OperandRead
+read-sixteen w registers n old new m = m .sixteen
+
+pub combined-sixteen : (p : paper.Plain) (condition predicate n : ℕ) (first second made : List ℕ) → Combined p condition predicate n first second made → length made ≡ 16
+unfolding Combined
+combined-sixteen p condition predicate n first second made m = m .sixteen
+
+-- What a channel makes in the paper's terms; bit k of the predicate mask says whether its predicate holds.
 unfoldable pub channelMakes : paper.Plain → ℕ → ℕ → List ℕ → ℕ → ℕ
 channelMakes p w predicate registers k =
     stored (eqb (saturate w) 1) (dstType w)
     (result p (condModifier w) (bit predicate k) (operand w registers src0 k) (operand w registers src1 k))
 
--- ---- that they are the same
+-- The low bits of each channel's number are what it makes.
+unfoldable pub Makes : paper.Plain → ℕ → ℕ → List ℕ → List ℕ → Type 0
+Makes p w predicate registers made =
+    (k : ℕ) → k < channels w → getD made k 0 % 2 ^ width (dstType w) ≡ channelMakes p w predicate registers k
 
-module _ (p : paper.Plain) (w : ℕ) (registers : List ℕ) (k : ℕ) (below : k < channels w) (count : channels w ≤ 16) where
-  -- A result from the patterns is the one from the operands, whether or not there is a second source.
-  result-patterns : (c : ℕ) (h : Bool)
-      → result p c h (modified (modifierOf w src0) (value (srcType src0 w) (getD (patternsOf w registers src0) k 0)))
-      (modified (secondModifier p w) (value (secondType p w) (getD (secondPatterns p w registers) k 0)))
-      ≡ result p c h (operand w registers src0 k) (operand w registers src1 k)
-  unfolding secondModifier secondType secondPatterns
-  result-patterns c h =
-      rw (operand-pattern w registers src0 k, getD-patterns w registers src0 k below count) (go (readsTwo p) refl)
-    where
-      go : (b : Bool) → readsTwo p ≡ b
-          → result p c h (modified (modifierOf w src0) (value (srcType src0 w) (patternOf w registers src0 k)))
-          (modified (cond b (modifierOf w src1) 0) (value (cond b (srcType src1 w) 4) (getD (cond b (patternsOf w registers src1) (replicate 16 0)) k 0)))
-          ≡ result p c h (modified (modifierOf w src0) (value (srcType src0 w) (patternOf w registers src0 k))) (operand w registers src1 k)
-      go true e = rw (operand-pattern w registers src1 k, getD-patterns w registers src1 k below count)
-      go false e = result-one p c h _ _ _ (one-source p e)
+-- ---- one channel
 
-  -- What the loop makes is what the channel makes.
-  pub makes-channel : (m : Making) (predicate : ℕ) → MakingMeans m p w
-      → makes p m predicate (patternsOf w registers src0) (secondPatterns p w registers) k ≡ channelMakes p w predicate registers k
-  unfolding makes channelMakes
-  makes-channel m predicate means =
-      rw (means .condition, means .saturated, means .destination, means .kind0, means .modifier0, means .kind1, means .modifier1)
-      (ap (stored (eqb (saturate w) 1) (dstType w)) (result-patterns (condModifier w) (bit predicate k)))
+-- A number has the low bits of what it stands for.
+low-bits : (kind v : ℕ) → v % 2 ^ width kind ≡ modZ (ex v) (2 ^ width kind)
+low-bits kind v = let most = width-most kind in sym (ex-mod (width kind) v (omega arith))
 
-  -- The second pattern has as many bits as its type.
-  second-less : ((i : ℕ) → getD registers i 0 < 256) → getD (secondPatterns p w registers) k 0 < 2 ^ width (secondType p w)
-  unfolding secondType secondPatterns
-  second-less bytes = go (readsTwo p)
-    where
-      go : (b : Bool) → getD (cond b (patternsOf w registers src1) (replicate 16 0)) k 0 < 2 ^ width (cond b (srcType src1 w) 4)
-      go true = rw (getD-patterns w registers src1 k below count) (pattern-less w registers bytes src1 k)
-      go false = rw (getD-copies 0 k (omega arith)) (lit< tt)
+pub kept-stays : (kind v : ℕ) → v % 2 ^ width kind ≡ stored false kind (ex v)
+unfolding stored
+kept-stays kind v = low-bits kind v
+
+pub kept-clamped : (kind v r : ℕ) → ex r ≡ clampTo kind (ex v) → r % 2 ^ width kind ≡ stored true kind (ex v)
+unfolding stored
+kept-clamped kind v r e = low-bits kind r ∙ ap (λ (z : ℤ). modZ z (2 ^ width kind)) e
+
+-- Operands as near as their types' values are as an operation asks.
+operands-near : (p : Plain) (kind0 kind1 a b : ℕ) → (plainIs p ≡ paper.mul → (2 ≤ kind0) × (2 ≤ kind1)) → Near (width kind0) a → Near (width kind1) b
+    → Operands p a b
+operands-near p kind0 kind1 a b f na nb =
+    record {
+      first = near-mono (width-most kind0) na;
+      second = near-mono (width-most kind1) nb;
+      factors = λ e. (near-mono (width-short kind0 (f e .0)) na, near-mono (width-short kind1 (f e .1)) nb);
+    }
 
 -- mul's types are not of dwords.
-mul-words : (w : ℕ) → LegalPlain paper.mul w → (2 ≤ srcType src0 w) × (2 ≤ secondType paper.mul w)
-unfolding secondType
-mul-words w l = legal-factors w l
-
--- The patterns of a legal word are as an element's operation asks.
-pub legal-patterns : (p : Plain) (w : ℕ) (registers : List ℕ) → LegalPlain (plainIs p) w → channels w ≤ 16
-    → ((i : ℕ) → getD registers i 0 < 256) → (m : Making) → MakingMeans m (plainIs p) w → (k : ℕ) → k < channels w
-    → Patterns p (m .kind0) (getD (patternsOf w registers src0) k 0) (m .kind1) (getD (secondPatterns (plainIs p) w registers) k 0)
-legal-patterns p w registers legal count bytes m means k below =
-    record {
-      first = rw (means .kind0, getD-patterns w registers src0 k below count) (pattern-less w registers bytes src0 k);
-      second = rw (means .kind1) (second-less (plainIs p) w registers k below count bytes);
-      factors = λ e. rw (means .kind0, means .kind1) (factors e);
-    }
-  where
-    factors : plainIs p ≡ paper.mul → (2 ≤ srcType src0 w) × (2 ≤ secondType (plainIs p) w)
-    factors e = subst (λ q. (2 ≤ srcType src0 w) × (2 ≤ secondType q w)) (sym e) (mul-words w (subst (λ q. LegalPlain q w) e legal))
+factors : (p : paper.Plain) (w : ℕ) → LegalPlain p w → p ≡ paper.mul → (2 ≤ srcType src0 w) × (2 ≤ secondType p w)
+factors p w legal e =
+    subst (λ q. (2 ≤ srcType src0 w) × (2 ≤ secondType q w)) (sym e) (legal-factors w (subst (λ q. LegalPlain q w) e legal))
 
 -- ---- all channels
 
--- Values are the same if they are so for every channel.
-pub values-same : (f g : ℕ → ℕ) (n : ℕ) → ((k : ℕ) → k < n → f k ≡ g k) → values f n ≡ values g n
-unfolding values fill
-values-same f g zero h = refl
-values-same f g (suc n) h = cc (h n (omega arith), values-same f g n (λ k q. h k (omega arith)))
+module _ (p : Plain) (w : ℕ) (registers : List ℕ) (n : ℕ) (old first second : List ℕ)
+    (a : OperandRead w registers src0 n old first) (b : SecondRead (plainIs p) w registers n second) where
+  -- What was read is as the operation asks.
+  pub read-operands : LegalPlain (plainIs p) w → (k : ℕ) → k < n → Operands p (getD first k 0) (getD second k 0)
+  unfolding OperandRead
+  read-operands legal k h =
+      operands-near p (srcType src0 w) (secondType (plainIs p) w) _ _ (factors (plainIs p) w legal) (a .done k h .1) (b .near k h)
 
--- One channel more.
-pub values-more : (f : ℕ → ℕ) (k v : ℕ) (l : List ℕ) → l ≡ values f k → v ≡ f k → set l k v ≡ values f (k + 1)
-unfolding values fill
-values-more f k v l e h = rw (add-one k, e, h)
+  -- The result is the paper's, whether or not there is a second source.
+  result-read : (c : ℕ) (holds : Bool) (k : ℕ) → k < n
+      → result (plainIs p) c holds (ex (getD first k 0)) (ex (getD second k 0))
+      ≡ result (plainIs p) c holds (operand w registers src0 k) (operand w registers src1 k)
+  unfolding OperandRead
+  result-read c holds k h = ap (λ (z : ℤ). result (plainIs p) c holds z (ex (getD second k 0))) (a .done k h .0) ∙ go (readsTwo (plainIs p)) refl
+    where
+      go : (t : Bool) → readsTwo (plainIs p) ≡ t
+          → result (plainIs p) c holds (operand w registers src0 k) (ex (getD second k 0))
+          ≡ result (plainIs p) c holds (operand w registers src0 k) (operand w registers src1 k)
+      go true e = ap (result (plainIs p) c holds (operand w registers src0 k)) (b .reads e k h)
+      go false e = result-one (plainIs p) c holds _ _ _ (one-source (plainIs p) e)
+
+  -- So is what is made of it.
+  pub results-made : (predicate c kind : ℕ) (saturated : Bool) (combined made : List ℕ)
+      → n ≡ channels w → c ≡ condModifier w → kind ≡ dstType w → saturated ≡ eqb (saturate w) 1
+      → Combined (plainIs p) c predicate n first second combined → Kept saturated kind n combined made → Makes (plainIs p) w predicate registers made
+  unfolding Combined Kept Makes channelMakes
+  results-made predicate c kind saturated combined made en ec ek es m q k h =
+      let below : k < n = rw en h in
+      rw (← ek, ← es, ← ec) (q .done k below ∙ ap (stored saturated kind) (m .done k below ∙ result-read c (bit predicate k) k below))
+
+-- ---- the paper's channels
 
 -- What the channels make, by the mask of the predicate as the instruction numbers its channels, is what the paper says that they store.
 pub makes-stores : (p : paper.Plain) (w : ℕ) (st : Store) → channelOf w 0 + channels w ≤ 16 → (k : ℕ) → k < channels w

@@ -13,7 +13,7 @@ ghost use Rattle.execute.specs.Effects.{flagMade};
 use crate::flags::Flags;
 use crate::flags::chosen;
 use crate::flags::with_chosen;
-use crate::sources::channels;
+use crate::counts::channels;
 use lanes::flags::flag_after;
 use lanes::mask::raised_mask;
 use words::bytes::Word;

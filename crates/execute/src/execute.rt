@@ -33,7 +33,14 @@ pub fn execute(p: Plain, w: Word, awake: u64, flags: Flags, registers: &mut [u8]
     let quarter = qtr_ctrl(w);
     let predicate = predicate_of(w, flags);
     let enable = enable_of(p, w, awake, predicate);
-    let made = results(p, w, quarter_mask(predicate, quarter), registers);
+    let mut made = [0u64; 16];
+    results(
+        p,
+        w,
+        quarter_mask(predicate, quarter),
+        registers,
+        &mut made,
+    );
     write(w, quarter_mask(enable, quarter), registers, &made);
     flags_after(p, w, flags, enable, &made)
 }

@@ -1,8 +1,10 @@
 // What an instruction that is no branch does to registers and flags.
+pub mod clamp;
+pub mod combine;
 pub mod compare;
+pub mod counts;
 pub mod destination;
 pub mod enable;
 pub mod execute;
 pub mod flags;
 pub mod results;
-pub mod sources;

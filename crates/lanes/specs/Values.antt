@@ -2,13 +2,12 @@
 use mathlib.Core.Path.{_≡_, refl, _∙_, sym, subst}
 use mathlib.Core.List.{List}
 use mathlib.Core.Logic.{⊎-elim}
-use Prim.Native.Nat.{ℕ, zero, suc, _≤_, _<_, _^_}
+use Prim.Native.Nat.{ℕ, zero, suc, _+_, _≤_, _<_}
 use native.Mathlib.Omega.{arith}
+use native.Mathlib.Numerals.{add-one}
 use native.Mathlib.Nat.{eq-or-lt-of-le, le-of-suc-le-suc}
 use lib.ListN.{length, getD, set, replicate, length-set, getD-replicate}
 use lib.Seq.{getD-set-same, getD-set-other}
-use Rattle.paper.specs.Bits.{numberAt}
-use Rattle.paper.specs.Region.{elementAt}
 
 -- The list with f k at each k below n.
 unfoldable pub fill : (ℕ → ℕ) → ℕ → List ℕ → List ℕ
@@ -18,10 +17,6 @@ fill f (suc n) l = set (fill f n l) n (f n)
 -- Sixteen values, f k at each k below n, and 0 from n on.
 unfoldable pub values : (ℕ → ℕ) → ℕ → List ℕ
 values f n = fill f n (replicate 16 0)
-
--- The elements of a region's n channels; the width is given by its code.
-unfoldable pub gathered : List ℕ → ℕ → ℕ → ℕ → ℕ → ℕ → ℕ → List ℕ
-gathered registers origin vert code horz size n = values (λ k. numberAt registers (elementAt origin vert (2 ^ code) horz size k) size) n
 
 -- ---- what stands where
 
@@ -64,13 +59,13 @@ pub getD-values-above : (f : ℕ → ℕ) (n k : ℕ) → n ≤ k → k < 16 →
 unfolding values
 getD-values-above f n k h hk = getD-fill-above f n k (replicate 16 0) h ∙ getD-replicate 16 k 0 0 hk
 
--- Of gathered values, channel k's is its element.
-pub getD-gathered : (registers : List ℕ) (origin vert code horz size n k : ℕ) → k < n → n ≤ 16
-    → getD (gathered registers origin vert code horz size n) k 0 ≡ numberAt registers (elementAt origin vert (2 ^ code) horz size k) size
-unfolding gathered
-getD-gathered registers origin vert code horz size n k h hn =
-    getD-values (λ k. numberAt registers (elementAt origin vert (2 ^ code) horz size k) size) n k h hn
+-- Values are the same if they are so for every channel.
+pub values-same : (f g : ℕ → ℕ) (n : ℕ) → ((k : ℕ) → k < n → f k ≡ g k) → values f n ≡ values g n
+unfolding values fill
+values-same f g zero h = refl
+values-same f g (suc n) h = cc (h n (omega arith), values-same f g n (λ k q. h k (omega arith)))
 
--- Of sixteen copies each is the one.
-pub getD-copies : (v k : ℕ) → k < 16 → getD (replicate 16 v) k 0 ≡ v
-getD-copies v k h = getD-replicate 16 k v 0 h
+-- One channel more.
+pub values-more : (f : ℕ → ℕ) (k v : ℕ) (l : List ℕ) → l ≡ values f k → v ≡ f k → set l k v ≡ values f (k + 1)
+unfolding values fill
+values-more f k v l e h = rw (add-one k, e, h)

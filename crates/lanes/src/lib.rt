@@ -1,7 +1,5 @@
 // Channels: masks and flags, regions, elements read and stored.
-pub mod broadcast;
 pub mod flags;
-pub mod gather;
 pub mod load;
 pub mod mask;
 pub mod region;

@@ -1,5 +1,5 @@
 -- The branch is the outcome. Assumes nothing.
-use Rattle.element.proofs.Base.{ex-pos}
+use Rattle.element.specs.Base.{ex-pos}
 use borrow.Author.Needs.{needs}
 use Rattle.element.proofs.compare.one_if.Statement.{statement}
 use Rattle.element.proofs.compare.one_if.Tie as tie

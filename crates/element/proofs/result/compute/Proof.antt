@@ -3,7 +3,7 @@ use mathlib.Core.Path.{ap, _∙_}
 use Rattle.paper.specs.Element.{result, oneIf}
 use Rattle.words.specs.Operations.{plainIs}
 use Rattle.element.specs.Biased.{ex}
-use Rattle.element.proofs.Base.{ex-cond}
+use Rattle.element.specs.Base.{ex-cond}
 use borrow.Author.Needs.{needs}
 use Rattle.element.proofs.result.compute.Statement.{statement}
 use Rattle.element.proofs.result.compute.Tie as tie

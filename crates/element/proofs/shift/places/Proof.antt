@@ -1,7 +1,7 @@
 -- A number has the lowest bits of what it stands for (`ex-mod`). Assumes nothing.
 use native.Mathlib.Omega.{arith}
 use mathlib.Core.Path.{sym}
-use Rattle.element.proofs.Base.{ex-mod}
+use Rattle.element.specs.Base.{ex-mod}
 use Rattle.element.proofs.shift.places.Statement.{statement}
 use Rattle.element.proofs.shift.places.Tie as tie
 

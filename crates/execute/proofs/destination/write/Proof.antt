@@ -5,7 +5,7 @@ use Rattle.paper.specs.Word.{dstType}
 use Rattle.paper.specs.Legal.{isNull}
 use Rattle.words.specs.Words.{toWord}
 use Rattle.lanes.specs.Served.{type-size}
-use Rattle.execute.specs.Readable.{count-channels}
+use Rattle.operands.specs.Sources.{count-channels}
 use Rattle.execute.specs.Effects.{written}
 use borrow.Author.Needs.{needs}
 use Rattle.execute.proofs.destination.write.Statement.{statement}

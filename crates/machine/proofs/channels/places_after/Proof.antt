@@ -5,7 +5,7 @@ use Prim.Native.Nat.{_-_, _≤_}
 use native.Mathlib.Omega.{arith}
 use lib.ListN.{length, length-set}
 use Rattle.lanes.specs.Values.{fill, values}
-use Rattle.execute.specs.Results.{values-more}
+use Rattle.lanes.specs.Values.{values-more}
 use Rattle.machine.specs.Moves.{placeAfter}
 use Rattle.machine.proofs.channels.places_after.Statement.{statement}
 use Rattle.machine.proofs.channels.places_after.Tie as tie

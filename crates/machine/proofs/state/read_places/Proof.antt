@@ -6,7 +6,7 @@ use lib.ListN.{length, length-set}
 use borrow.Author.Count.{below-more}
 use Rattle.paper.specs.State.{waitingPlace}
 use Rattle.lanes.specs.Values.{fill, values}
-use Rattle.execute.specs.Results.{values-more}
+use Rattle.lanes.specs.Values.{values-more}
 use borrow.Author.Needs.{needs}
 use Rattle.machine.proofs.state.read_places.Statement.{statement}
 use Rattle.machine.proofs.state.read_places.Tie as tie

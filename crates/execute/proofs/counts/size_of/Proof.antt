@@ -1,7 +1,7 @@
 -- The tests are those of the definition. Assumes nothing.
 use borrow.Author.Tests.{lt-ltb, le-ltb}
-use Rattle.execute.proofs.sources.size_of.Statement.{statement}
-use Rattle.execute.proofs.sources.size_of.Tie as tie
+use Rattle.execute.proofs.counts.size_of.Statement.{statement}
+use Rattle.execute.proofs.counts.size_of.Tie as tie
 
 returns : tie.Need-returns
 returns c = rw (lt-ltb _ _ (c .if1 .taken))

@@ -1,7 +1,7 @@
 -- The count is that of the ExecSize code. Assumes nothing.
 use borrow.Author.Needs.{needs}
-use Rattle.execute.proofs.sources.channels.Statement.{statement}
-use Rattle.execute.proofs.sources.channels.Tie as tie
+use Rattle.execute.proofs.counts.channels.Statement.{statement}
+use Rattle.execute.proofs.counts.channels.Tie as tie
 
 exec-size-requires : tie.Need-exec-size-requires
 exec-size-requires c κs = search needs
