@@ -2,9 +2,12 @@
 pub mod clamp;
 pub mod combine;
 pub mod compare;
+pub mod conditions;
 pub mod counts;
 pub mod destination;
+pub mod each;
 pub mod enable;
 pub mod execute;
 pub mod flags;
+pub mod operations;
 pub mod results;

@@ -6,8 +6,8 @@ use native.Mathlib.Omega.{arith}
 use Rattle.lanes.specs.Mapped.{mapped-none, mapped-more}
 use Rattle.words.specs.Operations.{plainIs}
 use Rattle.execute.specs.Results.{Combined}
-use Rattle.execute.proofs.combine.each.Statement.{statement}
-use Rattle.execute.proofs.combine.each.Tie as tie
+use Rattle.execute.proofs.each.each.Statement.{statement}
+use Rattle.execute.proofs.each.each.Tie as tie
 
 abbrev Inv-loop : tie.InvT-loop
 Inv-loop p condition predicate n first₀ second k₀ first k = (k ≤ n) × Combined (plainIs p) condition predicate k first₀ second first
