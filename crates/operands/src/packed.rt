@@ -20,43 +20,94 @@ fn line(registers: &[u8], from: usize, kind: u64, size: usize, n: usize, values:
     }
 }
 
-// The same, with a loop of its own for 16 and for 8 channels.
-fn counted(
-    registers: &[u8],
-    from: usize,
-    kind: u64,
-    size: usize,
-    n: usize,
-    values: &mut [u64; 16],
-)
-    requires { ⌜ (size ≡ sizeOf kind) × (n ≤ 16) × (length (now values) ≡ 16) ⌝ }
-    requires { ⌜ ((k : ℕ) → k < n → from + k * size + size ≤ length (now registers)) ⌝ }
-    ensures { λ r. ⌜ ElementsRead (now (registers .entry)) (λ k. from + k * size) kind size n (now (values .entry)) (now (values .exit)) ⌝ }
+// Dwords.
+fn some_dwords(registers: &[u8], from: usize, kind: u64, n: usize, values: &mut [u64; 16])
+    requires { ⌜ (4 ≡ sizeOf kind) × (n ≤ 16) × (length (now values) ≡ 16) ⌝ }
+    requires { ⌜ ((k : ℕ) → k < n → from + k * 4 + 4 ≤ length (now registers)) ⌝ }
+    ensures { λ r. ⌜ ElementsRead (now (registers .entry)) (λ k. from + k * 4) kind 4 n (now (values .entry)) (now (values .exit)) ⌝ }
 {
-    if n == 16 {
-        line(registers, from, kind, size, 16, values);
-        return;
-    }
-    if n == 8 {
-        line(registers, from, kind, size, 8, values);
-        return;
-    }
-    line(registers, from, kind, size, n, values);
+    line(registers, from, kind, 4, n, values)
 }
 
-// The same, with loops of its own for each size.
+// Sixteen dwords.
+fn sixteen_dwords(registers: &[u8], from: usize, kind: u64, values: &mut [u64; 16])
+    requires { ⌜ (4 ≡ sizeOf kind) × (length (now values) ≡ 16) ⌝ }
+    requires { ⌜ ((k : ℕ) → k < 16 → from + k * 4 + 4 ≤ length (now registers)) ⌝ }
+    ensures { λ r. ⌜ ElementsRead (now (registers .entry)) (λ k. from + k * 4) kind 4 16 (now (values .entry)) (now (values .exit)) ⌝ }
+{
+    line(registers, from, kind, 4, 16, values)
+}
+
+// Words.
+fn some_words(registers: &[u8], from: usize, kind: u64, n: usize, values: &mut [u64; 16])
+    requires { ⌜ (2 ≡ sizeOf kind) × (n ≤ 16) × (length (now values) ≡ 16) ⌝ }
+    requires { ⌜ ((k : ℕ) → k < n → from + k * 2 + 2 ≤ length (now registers)) ⌝ }
+    ensures { λ r. ⌜ ElementsRead (now (registers .entry)) (λ k. from + k * 2) kind 2 n (now (values .entry)) (now (values .exit)) ⌝ }
+{
+    line(registers, from, kind, 2, n, values)
+}
+
+// Sixteen words.
+fn sixteen_words(registers: &[u8], from: usize, kind: u64, values: &mut [u64; 16])
+    requires { ⌜ (2 ≡ sizeOf kind) × (length (now values) ≡ 16) ⌝ }
+    requires { ⌜ ((k : ℕ) → k < 16 → from + k * 2 + 2 ≤ length (now registers)) ⌝ }
+    ensures { λ r. ⌜ ElementsRead (now (registers .entry)) (λ k. from + k * 2) kind 2 16 (now (values .entry)) (now (values .exit)) ⌝ }
+{
+    line(registers, from, kind, 2, 16, values)
+}
+
+// Bytes.
+fn some_bytes(registers: &[u8], from: usize, kind: u64, n: usize, values: &mut [u64; 16])
+    requires { ⌜ (1 ≡ sizeOf kind) × (n ≤ 16) × (length (now values) ≡ 16) ⌝ }
+    requires { ⌜ ((k : ℕ) → k < n → from + k * 1 + 1 ≤ length (now registers)) ⌝ }
+    ensures { λ r. ⌜ ElementsRead (now (registers .entry)) (λ k. from + k * 1) kind 1 n (now (values .entry)) (now (values .exit)) ⌝ }
+{
+    line(registers, from, kind, 1, n, values)
+}
+
+// Sixteen bytes.
+fn sixteen_bytes(registers: &[u8], from: usize, kind: u64, values: &mut [u64; 16])
+    requires { ⌜ (1 ≡ sizeOf kind) × (length (now values) ≡ 16) ⌝ }
+    requires { ⌜ ((k : ℕ) → k < 16 → from + k * 1 + 1 ≤ length (now registers)) ⌝ }
+    ensures { λ r. ⌜ ElementsRead (now (registers .entry)) (λ k. from + k * 1) kind 1 16 (now (values .entry)) (now (values .exit)) ⌝ }
+{
+    line(registers, from, kind, 1, 16, values)
+}
+
+// Sixteen elements of a type.
+fn sixteen(registers: &[u8], from: usize, kind: u64, values: &mut [u64; 16])
+    requires { ⌜ length (now values) ≡ 16 ⌝ }
+    requires { ⌜ ((k : ℕ) → k < 16 → from + k * sizeOf kind + sizeOf kind ≤ length (now registers)) ⌝ }
+    ensures { λ r. ⌜ ElementsRead (now (registers .entry)) (λ k. from + k * sizeOf kind) kind (sizeOf kind) 16 (now (values .entry)) (now (values .exit)) ⌝ }
+{
+    if kind < 2 {
+        sixteen_dwords(registers, from, kind, values);
+        return;
+    }
+    if kind < 4 {
+        sixteen_words(registers, from, kind, values);
+        return;
+    }
+    sixteen_bytes(registers, from, kind, values);
+}
+
+// The n first elements of a type from byte `from` on, as numbers: each size has loops of its own, and one for sixteen channels.
 pub fn packed(registers: &[u8], from: usize, kind: u64, n: usize, values: &mut [u64; 16])
     requires { ⌜ (n ≤ 16) × (length (now values) ≡ 16) ⌝ }
     requires { ⌜ ((k : ℕ) → k < n → from + k * sizeOf kind + sizeOf kind ≤ length (now registers)) ⌝ }
     ensures { λ r. ⌜ ElementsRead (now (registers .entry)) (λ k. from + k * sizeOf kind) kind (sizeOf kind) n (now (values .entry)) (now (values .exit)) ⌝ }
 {
+    if n == 16 {
+        sixteen(registers, from, kind, values);
+        return;
+    }
     if kind < 2 {
-        counted(registers, from, kind, 4, n, values);
+        some_dwords(registers, from, kind, n, values);
         return;
     }
     if kind < 4 {
-        counted(registers, from, kind, 2, n, values);
+        some_words(registers, from, kind, n, values);
         return;
     }
-    counted(registers, from, kind, 1, n, values);
+    some_bytes(registers, from, kind, n, values);
 }
