@@ -34,13 +34,7 @@ pub fn execute(p: Plain, w: Word, awake: u64, flags: Flags, registers: &mut [u8]
     let predicate = predicate_of(w, flags);
     let enable = enable_of(p, w, awake, predicate);
     let mut made = [0u64; 16];
-    results(
-        p,
-        w,
-        quarter_mask(predicate, quarter),
-        registers,
-        &mut made,
-    );
+    results(p, w, quarter_mask(predicate, quarter), registers, &mut made);
     write(w, quarter_mask(enable, quarter), registers, &made);
     flags_after(p, w, flags, enable, &made)
 }

@@ -42,7 +42,88 @@ fn store_each(
     }
 }
 
-// The same, with a loop of its own for each size.
+// Dwords `stride` elements apart.
+fn store_dwords(
+    registers: &mut [u8],
+    origin: usize,
+    stride: usize,
+    n: usize,
+    enable: u64,
+    values: &[u64; 16],
+)
+    requires { ⌜ n ≤ 16 ⌝ }
+    requires { ⌜ ((k : ℕ) → k < n → origin + k * stride * 4 + 4 ≤ length (now registers)) ⌝ }
+    ensures { λ r. ⌜ now (registers .exit)
+        ≡ scattered (now (registers .entry)) (λ k. origin + k * stride * 4) 4 (bit enable) (λ k. getD (now (values .entry)) k 0) n ⌝ }
+{
+    store_each(registers, origin, stride, 4, n, enable, values)
+}
+
+// Dwords side by side, all of them.
+fn pack_dwords(registers: &mut [u8], origin: usize, n: usize, values: &[u64; 16])
+    requires { ⌜ n ≤ 16 ⌝ }
+    requires { ⌜ ((k : ℕ) → k < n → origin + k * 1 * 4 + 4 ≤ length (now registers)) ⌝ }
+    ensures { λ r. ⌜ now (registers .exit)
+        ≡ scattered (now (registers .entry)) (λ k. origin + k * 1 * 4) 4 (bit 18446744073709551615) (λ k. getD (now (values .entry)) k 0) n ⌝ }
+{
+    store_each(registers, origin, 1, 4, n, 18446744073709551615, values)
+}
+
+// Words `stride` elements apart.
+fn store_words(
+    registers: &mut [u8],
+    origin: usize,
+    stride: usize,
+    n: usize,
+    enable: u64,
+    values: &[u64; 16],
+)
+    requires { ⌜ n ≤ 16 ⌝ }
+    requires { ⌜ ((k : ℕ) → k < n → origin + k * stride * 2 + 2 ≤ length (now registers)) ⌝ }
+    ensures { λ r. ⌜ now (registers .exit)
+        ≡ scattered (now (registers .entry)) (λ k. origin + k * stride * 2) 2 (bit enable) (λ k. getD (now (values .entry)) k 0) n ⌝ }
+{
+    store_each(registers, origin, stride, 2, n, enable, values)
+}
+
+// Words side by side, all of them.
+fn pack_words(registers: &mut [u8], origin: usize, n: usize, values: &[u64; 16])
+    requires { ⌜ n ≤ 16 ⌝ }
+    requires { ⌜ ((k : ℕ) → k < n → origin + k * 1 * 2 + 2 ≤ length (now registers)) ⌝ }
+    ensures { λ r. ⌜ now (registers .exit)
+        ≡ scattered (now (registers .entry)) (λ k. origin + k * 1 * 2) 2 (bit 18446744073709551615) (λ k. getD (now (values .entry)) k 0) n ⌝ }
+{
+    store_each(registers, origin, 1, 2, n, 18446744073709551615, values)
+}
+
+// Bytes `stride` elements apart.
+fn store_bytes(
+    registers: &mut [u8],
+    origin: usize,
+    stride: usize,
+    n: usize,
+    enable: u64,
+    values: &[u64; 16],
+)
+    requires { ⌜ n ≤ 16 ⌝ }
+    requires { ⌜ ((k : ℕ) → k < n → origin + k * stride * 1 + 1 ≤ length (now registers)) ⌝ }
+    ensures { λ r. ⌜ now (registers .exit)
+        ≡ scattered (now (registers .entry)) (λ k. origin + k * stride * 1) 1 (bit enable) (λ k. getD (now (values .entry)) k 0) n ⌝ }
+{
+    store_each(registers, origin, stride, 1, n, enable, values)
+}
+
+// Bytes side by side, all of them.
+fn pack_bytes(registers: &mut [u8], origin: usize, n: usize, values: &[u64; 16])
+    requires { ⌜ n ≤ 16 ⌝ }
+    requires { ⌜ ((k : ℕ) → k < n → origin + k * 1 * 1 + 1 ≤ length (now registers)) ⌝ }
+    ensures { λ r. ⌜ now (registers .exit)
+        ≡ scattered (now (registers .entry)) (λ k. origin + k * 1 * 1) 1 (bit 18446744073709551615) (λ k. getD (now (values .entry)) k 0) n ⌝ }
+{
+    store_each(registers, origin, 1, 1, n, 18446744073709551615, values)
+}
+
+// Elements of a size, `stride` elements apart.
 fn store_sized(
     registers: &mut [u8],
     origin: usize,
@@ -58,36 +139,32 @@ fn store_sized(
         ≡ scattered (now (registers .entry)) (λ k. origin + k * stride * size) size (bit enable) (λ k. getD (now (values .entry)) k 0) n ⌝ }
 {
     if size == 4 {
-        store_each(registers, origin, stride, 4, n, enable, values);
+        store_dwords(registers, origin, stride, n, enable, values);
         return;
     }
     if size == 2 {
-        store_each(registers, origin, stride, 2, n, enable, values);
+        store_words(registers, origin, stride, n, enable, values);
         return;
     }
-    store_each(registers, origin, stride, 1, n, enable, values);
+    store_bytes(registers, origin, stride, n, enable, values);
 }
 
-// The same, with loops of their own for elements side by side.
-fn store_apart(
-    registers: &mut [u8],
-    origin: usize,
-    stride: usize,
-    size: usize,
-    n: usize,
-    enable: u64,
-    values: &[u64; 16],
-)
+// Elements of a size side by side, all of them: a mask that has every bit enables them.
+fn pack_sized(registers: &mut [u8], origin: usize, size: usize, n: usize, values: &[u64; 16])
     requires { ⌜ Size size × (n ≤ 16) ⌝ }
-    requires { ⌜ ((k : ℕ) → k < n → origin + k * stride * size + size ≤ length (now registers)) ⌝ }
+    requires { ⌜ ((k : ℕ) → k < n → origin + k * 1 * size + size ≤ length (now registers)) ⌝ }
     ensures { λ r. ⌜ now (registers .exit)
-        ≡ scattered (now (registers .entry)) (λ k. origin + k * stride * size) size (bit enable) (λ k. getD (now (values .entry)) k 0) n ⌝ }
+        ≡ scattered (now (registers .entry)) (λ k. origin + k * 1 * size) size (bit 18446744073709551615) (λ k. getD (now (values .entry)) k 0) n ⌝ }
 {
-    if stride == 1 {
-        store_sized(registers, origin, 1, size, n, enable, values);
+    if size == 4 {
+        pack_dwords(registers, origin, n, values);
         return;
     }
-    store_sized(registers, origin, stride, size, n, enable, values);
+    if size == 2 {
+        pack_words(registers, origin, n, values);
+        return;
+    }
+    pack_bytes(registers, origin, n, values);
 }
 
 // The mask enables each of the n first channels.
@@ -98,7 +175,19 @@ fn all_on(enable: u64, n: usize) -> bool
     enable % (1 << n) == (1 << n) - 1
 }
 
-// The same, with loops of their own for a mask that enables all: every bit of another is then 1.
+// Elements side by side, all of which are enabled.
+fn is_plain(stride: usize, enable: u64, n: usize) -> bool
+    requires { ⌜ n ≤ 16 ⌝ }
+    ensures { λ r. ⌜ (r ≡ true → (stride ≡ 1) × ((k : ℕ) → k < n → bit enable k ≡ true)) ⌝ }
+{
+    if stride == 1 {
+        return all_on(enable, n);
+    }
+    false
+}
+
+// The n channels' values stored `stride` elements apart, each where its bit of the mask is 1: each size has loops of its own, and one for
+// elements side by side, all of which are enabled.
 pub fn scatter(
     registers: &mut [u8],
     origin: usize,
@@ -113,16 +202,8 @@ pub fn scatter(
     ensures { λ r. ⌜ now (registers .exit)
         ≡ scattered (now (registers .entry)) (λ k. origin + k * stride * size) size (bit enable) (λ k. getD (now (values .entry)) k 0) n ⌝ }
 {
-    if all_on(enable, n) {
-        store_apart(
-            registers,
-            origin,
-            stride,
-            size,
-            n,
-            18446744073709551615,
-            values,
-        );
+    if is_plain(stride, enable, n) {
+        pack_sized(registers, origin, size, n, values);
         return;
     }
     store_sized(registers, origin, stride, size, n, enable, values);

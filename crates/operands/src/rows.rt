@@ -18,14 +18,7 @@ pub struct Layout {
 }
 
 // The elements of the n first channels of a region, as numbers.
-fn lines(
-    registers: &[u8],
-    at: Layout,
-    kind: u64,
-    size: usize,
-    n: usize,
-    values: &mut [u64; 16],
-)
+fn lines(registers: &[u8], at: Layout, kind: u64, size: usize, n: usize, values: &mut [u64; 16])
     requires { ⌜ Small (at .origin) (at .vert) (at .code) (at .horz) × (size ≡ sizeOf kind) × (n ≤ 16) × (length (now values) ≡ 16) ⌝ }
     requires { ⌜ ((k : ℕ) → k < n → elementAt (at .origin) (at .vert) (2 ^ at .code) (at .horz) size k + size ≤ length (now registers)) ⌝ }
     ensures { λ r. ⌜ ElementsRead (now (registers .entry)) (elementAt (at .origin) (at .vert) (2 ^ at .code) (at .horz) size) kind size n (now (values .entry)) (now (values .exit)) ⌝ }

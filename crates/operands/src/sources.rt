@@ -63,6 +63,12 @@ pub fn second_operand(w: Word, n: usize, registers: &[u8], values: &mut [u64; 16
         spread(immediate_number(Source::Second, w), n, values);
         return;
     }
-    gather(w.hi >> 32, src_type(Source::Second, w), n, registers, values);
+    gather(
+        w.hi >> 32,
+        src_type(Source::Second, w),
+        n,
+        registers,
+        values,
+    );
     modify_all(src_modifier(Source::Second, w), n, values);
 }

@@ -1,17 +1,22 @@
 -- A mask that enables all channels has the bits of one that has every bit. Assumes nothing.
-use mathlib.Core.Path.{refl, sym, _∙_}
+use mathlib.Core.Path.{refl, sym, _∙_, subst}
+use Prim.Native.Nat.{ℕ, _+_, _*_, _≤_}
 use native.Mathlib.Omega.{arith}
+use lib.ListN.{length}
 use Rattle.laws.specs.Scatter.{scattered-same}
 use Rattle.lanes.specs.BitLaws.{bit-ones}
 use borrow.Author.Needs.{needs}
 use Rattle.lanes.proofs.scatter.scatter.Statement.{statement}
 use Rattle.lanes.proofs.scatter.scatter.Tie as tie
 
-all-on-requires : tie.Need-all-on-requires
-all-on-requires c κs = search needs
+is-plain-requires : tie.Need-is-plain-requires
+is-plain-requires c κs = search needs
 
-store-apart-requires : tie.Need-store-apart-requires
-store-apart-requires c κs = search needs
+pack-sized-requires : tie.Need-pack-sized-requires
+pack-sized-requires c κs =
+    let s = c .before .before .before .before in
+    let plain = c .before .before .is-plain .ensures (c .before .if1 .taken) in
+    (s .pre .0, λ k h. subst (λ (z : ℕ). s .args .origin + k * z * s .args .size + s .args .size ≤ length (s .args .registers .now)) (plain .0) (s .pre .1 k h))
 
 same-length : tie.Need-same-length
 same-length c = search needs
@@ -19,8 +24,9 @@ same-length c = search needs
 returns : tie.Need-returns
 returns c =
     let s = c .before .before .before .before .before .before .before in
-    c .before .before .store-apart .ensures
-    ∙ scattered-same _ _ _ _ _ _ _ _ (λ k h. bit-ones 64 k (omega (arith, s .pre .0 .1)) ∙ sym (c .before .before .before .before .before .all-on .ensures (c .before .before .before .before .if1 .taken) k h)) (λ k h. refl)
+    let plain = c .before .before .before .before .before .is-plain .ensures (c .before .before .before .before .if1 .taken) in
+    rw (plain .0) (c .before .before .pack-sized .ensures
+    ∙ scattered-same _ _ _ _ _ _ _ _ (λ k h. bit-ones 64 k (omega (arith, s .pre .0 .1)) ∙ sym (plain .1 k h)) (λ k h. refl))
 
 store-sized-requires : tie.Need-store-sized-requires
 store-sized-requires c κs = search needs
@@ -35,8 +41,8 @@ pub scatter-spec : {M : Type 1} → statement M
 scatter-spec =
     tie.close
     (tie.spec
-    all-on-requires
-    store-apart-requires
+    is-plain-requires
+    pack-sized-requires
     same-length
     returns
     store-sized-requires
