@@ -2,12 +2,12 @@
 use mathlib.Core.Bool.{Bool, true, false}
 use mathlib.Core.List.{List}
 use Prim.Native.Nat.{ℕ}
-use Rattle.paper.specs.Dictionary.{Dictionary}
+use Rattle.paper.specs.Dictionary.{Dictionary, dictionaryOf}
 use Rattle.paper.specs.Shorten.{shorten}
 use Rattle.paper.specs.Kernel.{Instr}
-use Rattle.paper.specs.Packing.{Form}
+use Rattle.paper.specs.Packing.{Form, relay}
 use Rattle.paper.specs.Calls.{accepted}
-use Rattle.laws.specs.Names.{longForm}
+use Rattle.laws.specs.Names.{longForm, newEnd}
 use Rattle.kernel.specs.Judging.{formsIs}
 use Rattle.kernel.specs.Marks.{instrsOf}
 use Rattle.kernel.specs.Accepting.{AcceptedKernel}
@@ -24,3 +24,10 @@ kernelOf packs dictionary kernel = instrsOf (accepted (formsIs packs) dictionary
 -- It is accepted.
 abbrev pub Taken : Bool → List ℕ → List ℕ → Type 0
 Taken packs dictionary kernel = AcceptedKernel (formsIs packs) dictionary kernel (kernelOf packs dictionary kernel)
+
+-- The bytes that it becomes, and the place past the last of them.
+abbrev pub resultOf : Bool → List ℕ → List ℕ → List ℕ
+resultOf packs dictionary kernel = relay (formOf packs (dictionaryOf dictionary)) (kernelOf packs dictionary kernel)
+
+abbrev pub resultEnd : Bool → List ℕ → List ℕ → ℕ
+resultEnd packs dictionary kernel = newEnd (formOf packs (dictionaryOf dictionary)) (kernelOf packs dictionary kernel)

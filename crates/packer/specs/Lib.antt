@@ -5,3 +5,4 @@ pub mod Targets
 pub mod Pieces
 pub mod Stages
 pub mod Written
+pub mod Answers

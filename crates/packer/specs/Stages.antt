@@ -1,7 +1,7 @@
 -- A pass over an accepted kernel, instruction by instruction: where it stands in the old bytes and in the new, and which new places it has stored.
 -- Assumes nothing.
 use mathlib.Core.Bool.{Bool, true, false}
-use mathlib.Core.List.{List, map}
+use mathlib.Core.List.{List}
 use mathlib.Core.Option.{Option, none, some, Option·map}
 use mathlib.Core.Path.{_≡_, refl, sym, ap, _∙_, subst}
 use Prim.Native.Nat.{ℕ, suc, _+_, _*_, _/_, _<_, _≤_}
@@ -12,12 +12,12 @@ use lib.Seq.{getD-set-same, getD-set-other}
 use borrow.Author.Tests.{eqb-true, eqb-false, eq-eqb}
 use Rattle.paper.specs.Dictionary.{dictionaryOf}
 use Rattle.paper.specs.Kernel.{Instr, Forms}
-use Rattle.paper.specs.Jump.{nextOf, targetOf, fetch, endOf, lands, found}
+use Rattle.paper.specs.Jump.{nextOf, targetOf, fetch, endOf, lands}
 use Rattle.paper.specs.Machine.{placeOf}
-use Rattle.paper.specs.Packing.{index, Piece, Form, piece, placesTaken, startOf, newTarget}
+use Rattle.paper.specs.Packing.{index, Form, piece, placesTaken, startOf, newTarget}
 use Rattle.laws.specs.Names.{piecesOf, newEnd}
 use Rattle.laws.specs.Moved.{start-high}
-use Rattle.laws.specs.Places.{Names, Found, apart, index-le, start-zero, none-length, fetch-index, lands-names, jump-lands, zero-lands, place-lands}
+use Rattle.laws.specs.Places.{apart, index-le, start-zero, none-length, fetch-index, lands-names, jump-lands, zero-lands, place-lands}
 use Rattle.laws.specs.Places as places
 use Rattle.laws.specs.Relay.{newEnd-near}
 use Rattle.kernel.specs.Standing.{Whole, Fetches}
@@ -96,8 +96,11 @@ module _ (forms : Forms) (dictionary kernel : List ℕ) (k : List Instr) (h : Ac
     pub stage-inside : from ≤ length kernel
     stage-inside = omega (arith, lands-low (from / 8) (s .starts), s .whole)
 
+    pub stage-room : to ≤ newEnd form k
+    stage-room = omega (arith, s .to-is, start-few (index k (from / 8)))
+
     pub stage-few : to ≤ 2048
-    stage-few = omega (arith, s .to-is, start-few (index k (from / 8)), end-few)
+    stage-few = omega (arith, stage-room, end-few)
 
     -- At the end of the bytes it stands at the kernel's end.
     at-end : length kernel ≤ from → from / 8 ≡ endOf k
@@ -136,16 +139,20 @@ module _ (forms : Forms) (dictionary kernel : List ℕ) (k : List Instr) (h : Ac
         next-index = ap (index k) next-place ∙ places.found 0 k (from / 8) instr (h .sound .laid) stage-fetch .next
 
         -- The next stage.
-        pub stage-next : Stage form k (from + 8 * size) (to + placesTaken (form w))
-        stage-next =
+        further : Stage form k (from + 8 * size) (to + placesTaken (form w))
+        further =
             record {
               whole = omega (arith, s .whole);
               starts = ap (lands k) next-place ∙ next-lands (from / 8) instr stage-fetch;
               to-is =
-                ap (λ (x : ℕ). x + placesTaken (form w)) (s .to-is)
-                ∙ sym (start-next 0 (piecesOf form k) (index k (from / 8)) (piece form instr) stage-piece)
-                ∙ ap (startOf 0 (piecesOf form k)) (sym next-index);
+                  ap (λ (x : ℕ). x + placesTaken (form w)) (s .to-is)
+                  ∙ sym (start-next 0 (piecesOf form k) (index k (from / 8)) (piece form instr) stage-piece)
+                  ∙ ap (startOf 0 (piecesOf form k)) (sym next-index);
             }
+
+        -- As the code finds it, the word's form being o, which takes `taken` places.
+        pub stage-next : (o : Option ℕ) (taken : ℕ) → o ≡ form w → taken ≡ placesTaken o → Stage form k (from + 8 * size) (to + taken)
+        stage-next o taken e f = rw (f, e) further
 
         -- The instruction's jump lands.
         pub target-lands : lands k (placeOf (targetOf instr)) ≡ true

@@ -1,6 +1,7 @@
 -- What the second pass has written: the bytes of the instructions that it has passed, and behind them what the output held. Assumes nothing.
 use mathlib.Core.List.{List, _++_, append-assoc}
-use mathlib.Core.Path.{_≡_, refl, sym, ap, _∙_}
+use mathlib.Core.Option.{Option}
+use mathlib.Core.Path.{_≡_, sym, ap, _∙_}
 use Prim.Native.Nat.{ℕ, _+_, _*_, _/_, _<_, _≤_}
 use native.Mathlib.Omega.{arith}
 use lib.ListN.{length, getD, take, drop, length-append, length-drop, length-map}
@@ -32,8 +33,8 @@ behind : (done bytes out : List ℕ) (n m : ℕ) → length done ≡ n
     → take n (done ++ drop n out) ++ (bytes ++ drop (n + m) (done ++ drop n out)) ≡ (done ++ bytes) ++ drop (n + m) out
 behind done bytes out n m e =
     rw (← e) (
-      rw (take-append-seam done (drop (length done) out), drop-append-add done (drop (length done) out) m, drop-drop m (length done) out)
-      (sym (append-assoc done bytes (drop (length done + m) out)))
+    rw (take-append-seam done (drop (length done) out), drop-append-add done (drop (length done) out) m, drop-drop m (length done) out)
+    (sym (append-assoc done bytes (drop (length done + m) out)))
     )
 
 module _ (forms : Forms) (dictionary kernel : List ℕ) (k : List Instr) (h : AcceptedKernel forms dictionary kernel k) (form : Form) (out : List ℕ) where
@@ -68,16 +69,26 @@ module _ (forms : Forms) (dictionary kernel : List ℕ) (k : List Instr) (h : Ac
       stored-is news placed = rw (target-is forms dictionary kernel k h form from to s inside size w f news placed, ← (s .to-is))
 
       -- One instruction more.
-      pub holds-next : (news after : List ℕ) → Placed form k news
+      one-more : (news after : List ℕ) → Placed form k news
           → after ≡ take (8 * to) now ++ (encode (form w) (stored news) ++ drop (8 * to + 8 * placesTaken (form w)) now)
           → Holds form k out (from + 8 * size) (to + placesTaken (form w)) after
-      holds-next news after placed e =
+      one-more news after placed e =
           let next : before form k (from + 8 * size) ≡ before form k from ++ encode (form w) (stored news) =
           ap (λ (j : ℕ). layFrom k (piecesOf form k) 0 (take j (piecesOf form k))) (next-index forms dictionary kernel k h form from to s inside size w f)
           ∙ lay-next k (piecesOf form k) 0 (piecesOf form k) (index k (from / 8)) (piece form (instrOf (from / 8) size w)) (stage-piece forms dictionary kernel k h form from to s inside size w f)
           ∙ ap (λ (x : ℕ). before form k from ++ encode (form w) x) (sym (stored-is news placed)) in
           let far : 8 * (to + placesTaken (form w)) ≡ 8 * to + 8 * placesTaken (form w) = omega arith in
           rw (next, far) (
-            e ∙ ap (λ (l : List ℕ). take (8 * to) l ++ (encode (form w) (stored news) ++ drop (8 * to + 8 * placesTaken (form w)) l)) holds
-            ∙ behind (before form k from) (encode (form w) (stored news)) out (8 * to) (8 * placesTaken (form w)) before-length
+          e ∙ ap (λ (l : List ℕ). take (8 * to) l ++ (encode (form w) (stored news) ++ drop (8 * to + 8 * placesTaken (form w)) l)) holds
+          ∙ behind (before form k from) (encode (form w) (stored news)) out (8 * to) (8 * placesTaken (form w)) before-length
           )
+
+      -- As the code writes it: the word's form is o, which takes `taken` places, and v is the word with its distance looked up.
+      pub holds-next : (o : Option ℕ) (taken v : ℕ) (news after : List ℕ) → Placed form k news → o ≡ form w → taken ≡ placesTaken o
+          → v ≡ aimed (operation w) w to (to + taken) (getD news (placeOf (targetOf (instrOf (from / 8) size w))) 0)
+          → after ≡ take (8 * to) now ++ (encode o v ++ drop (8 * to + 8 * placesTaken o) now)
+          → Holds form k out (from + 8 * size) (to + taken) after
+      holds-next o taken v news after placed e f g a =
+          let t : taken ≡ placesTaken (form w) = f ∙ ap placesTaken e in
+          let x : v ≡ stored news = rw t at g in
+          rw t (one-more news after placed (rw (e, x) at a))

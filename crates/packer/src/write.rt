@@ -16,12 +16,11 @@ ghost use Rattle.paper.specs.Dictionary.{dictionaryOf};
 ghost use Rattle.paper.specs.Operation.{operation};
 ghost use Rattle.paper.specs.Jump.{targetOf};
 ghost use Rattle.paper.specs.Machine.{placeOf};
-ghost use Rattle.paper.specs.Packing.{placesTaken, encode, aimed, relay};
-ghost use Rattle.laws.specs.Names.{newEnd};
+ghost use Rattle.paper.specs.Packing.{placesTaken, encode, aimed};
 ghost use Rattle.words.specs.Shorter.{shorterIs};
 ghost use Rattle.words.specs.Words.{toWord};
 ghost use Rattle.kernel.specs.Jumps.{instrOf};
-ghost use Rattle.packer.specs.Forms.{formOf, kernelOf, Taken};
+ghost use Rattle.packer.specs.Forms.{formOf, kernelOf, Taken, resultOf, resultEnd};
 ghost use Rattle.packer.specs.Stages.{Placed, Reaches};
 
 // Stores a word in its form from byte `from` on.
@@ -48,13 +47,18 @@ fn rewrite(places: &[u64; 2049], w: Word, here: u64, size: u64, to: u64, next: u
 }
 
 // The kernel's instructions as the output's first bytes.
-pub fn write_all(packs: bool, dictionary: &[u8], kernel: &[u8], places: &[u64; 2049], out: &mut [u8])
+pub fn write_all(
+    packs: bool,
+    dictionary: &[u8],
+    kernel: &[u8],
+    places: &[u64; 2049],
+    out: &mut [u8],
+)
     requires { ⌜ Taken packs (now dictionary) (now kernel) ⌝ }
     requires { ⌜ Placed (formOf packs (dictionaryOf (now dictionary))) (kernelOf packs (now dictionary) (now kernel)) (now places) ⌝ }
-    requires { ⌜ 8 * newEnd (formOf packs (dictionaryOf (now dictionary))) (kernelOf packs (now dictionary) (now kernel)) ≤ length (now out) ⌝ }
-    ensures { λ r. ⌜ now (out .exit) ≡ relay (formOf packs (dictionaryOf (now (dictionary .entry)))) (kernelOf packs (now (dictionary .entry)) (now (kernel .entry)))
-        ++ drop (8 * newEnd (formOf packs (dictionaryOf (now (dictionary .entry)))) (kernelOf packs (now (dictionary .entry)) (now (kernel .entry))))
-        (now (out .entry)) ⌝ }
+    requires { ⌜ 8 * resultEnd packs (now dictionary) (now kernel) ≤ length (now out) ⌝ }
+    ensures { λ r. ⌜ now (out .exit) ≡ resultOf packs (now (dictionary .entry)) (now (kernel .entry))
+        ++ drop (8 * resultEnd packs (now (dictionary .entry)) (now (kernel .entry))) (now (out .entry)) ⌝ }
 {
     let mut from: usize = 0;
     let mut to: u64 = 0;

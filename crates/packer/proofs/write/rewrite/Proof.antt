@@ -1,30 +1,23 @@
+-- The new place is looked up at the old target. Assumes nothing.
+use native.Mathlib.Omega.{arith}
 use borrow.Author.Needs.{needs}
 use Rattle.packer.proofs.write.rewrite.Statement.{statement}
 use Rattle.packer.proofs.write.rewrite.Tie as tie
-use Rattle.packer.proofs.write.rewrite.Reads as reads
-use Rattle.packer.proofs.write.rewrite.Lts as lts
-use Rattle.packer.proofs.distance.aim.Reads as aim-reads
-use Rattle.packer.proofs.target.target.Reads as target-reads
 
--- src/write.rt:45:15
 target-requires : tie.Need-target-requires
 target-requires c κs = search needs
 
--- src/write.rt:46:15
 mul-new : tie.Need-mul-new
-mul-new c = search needs
+mul-new c = omega (arith, c .target .ensures, c .before .pre .4 .0)
 
--- src/write.rt:46:15
 element-copy-out-new : tie.Need-element-copy-out-new
-element-copy-out-new c = search needs
+element-copy-out-new c = rw (c .target .ensures) (c .before .pre .4 .0)
 
--- src/write.rt:47:5
 aim-requires : tie.Need-aim-requires
-aim-requires c κs = ?
+aim-requires c κs = (search needs, search needs, rw (c .before .target .ensures) (c .before .before .pre .4 .1))
 
--- src/write.rt:40:1
 returns : tie.Need-returns
-returns c = ?
+returns c = rw (c .before .before .target .ensures) at (c .aim .ensures)
 
 pub rewrite-spec : {M : Type 1} → statement M
 rewrite-spec =
