@@ -1,4 +1,4 @@
--- Each case is the definition at the word’s operation. Assumes nothing.
+-- Each case is the definition at the word's operation. Assumes nothing.
 use mathlib.Core.Path.{sym, ap, _∙_}
 use borrow.Author.Needs.{needs}
 use Rattle.paper.specs.Packing.{aimed}

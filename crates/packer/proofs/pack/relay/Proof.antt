@@ -1,4 +1,4 @@
--- The call’s cases, in the code’s order: refused, the output too short, written. Assumes nothing.
+-- The call's cases, in the code's order: refused, the output too short, written. Assumes nothing.
 use mathlib.Core.Path.{refl}
 use native.Mathlib.Omega.{arith}
 use denote.Ref.{now}
@@ -12,30 +12,34 @@ accept-requires : tie.Need-accept-requires
 accept-requires c κs = search needs
 
 returns : tie.Need-returns
-returns c = let a = c .before .before .before .before .before .before .args in
+returns c =
+    let a = c .before .before .before .before .before .before .args in
     let r = c .before .before .accept in
     as-written _ _ _ (call-refused (a .packs) (now (a .dictionary)) (now (a .kernel)) (r .result) (r .ensures) (now (a .out)) (not-true _ (c .if1 .taken)))
 
 place-all-requires : tie.Need-place-all-requires
-place-all-requires c κs = let a = c .before .before .before .before .before .before .before .args in
+place-all-requires c κs =
+    let a = c .before .before .before .before .before .before .before .args in
     let r = c .before .before .before .accept in
     let g = not-false _ (c .before .if1 .left) in
     (call-taken (a .packs) (now (a .dictionary)) (now (a .kernel)) (r .result) (r .ensures) g, refl)
 
 mul-length : tie.Need-mul-length
-mul-length c = let a = c .before .before .before .before .before .before .before .before .args in
+mul-length c =
+    let a = c .before .before .before .before .before .before .before .before .args in
     let r = c .before .before .before .before .accept in
-    let g = not-false _ (c .before .before .if1 .left) in
-    omega (arith, end-most (a .packs) (now (a .dictionary)) (now (a .kernel)) (r .result) (r .ensures) g _ (c .place-all .ensures .0))
+    omega (arith, end-most (a .packs) (now (a .dictionary)) (now (a .kernel)) (r .result) (r .ensures) (not-false _ (c .before .before .if1 .left)) _ (c .place-all .ensures .0))
 
 returns-2 : tie.Need-returns-2
-returns-2 c = let a = c .before .before .before .before .before .before .before .before .before .args in
+returns-2 c =
+    let a = c .before .before .before .before .before .before .before .before .before .args in
     let r = c .before .before .before .before .before .accept in
     let g = not-false _ (c .before .before .before .if1 .left) in
     as-written _ _ _ (call-short (a .packs) (now (a .dictionary)) (now (a .kernel)) (r .result) (r .ensures) g (now (a .out)) _ (c .before .place-all .ensures .0) (c .if2 .taken))
 
 write-all-requires : tie.Need-write-all-requires
-write-all-requires c κs = let a = c .before .before .before .before .before .before .before .before .before .before .before .args in
+write-all-requires c κs =
+    let a = c .before .before .before .before .before .before .before .before .before .before .before .args in
     let r = c .before .before .before .before .before .before .before .accept in
     let g = not-false _ (c .before .before .before .before .before .if1 .left) in
     let p = c .before .before .before .place-all .ensures in
@@ -45,7 +49,8 @@ same-length : tie.Need-same-length
 same-length c = search needs
 
 returns-3 : tie.Need-returns-3
-returns-3 c = let a = c .before .before .before .before .before .before .before .before .before .before .before .before .before .before .args in
+returns-3 c =
+    let a = c .before .before .before .before .before .before .before .before .before .before .before .before .before .before .args in
     let r = c .before .before .before .before .before .before .before .before .before .before .accept in
     let g = not-false _ (c .before .before .before .before .before .before .before .before .if1 .left) in
     as-written _ _ _ (call-written (a .packs) (now (a .dictionary)) (now (a .kernel)) (r .result) (r .ensures) g (now (a .out)) _ (c .before .before .before .before .before .before .place-all .ensures .0) _ (c .before .before .before .before .before .if2 .left) (c .before .before .write-all .ensures))

@@ -1,4 +1,4 @@
--- The loop’s invariant: where the pass stands, and the places stored so far. The measure is what is left of the kernel. Assumes nothing.
+-- The loop's invariant: where the pass stands, and the places stored so far. The measure is what is left of the kernel. Assumes nothing.
 use mathlib.Core.Path.{_≡_, _∙_}
 use Prim.Native.Nat.{_-_, _/_}
 use native.Mathlib.Omega.{arith}
@@ -38,35 +38,32 @@ places-taken-requires : tie.Need-places-taken-requires Inv-loop μ-loop
 places-taken-requires c κs = search needs
 
 add-to : tie.Need-add-to Inv-loop μ-loop
-add-to c = let k = c .before .before .before .before .before .before .before .pre .0 in
+add-to c =
+    let k = c .before .before .before .before .before .before .before .pre .0 in
     let l = c .before .before .before .before .loop in
-    let t = c .before .before .before .loop-test .taken in
-    let f = c .before .before .word-at .ensures in
     omega (arith, stage-few _ _ _ _ k _ _ _ (l .inv .1), c .places-taken .ensures .2)
 
 mul-from : tie.Need-mul-from Inv-loop μ-loop
-mul-from c = let k = c .before .before .before .before .before .before .before .pre .0 in
-    let l = c .before .before .before .before .loop in
-    let t = c .before .before .before .loop-test .taken in
+mul-from c =
     let f = c .before .before .word-at .ensures in
     omega (arith, f .few)
 
 add-from : tie.Need-add-from Inv-loop μ-loop
-add-from c = let k = c .before .before .before .before .before .before .before .pre .0 in
-    let l = c .before .before .before .before .loop in
+add-from c =
+    let k = c .before .before .before .before .before .before .before .pre .0 in
     let t = c .before .before .before .loop-test .taken in
     let f = c .before .before .word-at .ensures in
     omega (arith, t, f .few, k .sizes .kernel-most)
 
 loop-less : tie.Need-loop-less Inv-loop μ-loop
-loop-less c = let k = c .before .before .before .before .before .before .before .pre .0 in
-    let l = c .before .before .before .before .loop in
+loop-less c =
     let t = c .before .before .before .loop-test .taken in
     let f = c .before .before .word-at .ensures in
     omega (arith, t, f .some)
 
 loop-again : tie.Need-loop-again Inv-loop μ-loop
-loop-again c = let k = c .before .before .before .before .before .before .before .pre .0 in
+loop-again c =
+    let k = c .before .before .before .before .before .before .before .pre .0 in
     let l = c .before .before .before .before .loop in
     let t = c .before .before .before .loop-test .taken in
     let f = c .before .before .word-at .ensures in (
@@ -82,7 +79,8 @@ element-write-places-2 : tie.Need-element-write-places-2 Inv-loop μ-loop
 element-write-places-2 c = let k = c .before .before .before .before .pre .0 in omega (arith, stage-inside _ _ _ _ k _ _ _ (c .before .loop .inv .1), k .sizes .kernel-most)
 
 returns : tie.Need-returns Inv-loop μ-loop
-returns c = let k = c .before .before .before .before .pre .0 in
+returns c =
+    let k = c .before .before .before .before .pre .0 in
     let l = c .before .loop in (
       end-to _ _ _ _ k _ _ _ (l .inv .1) (c .loop-test .left),
       placed-end _ _ _ _ k _ _ _ (l .inv .1) (l .places) (l .inv .0) (l .inv .2) (c .loop-test .left),

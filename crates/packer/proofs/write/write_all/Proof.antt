@@ -1,4 +1,4 @@
--- The loop’s invariant: where the pass stands, and what it has written. The measure is what is left of the kernel. Assumes nothing.
+-- The loop's invariant: where the pass stands, and what it has written. The measure is what is left of the kernel. Assumes nothing.
 use mathlib.Core.Path.{refl}
 use Prim.Native.Nat.{_-_}
 use native.Mathlib.Omega.{arith}
@@ -32,14 +32,14 @@ places-taken-requires : tie.Need-places-taken-requires Inv-loop μ-loop
 places-taken-requires c κs = search needs
 
 add-next : tie.Need-add-next Inv-loop μ-loop
-add-next c = let k = c .before .before .before .before .before .before .before .before .pre .0 in
+add-next c =
+    let k = c .before .before .before .before .before .before .before .before .pre .0 in
     let l = c .before .before .before .before .loop in
-    let t = c .before .before .before .loop-test .taken in
-    let f = c .before .before .word-at .ensures in
     omega (arith, stage-few _ _ _ _ k _ _ _ (l .inv .0), c .places-taken .ensures .2)
 
 rewrite-requires : tie.Need-rewrite-requires Inv-loop μ-loop
-rewrite-requires c κs = let k = c .before .before .before .before .before .before .before .before .pre .0 in
+rewrite-requires c κs =
+    let k = c .before .before .before .before .before .before .before .before .pre .0 in
     let l = c .before .before .before .before .loop in
     let t = c .before .before .before .loop-test .taken in
     let f = c .before .before .word-at .ensures in
@@ -52,14 +52,14 @@ rewrite-requires c κs = let k = c .before .before .before .before .before .befo
     )
 
 mul-at : tie.Need-mul-at Inv-loop μ-loop
-mul-at c = let k = c .before .before .before .before .before .before .before .before .before .pre .0 in
+mul-at c =
+    let k = c .before .before .before .before .before .before .before .before .before .pre .0 in
     let l = c .before .before .before .before .before .loop in
-    let t = c .before .before .before .before .loop-test .taken in
-    let f = c .before .before .before .word-at .ensures in
     omega (arith, stage-few _ _ _ _ k _ _ _ (l .inv .0))
 
 write-word-requires : tie.Need-write-word-requires Inv-loop μ-loop
-write-word-requires c κs = let k = c .before .before .before .before .before .before .before .before .before .before .pre .0 in
+write-word-requires c κs =
+    let k = c .before .before .before .before .before .before .before .before .before .before .pre .0 in
     let l = c .before .before .before .before .before .before .loop in
     let t = c .before .before .before .before .before .loop-test .taken in
     let f = c .before .before .before .before .word-at .ensures in
@@ -69,28 +69,26 @@ write-word-requires c κs = let k = c .before .before .before .before .before .b
     omega (arith, room, same, c .before .before .before .before .before .before .before .before .before .before .pre .1 .1)
 
 mul-from : tie.Need-mul-from Inv-loop μ-loop
-mul-from c = let k = c .before .before .before .before .before .before .before .before .before .before .before .before .before .pre .0 in
-    let l = c .before .before .before .before .before .before .before .before .before .loop in
-    let t = c .before .before .before .before .before .before .before .before .loop-test .taken in
+mul-from c =
     let f = c .before .before .before .before .before .before .before .word-at .ensures in
     omega (arith, f .few)
 
 add-from : tie.Need-add-from Inv-loop μ-loop
-add-from c = let k = c .before .before .before .before .before .before .before .before .before .before .before .before .before .pre .0 in
-    let l = c .before .before .before .before .before .before .before .before .before .loop in
+add-from c =
+    let k = c .before .before .before .before .before .before .before .before .before .before .before .before .before .pre .0 in
     let t = c .before .before .before .before .before .before .before .before .loop-test .taken in
     let f = c .before .before .before .before .before .before .before .word-at .ensures in
     omega (arith, t, f .few, k .sizes .kernel-most)
 
 loop-less : tie.Need-loop-less Inv-loop μ-loop
-loop-less c = let k = c .before .before .before .before .before .before .before .before .before .before .before .before .before .pre .0 in
-    let l = c .before .before .before .before .before .before .before .before .before .loop in
+loop-less c =
     let t = c .before .before .before .before .before .before .before .before .loop-test .taken in
     let f = c .before .before .before .before .before .before .before .word-at .ensures in
     omega (arith, t, f .some)
 
 loop-again : tie.Need-loop-again Inv-loop μ-loop
-loop-again c = let k = c .before .before .before .before .before .before .before .before .before .before .before .before .before .pre .0 in
+loop-again c =
+    let k = c .before .before .before .before .before .before .before .before .before .before .before .before .before .pre .0 in
     let l = c .before .before .before .before .before .before .before .before .before .loop in
     let t = c .before .before .before .before .before .before .before .before .loop-test .taken in
     let f = c .before .before .before .before .before .before .before .word-at .ensures in
@@ -101,12 +99,14 @@ loop-again c = let k = c .before .before .before .before .before .before .before
     )
 
 same-length : tie.Need-same-length Inv-loop μ-loop
-same-length c = let k = c .before .before .before .before .before .pre .0 in
+same-length c =
+    let k = c .before .before .before .before .before .pre .0 in
     let l = c .before .loop in
     holds-length _ _ _ _ k _ _ _ _ (l .inv .0) (l .out) (l .inv .1) (omega (arith, stage-room _ _ _ _ k _ _ _ (l .inv .0), c .before .before .before .before .before .pre .1 .1))
 
 returns : tie.Need-returns Inv-loop μ-loop
-returns c = let k = c .before .before .before .before .before .pre .0 in
+returns c =
+    let k = c .before .before .before .before .before .pre .0 in
     let l = c .before .loop in
     holds-end _ _ _ _ k _ _ _ _ (l .inv .0) (l .out) (l .inv .1) (c .loop-test .left)
 

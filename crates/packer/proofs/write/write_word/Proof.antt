@@ -13,7 +13,8 @@ enum-known-a : tie.Need-enum-known-a
 enum-known-a c = search needs
 
 write8-requires : tie.Need-write8-requires
-write8-requires c κs = let e = c .before .before .a .given .1 in
+write8-requires c κs =
+    let e = c .before .before .a .given .1 in
     let p = ap (λ (x : Shorter). placesTaken (shorterIs x)) e in
     omega (arith, p, c .before .before .before .before .before .pre)
 
@@ -21,7 +22,8 @@ enum-told : tie.Need-enum-told
 enum-told c = search needs
 
 write16-requires : tie.Need-write16-requires
-write16-requires c κs = let e = c .before .enum-told .given .1 in
+write16-requires c κs =
+    let e = c .before .enum-told .given .1 in
     let p = ap (λ (x : Shorter). placesTaken (shorterIs x)) e in
     omega (arith, p, c .before .before .before .before .pre)
 
@@ -29,7 +31,8 @@ same-length : tie.Need-same-length
 same-length c = search needs
 
 returns : tie.Need-returns
-returns c = let e = c .before .before .before .before .before .a .given .1 in
+returns c =
+    let e = c .before .before .before .before .before .a .given .1 in
     let p = ap (λ (x : Shorter). placesTaken (shorterIs x)) e in
     rw e (c .before .before .write8 .ensures ∙ inside-put 8 _ _ _ (omega (arith, p, c .before .before .before .before .before .before .before .before .pre)))
 
@@ -37,7 +40,8 @@ same-length-2 : tie.Need-same-length-2
 same-length-2 c = search needs
 
 returns-2 : tie.Need-returns-2
-returns-2 c = let e = c .before .before .before .before .enum-told .given .1 in
+returns-2 c =
+    let e = c .before .before .before .before .enum-told .given .1 in
     let p = ap (λ (x : Shorter). placesTaken (shorterIs x)) e in
     rw e (c .before .before .write16 .ensures ∙ inside-put 16 _ _ _ (omega (arith, p, c .before .before .before .before .before .before .before .pre)))
 
