@@ -18,10 +18,10 @@ pub fn form(packs: bool, dictionary: &[u8], w: Word) -> Shorter
     requires { ⌜ length (now dictionary) ≡ 512 ⌝ }
     ensures { λ r. ⌜ shorterIs r ≡ formOf packs (dictionaryOf (now (dictionary .entry))) (toWord w) ⌝ }
 {
-    if packs {
-        return shorten(dictionary, w);
+    if !packs {
+        return Shorter::NoShort;
     }
-    Shorter::NoShort
+    shorten(dictionary, w)
 }
 
 // The places that a word takes in its form.

@@ -35,7 +35,7 @@ returns-2 c =
     let a = c .before .before .before .before .before .before .before .before .before .args in
     let r = c .before .before .before .before .before .accept in
     let g = not-false _ (c .before .before .before .if1 .left) in
-    as-written _ _ _ (call-short (a .packs) (now (a .dictionary)) (now (a .kernel)) (r .result) (r .ensures) g (now (a .out)) _ (c .before .place-all .ensures .0) (c .if2 .taken))
+    as-written _ _ _ (call-short (a .packs) (now (a .dictionary)) (now (a .kernel)) (r .result) (r .ensures) g (now (a .out)) _ (c .before .place-all .ensures .0) (omega (arith, c .if2 .taken)))
 
 write-all-requires : tie.Need-write-all-requires
 write-all-requires c κs =
@@ -43,7 +43,7 @@ write-all-requires c κs =
     let r = c .before .before .before .before .before .before .before .accept in
     let g = not-false _ (c .before .before .before .before .before .if1 .left) in
     let p = c .before .before .before .place-all .ensures in
-    (call-taken (a .packs) (now (a .dictionary)) (now (a .kernel)) (r .result) (r .ensures) g, (p .1, call-room (a .packs) (now (a .dictionary)) (now (a .kernel)) (r .result) (r .ensures) g (now (a .out)) _ (p .0) (c .before .before .if2 .left)))
+    (call-taken (a .packs) (now (a .dictionary)) (now (a .kernel)) (r .result) (r .ensures) g, (p .1, call-room (a .packs) (now (a .dictionary)) (now (a .kernel)) (r .result) (r .ensures) g (now (a .out)) _ (p .0) (omega (arith, c .before .before .if2 .left))))
 
 same-length : tie.Need-same-length
 same-length c = search needs
@@ -53,7 +53,7 @@ returns-3 c =
     let a = c .before .before .before .before .before .before .before .before .before .before .before .before .before .before .args in
     let r = c .before .before .before .before .before .before .before .before .before .before .accept in
     let g = not-false _ (c .before .before .before .before .before .before .before .before .if1 .left) in
-    as-written _ _ _ (call-written (a .packs) (now (a .dictionary)) (now (a .kernel)) (r .result) (r .ensures) g (now (a .out)) _ (c .before .before .before .before .before .before .place-all .ensures .0) _ (c .before .before .before .before .before .if2 .left) (c .before .before .write-all .ensures))
+    as-written _ _ _ (call-written (a .packs) (now (a .dictionary)) (now (a .kernel)) (r .result) (r .ensures) g (now (a .out)) _ (c .before .before .before .before .before .before .place-all .ensures .0) _ (omega (arith, c .before .before .before .before .before .if2 .left)) (c .before .before .write-all .ensures))
 
 pub relay-spec : {M : Type 1} → statement M
 relay-spec =
