@@ -24,8 +24,8 @@ use Rattle.machine.specs.declared.state.State.{State}
 use Rattle.machine.specs.States.{stateIs, SaneState, sixteen-channels}
 use Rattle.run.specs.declared.calls.Ran.{Ran}
 use Rattle.run.specs.declared.calls.Ran.the-variants.{Made, Refused}
-use Rattle.run.specs.declared.calls.Opening.{Opening}
-use Rattle.run.specs.declared.calls.Opening.the-variants.{Fine, Barred}
+use Rattle.run.specs.declared.calls.Admission.{Admission}
+use Rattle.run.specs.declared.calls.Admission.the-variants.{Fine, Barred}
 use Rattle.run.specs.Landing.{legalBy, legal-same}
 use Rattle.run.specs.declared.running.Outcome.{Outcome}
 use Rattle.run.specs.Running.{instructions, Running, running-end, running-on}
@@ -75,11 +75,11 @@ module _ (dictionary kernel registers bytes : List ℕ) where
 -- ---- the kernel's refusals, and 15
 
 -- What is said of a kernel and a state: the refusal that any call on them answers; or that the kernel is accepted and the state legal.
-abbrev pub Opens : List ℕ → List ℕ → List ℕ → List ℕ → Opening → Type 0
-Opens dictionary kernel registers bytes (Barred number offset) =
+abbrev pub Admits : List ℕ → List ℕ → List ℕ → List ℕ → Admission → Type 0
+Admits dictionary kernel registers bytes (Barred number offset) =
     (go : List Instr → paper.State → Changed)
     → onState registers bytes go (judgedKernel longAndShort dictionary kernel) ≡ unchanged (refusal number offset) registers bytes
-Opens dictionary kernel registers bytes Fine =
+Admits dictionary kernel registers bytes Fine =
     (judgedKernel longAndShort dictionary kernel ≡ good (instructions dictionary kernel))
     × (accepted longAndShort dictionary kernel ≡ good (instructions dictionary kernel))
     × (stateLegal (instructions dictionary kernel) registers bytes ≡ true)
@@ -89,8 +89,8 @@ module _ (dictionary kernel bytes : List ℕ) (right : sized dictionary kernel �
   unfolding accepted
   judged-is = rw right
 
-  pub opens-refused : scan .good ≡ false → (registers : List ℕ) → Opens dictionary kernel registers bytes (Barred (scan .number) (scan .offset))
-  opens-refused g registers go =
+  pub admits-refused : scan .good ≡ false → (registers : List ℕ) → Admits dictionary kernel registers bytes (Barred (scan .number) (scan .offset))
+  admits-refused g registers go =
       ap (onState registers bytes go) (judged-is ∙ says-refused (accepted longAndShort dictionary kernel) scan says g)
 
   module _ (g : scan .good ≡ true) where
@@ -107,11 +107,11 @@ module _ (dictionary kernel bytes : List ℕ) (right : sized dictionary kernel �
     legal-is : (registers : List ℕ) → legalBy (marked (scan .marks)) bytes ≡ stateLegal (instructions dictionary kernel) registers bytes
     legal-is registers = legal-same (marked (scan .marks)) (instructions dictionary kernel) marks-land registers bytes
 
-    pub opens-illegal : legalBy (marked (scan .marks)) bytes ≡ false → (registers : List ℕ) → Opens dictionary kernel registers bytes (Barred 15 0)
-    opens-illegal l registers go = rw (judged-is ∙ is-good, sym (legal-is registers) ∙ l)
+    pub admits-illegal : legalBy (marked (scan .marks)) bytes ≡ false → (registers : List ℕ) → Admits dictionary kernel registers bytes (Barred 15 0)
+    admits-illegal l registers go = rw (judged-is ∙ is-good, sym (legal-is registers) ∙ l)
 
-    pub opens-fine : legalBy (marked (scan .marks)) bytes ≡ true → (registers : List ℕ) → Opens dictionary kernel registers bytes Fine
-    opens-fine l registers = (judged-is ∙ is-good, is-good, sym (legal-is registers) ∙ l)
+    pub admits-fine : legalBy (marked (scan .marks)) bytes ≡ true → (registers : List ℕ) → Admits dictionary kernel registers bytes Fine
+    admits-fine l registers = (judged-is ∙ is-good, is-good, sym (legal-is registers) ∙ l)
 
 -- ---- the calls, in the code's order
 
@@ -130,11 +130,11 @@ module _ (dictionary kernel registers bytes : List ℕ) where
     unfolding runCall
     run-limit budget h = rw (sizes, lt-ltb _ _ h) (refl, refl, refl)
 
-    module _ (o : Opening) (opens : Opens dictionary kernel registers bytes o) where
+    module _ (o : Admission) (admits : Admits dictionary kernel registers bytes o) where
       module _ (number offset : ℕ) (e : o ≡ Barred number offset) where
         barred : (go : List Instr → paper.State → Changed)
             → onState registers bytes go (judgedKernel longAndShort dictionary kernel) ≡ unchanged (refusal number offset) registers bytes
-        barred = subst (λ (o : Opening). Opens dictionary kernel registers bytes o) e opens
+        barred = subst (λ (o : Admission). Admits dictionary kernel registers bytes o) e admits
 
         pub step-barred : Leaves (Refused number offset) registers bytes (stepCall dictionary kernel registers bytes)
         unfolding stepCall
@@ -148,8 +148,8 @@ module _ (dictionary kernel registers bytes : List ℕ) where
         abbrev k : List Instr
         k = instructions dictionary kernel
 
-        fine : Opens dictionary kernel registers bytes Fine
-        fine = subst (λ (o : Opening). Opens dictionary kernel registers bytes o) e opens
+        fine : Admits dictionary kernel registers bytes Fine
+        fine = subst (λ (o : Admission). Admits dictionary kernel registers bytes o) e admits
 
         ready : Ready dictionary kernel registers bytes k
         ready = record { sizes = sizes; judged = fine .0; legal = fine .2 }

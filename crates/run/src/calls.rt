@@ -14,7 +14,7 @@ ghost use Prim.Native.Nat.{ℕ};
 ghost use lib.ListN.{length};
 ghost use Rattle.paper.specs.Limits.{stateLength};
 ghost use Rattle.paper.specs.Calls.{sized, allSized, stepCall, runCall};
-ghost use Rattle.run.specs.Answers.{ranIs, Opens};
+ghost use Rattle.run.specs.Answers.{ranIs, Admits};
 
 // A verdict and how many steps were made; or a refusal's number and the byte offset of the instruction.
 pub enum Ran {
@@ -23,7 +23,7 @@ pub enum Ran {
 }
 
 // What is said of a kernel and a state before a step is made.
-pub enum Opening {
+pub enum Admission {
     Fine,
     Barred(u8, u64),
 }
@@ -42,19 +42,19 @@ fn are_sized(dictionary: &[u8], kernel: &[u8], registers: &[u8], state: &[u8]) -
 }
 
 // The kernel's own refusals, then 15.
-fn open(dictionary: &[u8], kernel: &[u8], state: &[u8]) -> Opening
+fn admit(dictionary: &[u8], kernel: &[u8], state: &[u8]) -> Admission
     requires { ⌜ (sized (now dictionary) (now kernel) ≡ true) × (length (now state) ≡ stateLength) ⌝ }
-    ensures { λ r. ⌜ ((registers : List ℕ) → Opens (now (dictionary .entry)) (now (kernel .entry)) registers (now (state .entry)) r) ⌝ }
+    ensures { λ r. ⌜ ((registers : List ℕ) → Admits (now (dictionary .entry)) (now (kernel .entry)) registers (now (state .entry)) r) ⌝ }
 {
     let scan = accept(false, dictionary, kernel);
     if !scan.good {
-        return Opening::Barred(scan.number, scan.offset);
+        return Admission::Barred(scan.number, scan.offset);
     }
     let marks = scan.marks;
     if !is_legal(&marks, state) {
-        return Opening::Barred(15, 0);
+        return Admission::Barred(15, 0);
     }
-    Opening::Fine
+    Admission::Fine
 }
 
 // One step from the lent state; 20 at the end.
@@ -66,10 +66,10 @@ pub fn step(dictionary: &[u8], kernel: &[u8], registers: &mut [u8], state: &mut 
     if !are_sized(dictionary, kernel, registers, state) {
         return Ran::Refused(1, 0);
     }
-    let o = open(dictionary, kernel, state);
+    let o = admit(dictionary, kernel, state);
     match o {
-        Opening::Barred(number, offset) => Ran::Refused(number, offset),
-        Opening::Fine => {
+        Admission::Barred(number, offset) => Ran::Refused(number, offset),
+        Admission::Fine => {
             let s = read_state(state);
             if at_end(kernel, s) {
                 return Ran::Made(20, 0);
@@ -82,7 +82,13 @@ pub fn step(dictionary: &[u8], kernel: &[u8], registers: &mut [u8], state: &mut 
 }
 
 // Steps from the lent state until the end, 20, or until the budget is spent, 21. 16 for a budget over the limit.
-pub fn run(dictionary: &[u8], kernel: &[u8], budget: u64, registers: &mut [u8], state: &mut [u8]) -> Ran
+pub fn run(
+    dictionary: &[u8],
+    kernel: &[u8],
+    budget: u64,
+    registers: &mut [u8],
+    state: &mut [u8],
+) -> Ran
     ensures { λ r. ⌜ (ranIs r ≡ runCall (now (dictionary .entry)) (now (kernel .entry)) budget (now (registers .entry)) (now (state .entry)) .answer)
         × (now (registers .exit) ≡ runCall (now (dictionary .entry)) (now (kernel .entry)) budget (now (registers .entry)) (now (state .entry)) .registers)
         × (now (state .exit) ≡ runCall (now (dictionary .entry)) (now (kernel .entry)) budget (now (registers .entry)) (now (state .entry)) .state) ⌝ }
@@ -93,10 +99,10 @@ pub fn run(dictionary: &[u8], kernel: &[u8], budget: u64, registers: &mut [u8], 
     if 1000000 < budget {
         return Ran::Refused(16, 0);
     }
-    let o = open(dictionary, kernel, state);
+    let o = admit(dictionary, kernel, state);
     match o {
-        Opening::Barred(number, offset) => Ran::Refused(number, offset),
-        Opening::Fine => {
+        Admission::Barred(number, offset) => Ran::Refused(number, offset),
+        Admission::Fine => {
             let s = read_state(state);
             let out = run_from(dictionary, kernel, budget, registers, s);
             let after = out.state;

@@ -43,7 +43,13 @@ pub fn advance(dictionary: &[u8], kernel: &[u8], registers: &mut [u8], s: State)
 }
 
 // Steps until the end or until the budget is spent.
-pub fn run_from(dictionary: &[u8], kernel: &[u8], budget: u64, registers: &mut [u8], start: State) -> Outcome
+pub fn run_from(
+    dictionary: &[u8],
+    kernel: &[u8],
+    budget: u64,
+    registers: &mut [u8],
+    start: State,
+) -> Outcome
     requires { ⌜ Running (now dictionary) (now kernel) (now registers) start ⌝ }
     ensures { λ r. ⌜ outcomeIs (now (registers .exit)) r
         ≡ run (instructions (now (dictionary .entry)) (now (kernel .entry))) budget (stateIs (now (registers .entry)) start) ⌝ }

@@ -33,9 +33,9 @@ rests-requires c κs = search needs
 
 returns : tie.Need-returns Inv-loop μ-loop
 returns c =
-    let l = c .before .before .before .before .loop in
+    let l = c .before .before .before .before .before .loop in
     let e = rw (c .before .before .bit .ensures) at (c .before .rests .ensures) in
-    sym (l .inv .1 ∙ waits-out _ _ _ (c .before .before .before .loop-test .taken) (sym e ∙ not-true _ (c .if1 .taken)))
+    sym (l .inv .1 ∙ waits-out _ _ _ (c .before .before .before .before .loop-test .taken) (sym e ∙ not-true _ (c .if1 .taken)))
 
 add-n : tie.Need-add-n Inv-loop μ-loop
 add-n c = search needs
@@ -45,9 +45,9 @@ loop-less c = search needs
 
 loop-again : tie.Need-loop-again Inv-loop μ-loop
 loop-again c =
-    let l = c .before .before .before .before .loop in
+    let l = c .before .before .before .before .before .loop in
     let e = rw (c .before .before .bit .ensures) at (c .before .rests .ensures) in
-    (omega (arith, c .before .before .before .loop-test .taken), l .inv .1 ∙ waits-on _ _ _ (c .before .before .before .loop-test .taken) (sym e ∙ not-false _ (c .if1 .left)))
+    (omega (arith, c .before .before .before .before .loop-test .taken), l .inv .1 ∙ waits-on _ _ _ (c .before .before .before .before .loop-test .taken) (sym e ∙ not-false _ (c .if1 .left)))
 
 returns-2 : tie.Need-returns-2 Inv-loop μ-loop
 returns-2 c = sym (c .before .loop .inv .1 ∙ waits-none _ _ _ (c .loop-test .left))
