@@ -39,13 +39,11 @@ ranIs (Refused number offset) = refusal number offset
 abbrev pub Leaves : Ran → List ℕ → List ℕ → Changed → Type 0
 Leaves r registers bytes x = (ranIs r ≡ x .answer) × (registers ≡ x .registers) × (bytes ≡ x .state)
 
-pub leaves : (r : Ran) (registers bytes : List ℕ) (x : Changed) → x ≡ record { answer = ranIs r; registers = registers; state = bytes }
-    → Leaves r registers bytes x
-leaves r registers bytes x e = (sym (ap (λ (x : Changed). x .answer) e), sym (ap (λ (x : Changed). x .registers) e), sym (ap (λ (x : Changed). x .state) e))
-
 -- ---- 1
 
+-- All that is lent has its size.
 pub record Sizes (dictionary kernel registers bytes : List ℕ) : Type 0 where
+  pub all : allSized dictionary kernel registers bytes ≡ true
   pub right : sized dictionary kernel ≡ true
   pub registers-are : length registers ≡ registerBytes
   pub state-is : length bytes ≡ stateLength
@@ -54,35 +52,45 @@ and-parts : (a b : Bool) → (a && b) ≡ true → (a ≡ true) × (b ≡ true)
 and-parts true b e = (refl, e)
 and-parts false b e = absurd (true≢false (sym e))
 
-pub sizes-of : (dictionary kernel registers bytes : List ℕ) → allSized dictionary kernel registers bytes ≡ true → Sizes dictionary kernel registers bytes
-sizes-of dictionary kernel registers bytes e =
-    let p = and-parts (sized dictionary kernel) (eqb (length registers) registerBytes && eqb (length bytes) stateLength) e in
-    let q = and-parts (eqb (length registers) registerBytes) (eqb (length bytes) stateLength) (p .1) in
-    record { right = p .0; registers-are = eqb-true _ _ (q .0); state-is = eqb-true _ _ (q .1) }
-
 module _ (dictionary kernel registers bytes : List ℕ) where
+  sizes-of : allSized dictionary kernel registers bytes ≡ true → Sizes dictionary kernel registers bytes
+  sizes-of e =
+      let p = and-parts (sized dictionary kernel) (eqb (length registers) registerBytes && eqb (length bytes) stateLength) e in
+      let q = and-parts (eqb (length registers) registerBytes) (eqb (length bytes) stateLength) (p .1) in
+      record { all = e; right = p .0; registers-are = eqb-true _ _ (q .0); state-is = eqb-true _ _ (q .1) }
+
+  -- What the code says of the sizes.
+  abbrev pub Told : Bool → Type 0
+  Told t = (t ≡ allSized dictionary kernel registers bytes) × (t ≡ true → Sizes dictionary kernel registers bytes)
+
+  told : (t : Bool) → allSized dictionary kernel registers bytes ≡ t → Told t
+  told t e = (sym e, λ h. sizes-of (e ∙ h))
+
   -- As the code tests them.
-  pub sized-kernel : sized dictionary kernel ≡ false → allSized dictionary kernel registers bytes ≡ false
-  sized-kernel h = rw h
+  pub told-kernel : sized dictionary kernel ≡ false → Told false
+  told-kernel h = told false (rw h)
 
   module _ (h : sized dictionary kernel ≡ true) where
-    pub sized-registers : (length registers ≡ registerBytes → ⊥) → allSized dictionary kernel registers bytes ≡ false
-    sized-registers n = rw (h, ne-eqb _ _ n)
+    pub told-registers : (length registers ≡ registerBytes → ⊥) → Told false
+    told-registers n = told false (rw (h, ne-eqb _ _ n))
 
-    pub sized-state : length registers ≡ registerBytes → allSized dictionary kernel registers bytes ≡ eqb (length bytes) stateLength
-    sized-state e = rw (h, eq-eqb _ _ e)
+    pub told-state : length registers ≡ registerBytes → Told (eqb (length bytes) stateLength)
+    told-state e = told (eqb (length bytes) stateLength) (rw (h, eq-eqb _ _ e))
 
 -- ---- the kernel's refusals, and 15
 
--- What is said of a kernel and a state: the refusal that any call on them answers; or that the kernel is accepted and the state legal.
+-- The kernel is accepted, and the state is legal in it.
+pub record Lawful (dictionary kernel registers bytes : List ℕ) : Type 0 where
+  pub accepts : accepted longAndShort dictionary kernel ≡ good (instructions dictionary kernel)
+  pub judged : judgedKernel longAndShort dictionary kernel ≡ good (instructions dictionary kernel)
+  pub legal : stateLegal (instructions dictionary kernel) registers bytes ≡ true
+
+-- What is said of a kernel and a state: the refusal that any call on them answers, or that they are lawful.
 abbrev pub Admits : List ℕ → List ℕ → List ℕ → List ℕ → Admission → Type 0
 Admits dictionary kernel registers bytes (Barred number offset) =
     (go : List Instr → paper.State → Changed)
     → onState registers bytes go (judgedKernel longAndShort dictionary kernel) ≡ unchanged (refusal number offset) registers bytes
-Admits dictionary kernel registers bytes Fine =
-    (judgedKernel longAndShort dictionary kernel ≡ good (instructions dictionary kernel))
-    × (accepted longAndShort dictionary kernel ≡ good (instructions dictionary kernel))
-    × (stateLegal (instructions dictionary kernel) registers bytes ≡ true)
+Admits dictionary kernel registers bytes Fine = Lawful dictionary kernel registers bytes
 
 module _ (dictionary kernel bytes : List ℕ) (right : sized dictionary kernel ≡ true) (scan : Scan) (says : Says (accepted longAndShort dictionary kernel) scan) where
   judged-is : judgedKernel longAndShort dictionary kernel ≡ accepted longAndShort dictionary kernel
@@ -111,7 +119,7 @@ module _ (dictionary kernel bytes : List ℕ) (right : sized dictionary kernel �
     admits-illegal l registers go = rw (judged-is ∙ is-good, sym (legal-is registers) ∙ l)
 
     pub admits-fine : legalBy (marked (scan .marks)) bytes ≡ true → (registers : List ℕ) → Admits dictionary kernel registers bytes Fine
-    admits-fine l registers = (judged-is ∙ is-good, is-good, sym (legal-is registers) ∙ l)
+    admits-fine l registers = record { accepts = is-good; judged = judged-is ∙ is-good; legal = sym (legal-is registers) ∙ l }
 
 -- ---- the calls, in the code's order
 
@@ -125,78 +133,79 @@ module _ (dictionary kernel registers bytes : List ℕ) where
   unfolding runCall
   run-size budget h = rw h (refl, refl, refl)
 
-  module _ (sizes : allSized dictionary kernel registers bytes ≡ true) where
-    pub run-limit : (budget : ℕ) → budgetLimit < budget → Leaves (Refused 16 0) registers bytes (runCall dictionary kernel budget registers bytes)
-    unfolding runCall
-    run-limit budget h = rw (sizes, lt-ltb _ _ h) (refl, refl, refl)
+module _ (dictionary kernel registers bytes : List ℕ) (sizes : Sizes dictionary kernel registers bytes) where
+  pub run-limit : (budget : ℕ) → budgetLimit < budget → Leaves (Refused 16 0) registers bytes (runCall dictionary kernel budget registers bytes)
+  unfolding runCall
+  run-limit budget h = rw (sizes .all, lt-ltb _ _ h) (refl, refl, refl)
 
-    module _ (o : Admission) (admits : Admits dictionary kernel registers bytes o) where
-      module _ (number offset : ℕ) (e : o ≡ Barred number offset) where
-        barred : (go : List Instr → paper.State → Changed)
-            → onState registers bytes go (judgedKernel longAndShort dictionary kernel) ≡ unchanged (refusal number offset) registers bytes
-        barred = subst (λ (o : Admission). Admits dictionary kernel registers bytes o) e admits
+  module _ (o : Admission) (admits : Admits dictionary kernel registers bytes o) where
+    module _ (number offset : ℕ) (e : o ≡ Barred number offset) where
+      barred : (go : List Instr → paper.State → Changed)
+          → onState registers bytes go (judgedKernel longAndShort dictionary kernel) ≡ unchanged (refusal number offset) registers bytes
+      barred = subst (λ (o : Admission). Admits dictionary kernel registers bytes o) e admits
 
-        pub step-barred : Leaves (Refused number offset) registers bytes (stepCall dictionary kernel registers bytes)
-        unfolding stepCall
-        step-barred = rw (sizes, barred (λ k s. steppedAs (stops k s) registers bytes (step k s))) (refl, refl, refl)
+      pub step-barred : Leaves (Refused number offset) registers bytes (stepCall dictionary kernel registers bytes)
+      unfolding stepCall
+      step-barred = rw (sizes .all, barred (λ k s. steppedAs (stops k s) registers bytes (step k s))) (refl, refl, refl)
 
-        pub run-barred : (budget : ℕ) → budget ≤ budgetLimit → Leaves (Refused number offset) registers bytes (runCall dictionary kernel budget registers bytes)
-        unfolding runCall
-        run-barred budget h = rw (sizes, le-ltb _ _ h, barred (λ k s. ranAs (run k budget s))) (refl, refl, refl)
+      pub run-barred : (budget : ℕ) → budget ≤ budgetLimit → Leaves (Refused number offset) registers bytes (runCall dictionary kernel budget registers bytes)
+      unfolding runCall
+      run-barred budget h = rw (sizes .all, le-ltb _ _ h, barred (λ k s. ranAs (run k budget s))) (refl, refl, refl)
 
-      module _ (e : o ≡ Fine) where
-        abbrev k : List Instr
-        k = instructions dictionary kernel
+    pub lawful : o ≡ Fine → Lawful dictionary kernel registers bytes
+    lawful e = subst (λ (o : Admission). Admits dictionary kernel registers bytes o) e admits
 
-        fine : Admits dictionary kernel registers bytes Fine
-        fine = subst (λ (o : Admission). Admits dictionary kernel registers bytes o) e admits
+-- Of a state s that was read from the bytes.
+module _ (dictionary kernel registers bytes : List ℕ) (sizes : Sizes dictionary kernel registers bytes) (law : Lawful dictionary kernel registers bytes)
+    (s : State) (read : stateIs registers s ≡ stateOf registers bytes) (sane : allThree bytes 16 ≡ true → SaneState s) where
+  abbrev k : List Instr
+  k = instructions dictionary kernel
 
-        ready : Ready dictionary kernel registers bytes k
-        ready = record { sizes = sizes; judged = fine .0; legal = fine .2 }
+  ready : Ready dictionary kernel registers bytes k
+  ready = record { sizes = sizes .all; judged = law .judged; legal = law .legal }
 
-        legal-parts : (allThree bytes 16 ≡ true) × (stateLands k (stateOf registers bytes) ≡ true)
-        unfolding stateLegal
-        legal-parts = and-parts (allThree bytes 16) (stateLands k (stateOf registers bytes)) (fine .2)
+  legal-parts : (allThree bytes 16 ≡ true) × (stateLands k (stateOf registers bytes) ≡ true)
+  unfolding stateLegal
+  legal-parts = and-parts (allThree bytes 16) (stateLands k (stateOf registers bytes)) (law .legal)
 
-        module _ (s : State) (read : stateIs registers s ≡ stateOf registers bytes) (sane : allThree bytes 16 ≡ true → SaneState s) where
-          -- The state that is read is one from which steps are made.
-          pub opened : Running dictionary kernel registers s
-          opened =
-              let a = accepted-kernel longAndShort dictionary kernel k (fine .1) in
-              let h = sane (legal-parts .0) in
-              record {
-                accepts = a;
-                lasts =
-                    record {
-                      holding =
-                          record {
-                            store = record { bytes = sizes-of dictionary kernel registers bytes sizes .registers-are; flag0 = h .flag0; flag1 = h .flag1 };
-                            count = sixteen-channels (s .channels) (h .channels);
-                          };
-                      naming = state-names k (a .sound) (stateIs registers s) (ap (stateLands k) read ∙ legal-parts .1);
-                    };
-                sane = h;
-              }
+  -- Steps are made from it.
+  pub opened : Running dictionary kernel registers s
+  opened =
+      let a = accepted-kernel longAndShort dictionary kernel k (law .accepts) in
+      let h = sane (legal-parts .0) in
+      record {
+        accepts = a;
+        lasts =
+            record {
+              holding =
+                  record {
+                    store = record { bytes = sizes .registers-are; flag0 = h .flag0; flag1 = h .flag1 };
+                    count = sixteen-channels (s .channels) (h .channels);
+                  };
+              naming = state-names k (a .sound) (stateIs registers s) (ap (stateLands k) read ∙ legal-parts .1);
+            };
+        sane = h;
+      }
 
-          -- A step at the end,
-          pub step-end : 8 * s .place ≡ length kernel → Leaves (Made 20 0) registers bytes (stepCall dictionary kernel registers bytes)
-          unfolding stepCall
-          step-end h =
-              rw (sizes, fine .0, fine .2, ap (stops k) (sym read) ∙ running-end dictionary kernel registers s opened h) (refl, refl, refl)
+  -- A step at the end,
+  pub step-end : 8 * s .place ≡ length kernel → Leaves (Made 20 0) registers bytes (stepCall dictionary kernel registers bytes)
+  unfolding stepCall
+  step-end h =
+      rw (sizes .all, law .judged, law .legal, ap (stops k) (sym read) ∙ running-end dictionary kernel registers s opened h) (refl, refl, refl)
 
-          -- a step away from it,
-          pub step-made : (8 * s .place ≡ length kernel → ⊥) → (registers′ bytes′ : List ℕ) (s′ : State)
-              → stateIs registers′ s′ ≡ step k (stateIs registers s) → bytes′ ≡ stateBytes (stateIs registers′ s′)
-              → Leaves (Made 0 0) registers′ bytes′ (stepCall dictionary kernel registers bytes)
-          step-made away registers′ bytes′ s′ made wrote =
-              let on : stops k (stateOf registers bytes) ≡ none = ap (stops k) (sym read) ∙ running-on dictionary kernel registers s opened away in
-              let same : stateIs registers′ s′ ≡ step k (stateOf registers bytes) = made ∙ ap (step k) read in
-              rw (step-ready dictionary kernel registers bytes k ready on, ← same) (refl, refl, wrote)
+  -- a step away from it,
+  pub step-made : (8 * s .place ≡ length kernel → ⊥) → (registers′ bytes′ : List ℕ) (s′ : State)
+      → stateIs registers′ s′ ≡ step k (stateIs registers s) → bytes′ ≡ stateBytes (stateIs registers′ s′)
+      → Leaves (Made 0 0) registers′ bytes′ (stepCall dictionary kernel registers bytes)
+  step-made away registers′ bytes′ s′ made wrote =
+      let on : stops k (stateOf registers bytes) ≡ none = ap (stops k) (sym read) ∙ running-on dictionary kernel registers s opened away in
+      let same : stateIs registers′ s′ ≡ step k (stateOf registers bytes) = made ∙ ap (step k) read in
+      rw (step-ready dictionary kernel registers bytes k ready on, ← same) (refl, refl, wrote)
 
-          -- a run.
-          pub run-made : (budget : ℕ) → budget ≤ budgetLimit → (registers′ bytes′ : List ℕ) (out : Outcome)
-              → outcomeIs registers′ out ≡ run k budget (stateIs registers s) → bytes′ ≡ stateBytes (stateIs registers′ (out .state))
-              → Leaves (Made (out .verdict) (out .steps)) registers′ bytes′ (runCall dictionary kernel budget registers bytes)
-          run-made budget h registers′ bytes′ out made wrote =
-              let same : outcomeIs registers′ out ≡ run k budget (stateOf registers bytes) = made ∙ ap (run k budget) read in
-              rw (run-ready dictionary kernel registers bytes k ready budget h, ← same) (refl, refl, wrote)
+  -- a run.
+  pub run-made : (budget : ℕ) → budget ≤ budgetLimit → (registers′ bytes′ : List ℕ) (out : Outcome)
+      → outcomeIs registers′ out ≡ run k budget (stateIs registers s) → bytes′ ≡ stateBytes (stateIs registers′ (out .state))
+      → Leaves (Made (out .verdict) (out .steps)) registers′ bytes′ (runCall dictionary kernel budget registers bytes)
+  run-made budget h registers′ bytes′ out made wrote =
+      let same : outcomeIs registers′ out ≡ run k budget (stateOf registers bytes) = made ∙ ap (run k budget) read in
+      rw (run-ready dictionary kernel registers bytes k ready budget h, ← same) (refl, refl, wrote)

@@ -10,11 +10,11 @@ use machine::state::write_state;
 ghost use mathlib.Core.Path.{_≡_};
 ghost use mathlib.Core.Bool.{true};
 ghost use mathlib.Core.List.{List};
-ghost use Prim.Native.Nat.{ℕ};
+ghost use Prim.Native.Nat.{ℕ, _≤_};
 ghost use lib.ListN.{length};
-ghost use Rattle.paper.specs.Limits.{stateLength};
-ghost use Rattle.paper.specs.Calls.{sized, allSized, stepCall, runCall};
-ghost use Rattle.run.specs.Answers.{ranIs, Admits};
+ghost use Rattle.paper.specs.Limits.{stateLength, budgetLimit};
+ghost use Rattle.paper.specs.Calls.{sized, stepCall, runCall};
+ghost use Rattle.run.specs.Answers.{ranIs, Leaves, Told, Sizes, Lawful, Admits};
 
 // A verdict and how many steps were made; or a refusal's number and the byte offset of the instruction.
 pub enum Ran {
@@ -30,7 +30,7 @@ pub enum Admission {
 
 // 1 of all that is lent to a step or a run.
 fn are_sized(dictionary: &[u8], kernel: &[u8], registers: &[u8], state: &[u8]) -> bool
-    ensures { λ r. ⌜ r ≡ allSized (now (dictionary .entry)) (now (kernel .entry)) (now (registers .entry)) (now (state .entry)) ⌝ }
+    ensures { λ r. ⌜ Told (now (dictionary .entry)) (now (kernel .entry)) (now (registers .entry)) (now (state .entry)) r ⌝ }
 {
     if !is_sized(dictionary, kernel) {
         return false;
@@ -57,6 +57,41 @@ fn admit(dictionary: &[u8], kernel: &[u8], state: &[u8]) -> Admission
     Admission::Fine
 }
 
+// One step of an accepted kernel from a legal state; 20 at the end, where nothing is written.
+fn step_lawful(dictionary: &[u8], kernel: &[u8], registers: &mut [u8], state: &mut [u8]) -> Ran
+    requires { ⌜ Sizes (now dictionary) (now kernel) (now registers) (now state) × Lawful (now dictionary) (now kernel) (now registers) (now state) ⌝ }
+    ensures { λ r. ⌜ Leaves r (now (registers .exit)) (now (state .exit))
+        (stepCall (now (dictionary .entry)) (now (kernel .entry)) (now (registers .entry)) (now (state .entry))) ⌝ }
+{
+    let s = read_state(state);
+    if at_end(kernel, s) {
+        return Ran::Made(20, 0);
+    }
+    let after = advance(dictionary, kernel, registers, s);
+    write_state(state, after);
+    Ran::Made(0, 0)
+}
+
+// A run of an accepted kernel from a legal state.
+fn run_lawful(
+    dictionary: &[u8],
+    kernel: &[u8],
+    budget: u64,
+    registers: &mut [u8],
+    state: &mut [u8],
+) -> Ran
+    requires { ⌜ Sizes (now dictionary) (now kernel) (now registers) (now state) × Lawful (now dictionary) (now kernel) (now registers) (now state) ⌝ }
+    requires { ⌜ budget ≤ budgetLimit ⌝ }
+    ensures { λ r. ⌜ Leaves r (now (registers .exit)) (now (state .exit))
+        (runCall (now (dictionary .entry)) (now (kernel .entry)) budget (now (registers .entry)) (now (state .entry))) ⌝ }
+{
+    let s = read_state(state);
+    let out = run_from(dictionary, kernel, budget, registers, s);
+    let after = out.state;
+    write_state(state, after);
+    Ran::Made(out.verdict, out.steps)
+}
+
 // One step from the lent state; 20 at the end.
 pub fn step(dictionary: &[u8], kernel: &[u8], registers: &mut [u8], state: &mut [u8]) -> Ran
     ensures { λ r. ⌜ (ranIs r ≡ stepCall (now (dictionary .entry)) (now (kernel .entry)) (now (registers .entry)) (now (state .entry)) .answer)
@@ -69,15 +104,7 @@ pub fn step(dictionary: &[u8], kernel: &[u8], registers: &mut [u8], state: &mut 
     let o = admit(dictionary, kernel, state);
     match o {
         Admission::Barred(number, offset) => Ran::Refused(number, offset),
-        Admission::Fine => {
-            let s = read_state(state);
-            if at_end(kernel, s) {
-                return Ran::Made(20, 0);
-            }
-            let after = advance(dictionary, kernel, registers, s);
-            write_state(state, after);
-            Ran::Made(0, 0)
-        }
+        Admission::Fine => step_lawful(dictionary, kernel, registers, state),
     }
 }
 
@@ -102,12 +129,6 @@ pub fn run(
     let o = admit(dictionary, kernel, state);
     match o {
         Admission::Barred(number, offset) => Ran::Refused(number, offset),
-        Admission::Fine => {
-            let s = read_state(state);
-            let out = run_from(dictionary, kernel, budget, registers, s);
-            let after = out.state;
-            write_state(state, after);
-            Ran::Made(out.verdict, out.steps)
-        }
+        Admission::Fine => run_lawful(dictionary, kernel, budget, registers, state),
     }
 }

@@ -1,7 +1,7 @@
 -- The tests are the definition's. Assumes nothing.
-use mathlib.Core.Path.{refl, sym, _∙_}
+use mathlib.Core.Path.{sym, _∙_}
 use borrow.Author.Tests.{not-true, not-false}
-use Rattle.run.specs.Answers.{sized-kernel, sized-registers, sized-state}
+use Rattle.run.specs.Answers.{told-kernel, told-registers, told-state}
 use borrow.Author.Needs.{needs}
 use Rattle.run.proofs.calls.are_sized.Statement.{statement}
 use Rattle.run.proofs.calls.are_sized.Tie as tie
@@ -10,13 +10,13 @@ is-sized-requires : tie.Need-is-sized-requires
 is-sized-requires c κs = search needs
 
 returns : tie.Need-returns
-returns c = sym (sized-kernel (c .before .before .before .before .before .before .args .dictionary .now) (c .before .before .before .before .before .before .args .kernel .now) (c .before .before .before .before .before .before .args .registers .now) (c .before .before .before .before .before .before .args .state .now) (sym (c .before .is-sized .ensures .0) ∙ not-true _ (c .if1 .taken)))
+returns c = told-kernel _ _ _ _ (sym (c .before .is-sized .ensures .0) ∙ not-true _ (c .if1 .taken))
 
 returns-2 : tie.Need-returns-2
-returns-2 c = sym (sized-registers (c .before .before .before .before .before .before .before .args .dictionary .now) (c .before .before .before .before .before .before .before .args .kernel .now) (c .before .before .before .before .before .before .before .args .registers .now) (c .before .before .before .before .before .before .before .args .state .now) (sym (c .before .before .is-sized .ensures .0) ∙ not-false _ (c .before .if1 .left)) (c .if2 .taken))
+returns-2 c = told-registers _ _ _ _ (sym (c .before .before .is-sized .ensures .0) ∙ not-false _ (c .before .if1 .left)) (c .if2 .taken)
 
 returns-3 : tie.Need-returns-3
-returns-3 c = sym (sized-state (c .before .before .before .before .before .before .before .args .dictionary .now) (c .before .before .before .before .before .before .before .args .kernel .now) (c .before .before .before .before .before .before .before .args .registers .now) (c .before .before .before .before .before .before .before .args .state .now) (sym (c .before .before .is-sized .ensures .0) ∙ not-false _ (c .before .if1 .left)) (c .if2 .left))
+returns-3 c = told-state _ _ _ _ (sym (c .before .before .is-sized .ensures .0) ∙ not-false _ (c .before .if1 .left)) (c .if2 .left)
 
 pub are-sized-spec : {M : Type 1} → statement M
 are-sized-spec = tie.close (tie.spec is-sized-requires returns returns-2 returns-3)

@@ -1,8 +1,8 @@
 -- The cases are the call's, in its order. Assumes nothing.
 use mathlib.Core.Path.{sym, _∙_}
 use borrow.Author.Tests.{not-true, not-false}
+use Rattle.run.specs.Answers.{run-size, run-limit, run-barred, lawful}
 use borrow.Author.Needs.{needs}
-use Rattle.run.specs.Answers.{sizes-of, run-size, run-limit, run-barred, opened, run-made}
 use Rattle.run.proofs.calls.run.Statement.{statement}
 use Rattle.run.proofs.calls.run.Tie as tie
 
@@ -16,7 +16,7 @@ same-length-2 : tie.Need-same-length-2
 same-length-2 c = search needs
 
 returns : tie.Need-returns
-returns c = run-size (c .before .before .before .before .before .before .before .before .args .dictionary .now) (c .before .before .before .before .before .before .before .before .args .kernel .now) (c .before .before .before .before .before .before .before .before .args .registers .now) (c .before .before .before .before .before .before .before .before .args .state .now) _ (sym (c .before .are-sized .ensures) ∙ not-true _ (c .if1 .taken))
+returns c = run-size _ _ _ _ _ (sym (c .before .are-sized .ensures .0) ∙ not-true _ (c .if1 .taken))
 
 same-length-3 : tie.Need-same-length-3
 same-length-3 c = search needs
@@ -25,11 +25,13 @@ same-length-4 : tie.Need-same-length-4
 same-length-4 c = search needs
 
 returns-2 : tie.Need-returns-2
-returns-2 c = run-limit (c .before .before .before .before .before .before .before .before .before .args .dictionary .now) (c .before .before .before .before .before .before .before .before .before .args .kernel .now) (c .before .before .before .before .before .before .before .before .before .args .registers .now) (c .before .before .before .before .before .before .before .before .before .args .state .now) (sym (c .before .before .are-sized .ensures) ∙ not-false _ (c .before .if1 .left)) _ (c .if2 .taken)
+returns-2 c =
+    let z = c .before .before .are-sized .ensures .1 (not-false _ (c .before .if1 .left)) in
+    run-limit _ _ _ _ z _ (c .if2 .taken)
 
 admit-requires : tie.Need-admit-requires
 admit-requires c κs =
-    let z = sizes-of (c .before .before .before .before .before .before .before .before .before .before .args .dictionary .now) (c .before .before .before .before .before .before .before .before .before .before .args .kernel .now) (c .before .before .before .before .before .before .before .before .before .before .args .registers .now) (c .before .before .before .before .before .before .before .before .before .before .args .state .now) (sym (c .before .before .before .are-sized .ensures) ∙ not-false _ (c .before .before .if1 .left)) in
+    let z = c .before .before .before .are-sized .ensures .1 (not-false _ (c .before .before .if1 .left)) in
     (z .right, z .state-is)
 
 enum-known-o : tie.Need-enum-known-o
@@ -38,25 +40,10 @@ enum-known-o c = search needs
 enum-told : tie.Need-enum-told
 enum-told c = search needs
 
-read-state-requires : tie.Need-read-state-requires
-read-state-requires c κs =
-    let z = sizes-of (c .before .before .before .before .before .before .before .before .before .before .before .before .before .before .args .dictionary .now) (c .before .before .before .before .before .before .before .before .before .before .before .before .before .before .args .kernel .now) (c .before .before .before .before .before .before .before .before .before .before .before .before .before .before .args .registers .now) (c .before .before .before .before .before .before .before .before .before .before .before .before .before .before .args .state .now) (sym (c .before .before .before .before .before .before .before .are-sized .ensures) ∙ not-false _ (c .before .before .before .before .before .before .if1 .left)) in
-    z .state-is
-
-run-from-requires : tie.Need-run-from-requires
-run-from-requires c κs =
-    let r = c .before in
-    let s = r .before .before .before .before .before .before .before .before .before .before .before .before .before .before .before in
-    let z = sym (r .before .before .before .before .before .before .before .before .are-sized .ensures) ∙ not-false _ (r .before .before .before .before .before .before .before .if1 .left) in
-    let o = r .before .before .before .before .admit .ensures (s .args .registers .now) in
-    let e = r .before .before .enum-told .given .1 in
-    let q = r .read-state .ensures .0 (s .args .registers .now) in
-    opened (s .args .dictionary .now) (s .args .kernel .now) (s .args .registers .now) (s .args .state .now) z _ o e _ q (r .read-state .ensures .1)
-
-write-state-requires : tie.Need-write-state-requires
-write-state-requires c κs =
-    let z = sizes-of (c .before .before .before .before .before .before .before .before .before .before .before .before .before .before .before .before .before .before .before .before .before .args .dictionary .now) (c .before .before .before .before .before .before .before .before .before .before .before .before .before .before .before .before .before .before .before .before .before .args .kernel .now) (c .before .before .before .before .before .before .before .before .before .before .before .before .before .before .before .before .before .before .before .before .before .args .registers .now) (c .before .before .before .before .before .before .before .before .before .before .before .before .before .before .before .before .before .before .before .before .before .args .state .now) (sym (c .before .before .before .before .before .before .before .before .before .before .before .before .before .before .are-sized .ensures) ∙ not-false _ (c .before .before .before .before .before .before .before .before .before .before .before .before .before .if1 .left)) in
-    (z .state-is, c .before .before .before .before .run-from .ensures .1 .sane .channels)
+run-lawful-requires : tie.Need-run-lawful-requires
+run-lawful-requires c κs =
+    let z = c .before .before .before .before .before .before .before .before .are-sized .ensures .1 (not-false _ (c .before .before .before .before .before .before .before .if1 .left)) in
+    ((z, lawful _ _ _ _ z _ (c .before .before .before .before .admit .ensures _) (c .before .before .enum-told .given .1)), c .before .before .before .before .before .before .if2 .left)
 
 same-length-5 : tie.Need-same-length-5
 same-length-5 c = search needs
@@ -66,9 +53,8 @@ same-length-6 c = search needs
 
 returns-3 : tie.Need-returns-3
 returns-3 c =
-    let s = c .before .before .before .before .before .before .before .before .before .before .before .before .before .before in
-    let z = sym (c .before .before .before .before .before .before .before .are-sized .ensures) ∙ not-false _ (c .before .before .before .before .before .before .if1 .left) in
-    run-barred (s .args .dictionary .now) (s .args .kernel .now) (s .args .registers .now) (s .args .state .now) z _ (c .before .before .before .admit .ensures (s .args .registers .now)) _ _ (c .before .o .given .1) _ (c .before .before .before .before .before .if2 .left)
+    let z = c .before .before .before .before .before .before .before .are-sized .ensures .1 (not-false _ (c .before .before .before .before .before .before .if1 .left)) in
+    run-barred _ _ _ _ z _ (c .before .before .before .admit .ensures _) _ _ (c .before .o .given .1) _ (c .before .before .before .before .before .if2 .left)
 
 same-length-7 : tie.Need-same-length-7
 same-length-7 c = search needs
@@ -77,14 +63,7 @@ same-length-8 : tie.Need-same-length-8
 same-length-8 c = search needs
 
 returns-4 : tie.Need-returns-4
-returns-4 c =
-    let r = c .before .before .before .before .before .before .before .before .before in
-    let s = r .before .before .before .before .before .before .before .before .before .before .before .before .before .before .before in
-    let z = sym (r .before .before .before .before .before .before .before .before .are-sized .ensures) ∙ not-false _ (r .before .before .before .before .before .before .before .if1 .left) in
-    let o = r .before .before .before .before .admit .ensures (s .args .registers .now) in
-    let e = r .before .before .enum-told .given .1 in
-    let q = r .read-state .ensures .0 (s .args .registers .now) in
-    run-made (s .args .dictionary .now) (s .args .kernel .now) (s .args .registers .now) (s .args .state .now) z _ o e _ q (r .read-state .ensures .1) _ (r .before .before .before .before .before .before .if2 .left) _ _ _ (c .before .before .before .before .before .before .before .run-from .ensures .0) (c .before .before .write-state .ensures _)
+returns-4 c = search needs
 
 pub run-spec : {M : Type 1} → statement M
 run-spec =
@@ -100,9 +79,7 @@ run-spec =
     admit-requires
     enum-known-o
     enum-told
-    read-state-requires
-    run-from-requires
-    write-state-requires
+    run-lawful-requires
     same-length-5
     same-length-6
     returns-3
