@@ -1,20 +1,19 @@
 -- What the code's answers are in the paper's terms, and the calls' cases in the code's order. Assumes nothing.
-use mathlib.Core.Bool.{Bool, true, false, not, cond, _&&_, true≢false}
+use mathlib.Core.Bool.{Bool, true, false, _&&_, true≢false}
 use mathlib.Core.List.{List}
-use mathlib.Core.Option.{none, some}
+use mathlib.Core.Option.{none}
 use mathlib.Core.Path.{_≡_, refl, sym, ap, _∙_, subst}
-use Prim.Native.Nat.{ℕ, _+_, _*_, _<_, _≤_}
-use native.Mathlib.Omega.{arith}
-use lib.Dec.{eqb, ltb}
+use Prim.Native.Nat.{ℕ, _*_, _<_, _≤_}
+use lib.Dec.{eqb}
 use lib.ListN.{length}
 use borrow.Author.Tests.{eqb-true, eq-eqb, ne-eqb, lt-ltb, le-ltb}
 use Rattle.paper.specs.Limits.{registerBytes, stateLength, budgetLimit}
-use Rattle.paper.specs.Kernel.{Instr, longAndShort, Parsed, bad, good}
+use Rattle.paper.specs.Kernel.{Instr, longAndShort, Parsed, good}
 use Rattle.paper.specs.Jump.{lands}
 use Rattle.paper.specs.Machine as paper
 use Rattle.paper.specs.Machine.{stops, step, run}
 use Rattle.paper.specs.State.{stateOf, stateLegal, stateLands, allThree, stateBytes}
-use Rattle.paper.specs.Calls.{Answer, refusal, verdict, sized, judgedKernel, accepted, Changed, unchanged, changedTo, allSized, onState, steppedAs, stepCall, ranAs, runCall}
+use Rattle.paper.specs.Calls.{Answer, refusal, verdict, sized, judgedKernel, accepted, Changed, unchanged, allSized, onState, steppedAs, stepCall, ranAs, runCall}
 use Rattle.laws.specs.Same.{state-names}
 use Rattle.laws.specs.Demands.{Ready, run-ready, step-ready}
 use Rattle.kernel.specs.declared.walk.Scan.{Scan}

@@ -1,13 +1,13 @@
 -- A run's outcome as the code has it, and what is left of a run from where its loop stands. Assumes nothing.
 use mathlib.Core.List.{List}
 use mathlib.Core.Option.{Option, none, some}
-use mathlib.Core.Path.{_≡_, refl, sym, ap, _∙_}
-use Prim.Native.Nat.{ℕ, zero, suc, _+_, _-_, _<_, _≤_}
+use mathlib.Core.Path.{_≡_, sym, ap, _∙_}
+use Prim.Native.Nat.{ℕ, zero, suc, _+_, _-_, _<_}
 use native.Mathlib.Omega.{arith}
 use Rattle.paper.specs.Kernel.{Instr}
 use Rattle.paper.specs.Machine as paper
-use Rattle.paper.specs.Machine.{stops, step, run, runWith}
-use Rattle.laws.specs.Runs.{more, still, orSpent, run-zero, run-stop, run-on}
+use Rattle.paper.specs.Machine.{stops, step, run}
+use Rattle.laws.specs.Runs.{still, orSpent, run-zero, run-stop, run-on}
 use Rattle.run.specs.declared.running.Outcome.{Outcome}
 use Rattle.machine.specs.States.{stateIs}
 

@@ -1,22 +1,21 @@
 -- A state in the midst of an accepted kernel: what each step needs, what it makes, and that it leaves such a state. Assumes nothing.
-use mathlib.Core.Bool.{Bool, true}
 use mathlib.Core.List.{List}
 use mathlib.Core.Option.{Option, none, some}
-use mathlib.Core.Path.{_≡_, refl, sym, ap, _∙_, subst}
-use Prim.Native.Nat.{ℕ, _+_, _*_, _<_, _≤_}
+use mathlib.Core.Path.{_≡_, refl, sym, ap, _∙_}
+use Prim.Native.Nat.{ℕ, _+_, _*_, _<_}
 use native.Mathlib.Omega.{arith}
 use lib.ListN.{length}
 use Rattle.paper.specs.Limits.{registerBytes}
 use Rattle.paper.specs.Dictionary.{dictionaryOf}
 use Rattle.paper.specs.Legal.{refusalOf}
 use Rattle.paper.specs.Kernel.{Instr, longAndShort}
-use Rattle.paper.specs.Jump.{fetch, endOf, lands, targetOf}
+use Rattle.paper.specs.Jump.{fetch, targetOf}
 use Rattle.paper.specs.Machine.{stepAt, placeOf, stepOn, step, stopsOn, stops}
 use Rattle.paper.specs.Calls.{accepted}
 use Rattle.laws.specs.Judged.{Passed, asLong, asShort, judge-passed}
 use Rattle.laws.specs.Places.{jump-lands, place-lands}
 use Rattle.laws.specs.Lasting.{Lasting, names-lands, lands-before, step-lasting}
-use Rattle.kernel.specs.Standing.{Whole, Fetches, Fits, fits}
+use Rattle.kernel.specs.Standing.{Whole, Fetches}
 use Rattle.kernel.specs.Marks.{instrsOf}
 use Rattle.kernel.specs.Jumps.{instrOf}
 use Rattle.kernel.specs.Accepting.{AcceptedKernel, accepted-fetch, lands-fetch, fetch-whole, fetch-is}

@@ -5,7 +5,7 @@ use mathlib.Core.Path.{_≡_, refl, sym, ap, _∙_}
 use Prim.Native.Nat.{ℕ, _+_, _-_, _*_, _^_, _<_, _≤_}
 use native.Mathlib.Omega.{arith}
 use lib.Dec.{ltb}
-use lib.IntN.{ℤ, pos, negsuc, subℕ, _+ℤ_, pos-+ℤ-pos}
+use lib.IntN.{ℤ, pos, subℕ, _+ℤ_, pos-+ℤ-pos}
 use borrow.Author.Tests.{ltb-true, ltb-false, lt-ltb, le-ltb}
 use Rattle.paper.specs.Bits.{bits}
 use Rattle.paper.specs.Operation.{Branch, branch, jmpi}

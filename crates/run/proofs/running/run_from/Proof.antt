@@ -2,7 +2,6 @@
 use mathlib.Core.Path.{sym, _∙_}
 use Prim.Native.Nat.{_-_, _≤_}
 use native.Mathlib.Omega.{arith}
-use borrow.Author.Needs.{needs}
 use Rattle.machine.specs.States.{stateIs}
 use Rattle.run.specs.Running.{instructions, Running, running-registers, running-end, running-on}
 use Rattle.run.specs.Outcomes.{Leads, leads-start, leads-end, leads-spent, leads-on}
