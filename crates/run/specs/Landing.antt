@@ -80,26 +80,12 @@ module _ (land : ℕ → Bool) (c : Channels) where
     pub waits-on : cond (bit (c .waiting) n) (land (getD (c .places) n 0)) true ≡ true → waitsFrom n ≡ waitsFrom (n + 1)
     waits-on e = waits-turn n h ∙ rw e
 
--- ---- the tests, in the code's order, of a state that was read from the bytes
+-- ---- the test, of a state that was read from the bytes
 
-module _ (land : ℕ → Bool) (bytes : List ℕ) where
-  pub legal-three : allThree bytes 16 ≡ false → legalBy land bytes ≡ false
-  unfolding legalBy
-  legal-three t = rw t
-
-  module _ (t : allThree bytes 16 ≡ true) (s : State) (e : stateIs [] s ≡ stateOf [] bytes) where
-    place-read : s .place ≡ half bytes 4
-    unfolding stateOf
-    place-read = ap (λ (x : paper.State). x .place) e
-
-    channels-read : channelsIs (s .channels) ≡ channelsIn bytes 0 16
-    unfolding stateOf
-    channels-read = ap (λ (x : paper.State). x .channels) e
-
-    pub legal-place : land (s .place) ≡ false → legalBy land bytes ≡ false
-    unfolding legalBy
-    legal-place l = rw (t, sym (ap land place-read) ∙ l)
-
-    pub legal-waits : land (s .place) ≡ true → legalBy land bytes ≡ waitsBy land (channelsIs (s .channels))
-    unfolding legalBy
-    legal-waits l = rw (t, sym (ap land place-read) ∙ l, channels-read)
+pub legal-read : (land : ℕ → Bool) (bytes : List ℕ) (s : State) → stateIs [] s ≡ stateOf [] bytes
+    → legalBy land bytes ≡ (allThree bytes 16 && (land (s .place) && waitsBy land (channelsIs (s .channels))))
+unfolding legalBy stateOf
+legal-read land bytes s e =
+    let at : half bytes 4 ≡ s .place = sym (ap (λ (x : paper.State). x .place) e) in
+    let own : channelsIn bytes 0 16 ≡ channelsIs (s .channels) = sym (ap (λ (x : paper.State). x .channels) e) in
+    rw (at, own)

@@ -1,28 +1,19 @@
 // 15: the lent state's places are instruction starts or the end, and each channel is off, awake or waiting.
+use judge::logic::both;
+use judge::logic::chosen;
 use kernel::jumps::is_marked;
 use lanes::mask::bit;
 use machine::channels::Channels;
 use machine::state::read_state;
 use machine::state::three;
 ghost use mathlib.Core.Path.{_≡_};
-ghost use mathlib.Core.Bool.{true, cond};
 ghost use lib.ListN.{length};
 ghost use Rattle.paper.specs.Limits.{stateLength};
 ghost use Rattle.kernel.specs.Marks.{marked};
 ghost use Rattle.machine.specs.Channels.{channelsIs};
 ghost use Rattle.run.specs.Landing.{waitsBy, legalBy};
 
-// A channel that waits does so at a mark.
-fn rests(marks: &[u8; 2049], waits: bool, place: u64) -> bool
-    ensures { λ r. ⌜ r ≡ cond waits (marked (now (marks .entry)) place) true ⌝ }
-{
-    if waits {
-        return is_marked(marks, place);
-    }
-    true
-}
-
-// Every channel that waits does so at a mark.
+// Each channel that waits does so at a mark.
 fn all_rest(marks: &[u8; 2049], channels: Channels) -> bool
     ensures { λ r. ⌜ r ≡ waitsBy (marked (now (marks .entry))) (channelsIs channels) ⌝ }
 {
@@ -30,7 +21,7 @@ fn all_rest(marks: &[u8; 2049], channels: Channels) -> bool
     while n < 16 {
         let place = channels.places[n];
         let waits = bit(channels.waiting, n as u64);
-        if !rests(marks, waits, place) {
+        if !chosen(waits, is_marked(marks, place), true) {
             return false;
         }
         n += 1;
@@ -43,13 +34,9 @@ pub fn is_legal(marks: &[u8; 2049], bytes: &[u8]) -> bool
     requires { ⌜ length (now bytes) ≡ stateLength ⌝ }
     ensures { λ r. ⌜ r ≡ legalBy (marked (now (marks .entry))) (now (bytes .entry)) ⌝ }
 {
-    if !three(bytes) {
-        return false;
-    }
+    let apart = three(bytes);
     let s = read_state(bytes);
-    if !is_marked(marks, s.place) {
-        return false;
-    }
     let channels = s.channels;
-    all_rest(marks, channels)
+    let rest = all_rest(marks, channels);
+    both(apart, both(is_marked(marks, s.place), rest))
 }

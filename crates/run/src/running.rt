@@ -61,7 +61,7 @@ pub fn run_from(
         if steps == budget {
             return Outcome {
                 verdict: 21,
-                steps: steps,
+                steps: budget,
                 state: s,
             };
         }
