@@ -1,6 +1,7 @@
 -- The instruction that is read at the state's place is the kernel's, and its step is the paper's. Assumes nothing.
 use mathlib.Core.Path.{_∙_}
 use Rattle.run.specs.Running.{running-dictionary, running-registers, running-whole, running-steps, running-after}
+use native.Mathlib.Omega.{arith}
 use borrow.Author.Needs.{needs}
 use Rattle.run.proofs.running.advance.Statement.{statement}
 use Rattle.run.proofs.running.advance.Tie as tie
@@ -21,7 +22,7 @@ step-at-requires : tie.Need-step-at-requires
 step-at-requires c κs =
     let p = c .before .before .before .before .before .before .before .before .pre in
     let st = running-steps _ _ _ _ (p .0) (p .1) _ _ (c .before .before .before .before .word-at .ensures) _ (c .before .before .target-of .ensures) in
-    (st .legal, running-registers _ _ _ _ (p .0), st .near, st .far, p .0 .sane)
+    (st .legal, running-registers _ _ _ _ (p .0), omega (arith, st .near, st .far), omega (arith, st .near, st .far), p .0 .sane)
 
 same-length : tie.Need-same-length
 same-length c = search needs
