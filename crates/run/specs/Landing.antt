@@ -80,12 +80,13 @@ module _ (land : ℕ → Bool) (c : Channels) where
     pub waits-on : cond (bit (c .waiting) n) (land (getD (c .places) n 0)) true ≡ true → waitsFrom n ≡ waitsFrom (n + 1)
     waits-on e = waits-turn n h ∙ rw e
 
--- ---- the test, of a state that was read from the bytes
+-- ---- the test, of a state that was read from the bytes, by its three parts
 
 pub legal-read : (land : ℕ → Bool) (bytes : List ℕ) (s : State) → stateIs [] s ≡ stateOf [] bytes
-    → legalBy land bytes ≡ (allThree bytes 16 && (land (s .place) && waitsBy land (channelsIs (s .channels))))
+    → (apart placed rest two all : Bool) → apart ≡ allThree bytes 16 → placed ≡ land (s .place) → rest ≡ waitsBy land (channelsIs (s .channels))
+    → two ≡ (placed && rest) → all ≡ (apart && two) → all ≡ legalBy land bytes
 unfolding legalBy stateOf
-legal-read land bytes s e =
+legal-read land bytes s e apart placed rest two all a p r t h =
     let at : half bytes 4 ≡ s .place = sym (ap (λ (x : paper.State). x .place) e) in
     let own : channelsIn bytes 0 16 ≡ channelsIs (s .channels) = sym (ap (λ (x : paper.State). x .channels) e) in
-    rw (at, own)
+    rw (at, own, ← a, ← p, ← r, ← t) h

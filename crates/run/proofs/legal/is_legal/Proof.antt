@@ -1,6 +1,5 @@
 -- The tests are the definition's, of the state that the bytes write. Assumes nothing.
 use mathlib.Core.List.{[]}
-use mathlib.Core.Path.{_∙_}
 use Rattle.run.specs.Landing.{legal-read}
 use borrow.Author.Needs.{needs}
 use Rattle.run.proofs.legal.is_legal.Statement.{statement}
@@ -26,8 +25,8 @@ both-requires-2 c κs = search needs
 
 returns : tie.Need-returns
 returns c =
-    rw (legal-read _ _ _ (c .before .before .before .before .before .read-state .ensures .0 []))
-    (c .both2 .ensures ∙ rw (c .before .both .ensures, c .before .before .is-marked .ensures, c .before .before .before .all-rest .ensures, c .before .before .before .before .before .before .three .ensures))
+    legal-read _ _ _ (c .before .before .before .before .before .read-state .ensures .0 []) _ _ _ _ _ (c .before .before .before .before .before .before .three .ensures) (c .before .before .is-marked .ensures) (c .before .before .before .all-rest .ensures)
+    (c .before .both .ensures) (c .both2 .ensures)
 
 pub is-legal-spec : {M : Type 1} → statement M
 is-legal-spec =
