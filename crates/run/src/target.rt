@@ -1,16 +1,12 @@
 // Where a branch of an accepted kernel leads.
 use words::bytes::Word;
 use words::fields::long_distance;
-use words::fields::operation;
+use words::fields::opcode;
 use words::fields::short_distance;
-use words::operation::Branch;
-use words::operation::Operation;
 ghost use mathlib.Core.Path.{_≡_};
 ghost use Prim.Native.Nat.{_<_, _^_};
-ghost use Rattle.paper.specs.Operation.{branch};
-ghost use Rattle.paper.specs.Jump.{jumpOf, targetOf};
+ghost use Rattle.paper.specs.Jump.{targetOf};
 ghost use Rattle.paper.specs.Machine.{placeOf};
-ghost use Rattle.words.specs.Operations.{branchIs};
 ghost use Rattle.words.specs.Words.{toWord};
 ghost use Rattle.kernel.specs.Jumps.{instrOf};
 ghost use Rattle.run.specs.Targets.{placeFrom};
@@ -29,30 +25,17 @@ fn reached(base: u64, distance: u64, half: u64) -> u64
     base + distance - 2 * half
 }
 
-// The target of the branch b in word w, an instruction of `size` places from place `here` on.
-fn branch_target(b: Branch, w: Word, here: u64, size: u64) -> u64
-    requires { ⌜ (here < 65536) × (size < 65536) ⌝ }
-    ensures { λ r. ⌜ r ≡ placeOf (jumpOf (branch (branchIs b)) (instrOf here size (toWord w))) ⌝ }
-{
-    match b {
-        Branch::Jmpi => reached(here + size, long_distance(w), 0x8000_0000),
-        Branch::If => reached(here, short_distance(w), 0x8000),
-        Branch::Else => reached(here, short_distance(w), 0x8000),
-        Branch::Endif => reached(here, short_distance(w), 0x8000),
-        Branch::While => reached(here, short_distance(w), 0x8000),
-    }
-}
-
-// The same of any word: what is no branch has no target, which is written 0.
+// Where word w, an instruction of `size` places from place `here` on, leads if it branches. What is no branch has no target, which is written 0.
 pub fn target_of(w: Word, here: u64, size: u64) -> u64
     requires { ⌜ (here < 65536) × (size < 65536) ⌝ }
     ensures { λ r. ⌜ r ≡ placeOf (targetOf (instrOf here size (toWord w))) ⌝ }
 {
-    let o = operation(w);
-    match o {
-        Operation::Makes(_) => 0,
-        Operation::Nop => 0,
-        Operation::Jumps(b) => branch_target(b, w, here, size),
-        Operation::Unlisted => 0,
+    match opcode(w) {
+        0x20 => reached(here + size, long_distance(w), 0x8000_0000),
+        0x22 => reached(here, short_distance(w), 0x8000),
+        0x24 => reached(here, short_distance(w), 0x8000),
+        0x25 => reached(here, short_distance(w), 0x8000),
+        0x27 => reached(here, short_distance(w), 0x8000),
+        _ => 0,
     }
 }
