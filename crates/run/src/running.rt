@@ -1,5 +1,5 @@
 // Steps of an accepted kernel, which is not judged again.
-use crate::target::target_of;
+use crate::reach::target_of;
 use kernel::fetch::word_at;
 use machine::state::State;
 use machine::step::step_at;
