@@ -19,4 +19,5 @@ pub mod random;
 pub mod regions;
 pub mod rules;
 pub mod state;
+pub mod text;
 pub mod words;
