@@ -9,6 +9,8 @@ pub mod answers;
 pub mod assemble;
 pub mod bench_kernels;
 pub mod calls;
+mod channels;
+mod decoded;
 pub mod dictionary;
 pub mod engine;
 pub mod generate;
