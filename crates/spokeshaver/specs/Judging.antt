@@ -1,7 +1,6 @@
 -- How large a refusal's number and an instruction's size are. Assumes nothing.
 use mathlib.Core.Bool.{Bool, true, false, not, cond, _||_}
 use mathlib.Core.List.{List}
-use mathlib.Core.Path.{_≡_, refl}
 use Prim.Native.Nat.{ℕ, _-_, _≤_}
 use native.Mathlib.Omega.{arith}
 use lib.Dec.{eqb, ltb}
@@ -9,7 +8,7 @@ use lib.ListN.{length}
 use Rattle.paper.specs.Bits.{numberAt}
 use Rattle.paper.specs.Dictionary.{Dictionary}
 use Rattle.paper.specs.Expand.{isShort, expand}
-use Rattle.paper.specs.Operation.{Plain, Branch, Operation, plain, nop, branch, unlisted, operation, isListed, isBranch}
+use Rattle.paper.specs.Operation.{Operation, plain, nop, branch, unlisted, operation, isListed, isBranch}
 use Rattle.paper.specs.Legal.{reservedSet, plainServed, branchServed, operandRuleBroken, shapeBroken, alignmentBroken, reachBroken, later, refusalOf}
 use Rattle.paper.specs.Kernel.{Forms, takesShort, Judged, refused, passed, judgeWord, judgeShort, judgeLong, judgeAt}
 
@@ -18,6 +17,7 @@ unfoldable pub Modest : Judged → Type 0
 Modest (refused number) = number ≤ 11
 Modest (passed size w) = size ≤ 2
 
+-- What that says of a size, and of a number; and how it is said.
 pub modest-size : (size w : ℕ) → Modest (passed size w) → size ≤ 2
 unfolding Modest
 modest-size size w h = h
@@ -56,14 +56,17 @@ later-small nop w = omega arith
 later-small (branch b) w = least-cond (not (branchServed b w)) 7 0 (omega arith) (omega arith)
 later-small unlisted w = omega arith
 
+-- 6 to 11, or 0, of a whole word.
 refusal-small : (w : ℕ) → refusalOf w ≤ 11
 unfolding refusalOf
 refusal-small w = least-cond (reservedSet w) 6 (later (operation w) w) (omega arith) (later-small (operation w) w)
 
+-- A word that is judged by 6 to 11.
 word-modest : (size w : ℕ) → size ≤ 2 → Modest (judgeWord size w)
 word-modest size w h =
     modest-cond (eqb (refusalOf w) 0) (passed size w) (refused (refusalOf w)) (modest-yes size w h) (modest-no (refusalOf w) (refusal-small w))
 
+-- A short word, a long word.
 short-modest : (forms : Forms) (D : Dictionary) (s : ℕ) → Modest (judgeShort forms D s)
 unfolding judgeShort
 short-modest forms D s =

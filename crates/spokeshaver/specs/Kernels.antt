@@ -1,11 +1,11 @@
 -- How large the numbers are that are said of a kernel: a refusal's number and offset, how many instructions there are. Assumes nothing.
 use mathlib.Core.Bool.{Bool, true, false, cond, _&&_, false≢true}
 use mathlib.Core.List.{List, [], _∷_}
-use mathlib.Core.Option.{Option, none, some}
-use mathlib.Core.Path.{_≡_, refl, sym}
+use mathlib.Core.Option.{some}
+use mathlib.Core.Path.{_≡_, refl}
 use Prim.Native.Nat.{ℕ, zero, suc, _+_, _*_, _/_, _<_, _≤_}
 use native.Mathlib.Omega.{arith}
-use lib.Dec.{eqb, ltb, leb}
+use lib.Dec.{eqb, ltb}
 use lib.ListN.{length}
 use borrow.Author.Tests.{ltb-true, leb-true}
 use Rattle.paper.specs.Limits.{dictionaryBytes, kernelBytes, instructionLimit}
@@ -25,6 +25,7 @@ unfoldable pub Near : ℕ → ℕ → Parsed → Type 0
 Near end n (bad number offset) = (number ≤ 17) × (offset ≤ end)
 Near end n (good k) = (length k ≤ n) × Inside end k
 
+-- How that is said of a refusal, and what it says of one and of a kernel.
 pub near-bad : (end n number offset : ℕ) → number ≤ 17 → offset ≤ end → Near end n (bad number offset)
 unfolding Near
 near-bad end n number offset h g = (h, g)
@@ -37,6 +38,7 @@ pub near-few : (end n : ℕ) (k : List Instr) → Near end n (good k) → length
 unfolding Near
 near-few end n k h = h .0
 
+-- No instruction at all; a choice; one instruction more.
 near-none : (end n : ℕ) → Near end n (good [])
 unfolding Near Inside
 near-none end n = (omega arith, tt)
@@ -53,6 +55,7 @@ near-prepend end n i (good k) h g = (omega (arith, g .0), (h, g .1))
 -- ---- the walk
 
 module _ (judge : ℕ → Judged) (end : ℕ) (modest : (from : ℕ) → Modest (judge from)) where
+  -- One instruction and what follows it.
   near-enter : (n from : ℕ) (v : Judged) → Modest v → from < end → ((m : ℕ) → Near end n (walk judge end n m))
       → Near end (suc n) (enter from v (walk judge end n))
   near-enter n from (refused number) m h ih =
@@ -60,6 +63,7 @@ module _ (judge : ℕ → Judged) (end : ℕ) (modest : (from : ℕ) → Modest 
   near-enter n from (passed size w) m h ih =
       near-prepend end n (record { place = from / 8; size = size; word = w }) _ (omega arith) (ih (from + 8 * size))
 
+  -- The walk names no byte past the end, and lists no more instructions than it may.
   near-walk : (n from : ℕ) → Near end n (walk judge end n from)
   unfolding walk
   near-walk zero from =
@@ -71,6 +75,7 @@ module _ (judge : ℕ → Judged) (end : ℕ) (modest : (from : ℕ) → Modest 
 
 -- ---- the jumps
 
+-- A branch that leads nowhere is named by the byte at which it starts.
 near-astray : (end n : ℕ) (k rest : List Instr) → Near end n (good k) → Inside end rest → Near end n (astray k (firstAstray k rest))
 unfolding firstAstray Inside
 near-astray end n k [] h g = h
@@ -84,6 +89,7 @@ near-inside : (end n : ℕ) (k : List Instr) → Near end n (good k) → Inside 
 unfolding Near
 near-inside end n k h = h .1
 
+-- So a kernel with its jumps judged is as near.
 near-jumps : (end n : ℕ) (q : Parsed) → Near end n q → Near end n (withJumps q)
 unfolding withJumps
 near-jumps end n (bad number offset) h = h
@@ -91,10 +97,12 @@ near-jumps end n (good k) h = near-astray end n k k h (near-inside end n k h)
 
 -- ---- a kernel as it is lent
 
+-- The second of two that both hold.
 and-right : (a b : Bool) → (a && b) ≡ true → b ≡ true
 and-right true b e = e
 and-right false b e = absurd (false≢true e)
 
+-- A kernel of the right size has at most 16,384 bytes.
 pub sized-most : (dictionary kernel : List ℕ) → sized dictionary kernel ≡ true → length kernel ≤ kernelBytes
 sized-most dictionary kernel e = leb-true (length kernel) kernelBytes (and-right (eqb (length dictionary) dictionaryBytes) _ e)
 
@@ -108,6 +116,7 @@ judged-near forms dictionary kernel =
     (near-walk (judgeAt forms D kernel) (length kernel) (judged-modest forms D kernel) instructionLimit 0))
     (near-bad (length kernel) instructionLimit 2 0 (omega arith) (omega arith))
 
+-- What lies before an end lies before a later one.
 inside-more : (end more : ℕ) (k : List Instr) → end ≤ more → Inside end k → Inside more k
 unfolding Inside
 inside-more end more [] h g = g

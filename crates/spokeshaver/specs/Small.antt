@@ -1,7 +1,6 @@
 -- The one number in which an answer crosses to C: which answers fit in it, and that nothing of them is lost. Assumes nothing.
-use mathlib.Core.Bool.{Bool, true, false, cond}
-use mathlib.Core.Path.{_≡_, refl, sym, ap, _∙_, subst}
-use Prim.Native.Nat.{ℕ, _+_, _*_, _/_, _%_, _^_, _<_}
+use mathlib.Core.Path.{_≡_, subst}
+use Prim.Native.Nat.{ℕ, _/_, _%_, _^_, _<_}
 use native.Mathlib.Omega.{arith}
 use Rattle.paper.specs.Calls.{Answer, asNumber, refusal, verdict}
 
@@ -11,6 +10,7 @@ pub record Small (a : Answer) : Type 0 where
   pub offset : a .offset < 2 ^ 24
   pub count : a .count < 2 ^ 32
 
+-- A refusal and a verdict fit if their parts do.
 pub small-refusal : (number offset : ℕ) → number < 2 ^ 8 → offset < 2 ^ 24 → Small (refusal number offset)
 small-refusal number offset n o = record { number = n; offset = o; count = omega arith }
 
@@ -23,6 +23,7 @@ small-as a b e s = subst Small e s
 
 -- ---- taking the number apart, as C does
 
+-- The low 8 bits are the number, the next 24 the offset, the high 32 the count.
 pub number-back : (a : Answer) → Small a → asNumber a % 2 ^ 8 ≡ a .number
 unfolding asNumber
 number-back a s = omega (arith, s .number, s .offset, s .count)
