@@ -52,11 +52,13 @@ static uint64_t touched(const uint64_t *length) {
     return 0;
 }
 
+/* A buffer as it is lent: without bytes it is NULL. */
+static uint8_t *lent(int i, uint64_t length) { return length == 0 ? NULL : end[i] - length; }
+
 static uint64_t call(const uint64_t *number) {
-    const uint64_t *length = number + LENGTHS;
-    const uint8_t *dictionary = end[DICTIONARY] - length[DICTIONARY], *kernel = end[KERNEL] - length[KERNEL];
-    uint8_t *out = end[OUT] - length[OUT], *state = end[STATE] - length[STATE];
-    size_t d = length[DICTIONARY], k = length[KERNEL], o = length[OUT], s = length[STATE];
+    size_t d = number[LENGTHS + DICTIONARY], k = number[LENGTHS + KERNEL], o = number[LENGTHS + OUT], s = number[LENGTHS + STATE];
+    const uint8_t *dictionary = lent(DICTIONARY, d), *kernel = lent(KERNEL, k);
+    uint8_t *out = lent(OUT, o), *state = lent(STATE, s);
     switch (number[CALL]) {
     case 0: return spokeshaver_check(dictionary, d, kernel, k);
     case 3: return spokeshaver_shorten(dictionary, d, kernel, k, out, o);
