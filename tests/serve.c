@@ -61,16 +61,14 @@ static uint64_t call(const uint64_t *number) {
     uint8_t *out = lent(OUT, o), *state = lent(STATE, s);
     switch (number[CALL]) {
     case 0: return spokeshaver_check(dictionary, d, kernel, k);
+    case 1: return spokeshaver_pack(dictionary, d, kernel, k, out, o);
+    case 2: return spokeshaver_unpack(dictionary, d, kernel, k, out, o);
     case 3: return spokeshaver_shorten(dictionary, d, kernel, k, out, o);
     case 4: return spokeshaver_expand(dictionary, d, kernel, k, out, o);
     case 5: return spokeshaver_decode(dictionary, d, kernel, k, number[FIRST]);
     case 6: return spokeshaver_start((uint16_t)number[FIRST], (uint16_t)number[SECOND], (uint16_t)number[THIRD], state, s);
-#ifndef SPOKESHAVER_FIVE_CALLS
-    case 1: return spokeshaver_pack(dictionary, d, kernel, k, out, o);
-    case 2: return spokeshaver_unpack(dictionary, d, kernel, k, out, o);
     case 7: return spokeshaver_step(dictionary, d, kernel, k, out, o, state, s);
     case 8: return spokeshaver_run(dictionary, d, kernel, k, number[FIRST], out, o, state, s);
-#endif
     default: return UINT64_MAX;
     }
 }

@@ -1,11 +1,13 @@
 // Answers as the one number in which they cross to C.
 use kernel::check::Checked;
 use kernel::decode::Decoded;
+use run::calls::Ran;
 use words::calls::Wrote;
 ghost use mathlib.Core.Path.{_≡_};
 ghost use Prim.Native.Nat.{_^_, _<_};
 ghost use Rattle.paper.specs.Calls.{asNumber, refusal, verdict, decodedAs};
 ghost use Rattle.kernel.specs.Answers.{checkedIs, decodedIs};
+ghost use Rattle.run.specs.Answers.{ranIs};
 ghost use Rattle.words.specs.Wrote.{wroteAs};
 ghost use Rattle.spokeshaver.specs.Small.{Small};
 
@@ -55,5 +57,16 @@ pub fn decoded(answer: Decoded) -> u64
     match answer {
         Decoded::Refused(number, offset) => refused(number, offset),
         Decoded::Passed(size, _) => told(0, 8 * (size as u64)),
+    }
+}
+
+// What a step or a run says: how many steps a run made.
+pub fn ran(answer: Ran) -> u64
+    requires { ⌜ Small (ranIs answer) ⌝ }
+    ensures { λ r. ⌜ r ≡ asNumber (ranIs answer) ⌝ }
+{
+    match answer {
+        Ran::Made(number, count) => told(number, count),
+        Ran::Refused(number, offset) => refused(number, offset),
     }
 }
