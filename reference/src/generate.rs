@@ -10,6 +10,7 @@ mod kernels;
 mod states;
 
 use crate::calls;
+use std::collections::BTreeSet;
 
 pub use cases::case;
 
@@ -62,30 +63,10 @@ pub struct Outcome {
     pub state: Vec<u8>,
 }
 
-/// A bench to compare: the nine calls of the C boundary.
+/// A bench to compare.
 pub trait Bench {
-    fn check(&mut self, dictionary: &[u8], kernel: &[u8]) -> u64;
-    fn pack(&mut self, dictionary: &[u8], kernel: &[u8], out: &mut [u8]) -> u64;
-    fn unpack(&mut self, dictionary: &[u8], kernel: &[u8], out: &mut [u8]) -> u64;
-    fn shorten(&mut self, dictionary: &[u8], word: &[u8], out: &mut [u8]) -> u64;
-    fn expand(&mut self, dictionary: &[u8], word: &[u8], out: &mut [u8]) -> u64;
-    fn decode(&mut self, dictionary: &[u8], kernel: &[u8], place: u64) -> u64;
-    fn start(&mut self, mask: u16, flag0: u16, flag1: u16, state: &mut [u8]) -> u64;
-    fn step(
-        &mut self,
-        dictionary: &[u8],
-        kernel: &[u8],
-        registers: &mut [u8],
-        state: &mut [u8],
-    ) -> u64;
-    fn run(
-        &mut self,
-        dictionary: &[u8],
-        kernel: &[u8],
-        budget: u64,
-        registers: &mut [u8],
-        state: &mut [u8],
-    ) -> u64;
+    /// Makes a case's call on the buffers that it lends for writing, and gives the packed answer.
+    fn call(&mut self, case: &Case, lent: &mut Outcome) -> u64;
 }
 
 /// This reference as a bench.
@@ -93,75 +74,29 @@ pub trait Bench {
 pub struct Reference;
 
 impl Bench for Reference {
-    fn check(&mut self, dictionary: &[u8], kernel: &[u8]) -> u64 {
-        calls::check(dictionary, kernel)
-    }
-
-    fn pack(&mut self, dictionary: &[u8], kernel: &[u8], out: &mut [u8]) -> u64 {
-        calls::pack(dictionary, kernel, out)
-    }
-
-    fn unpack(&mut self, dictionary: &[u8], kernel: &[u8], out: &mut [u8]) -> u64 {
-        calls::unpack(dictionary, kernel, out)
-    }
-
-    fn shorten(&mut self, dictionary: &[u8], word: &[u8], out: &mut [u8]) -> u64 {
-        calls::shorten(dictionary, word, out)
-    }
-
-    fn expand(&mut self, dictionary: &[u8], word: &[u8], out: &mut [u8]) -> u64 {
-        calls::expand(dictionary, word, out)
-    }
-
-    fn decode(&mut self, dictionary: &[u8], kernel: &[u8], place: u64) -> u64 {
-        calls::decode(dictionary, kernel, place)
-    }
-
-    fn start(&mut self, mask: u16, flag0: u16, flag1: u16, state: &mut [u8]) -> u64 {
-        calls::start(mask, flag0, flag1, state)
-    }
-
-    fn step(
-        &mut self,
-        dictionary: &[u8],
-        kernel: &[u8],
-        registers: &mut [u8],
-        state: &mut [u8],
-    ) -> u64 {
-        calls::step(dictionary, kernel, registers, state)
-    }
-
-    fn run(
-        &mut self,
-        dictionary: &[u8],
-        kernel: &[u8],
-        budget: u64,
-        registers: &mut [u8],
-        state: &mut [u8],
-    ) -> u64 {
-        calls::run(dictionary, kernel, budget, registers, state)
+    fn call(&mut self, case: &Case, lent: &mut Outcome) -> u64 {
+        let dictionary = &case.dictionary[..];
+        let Outcome { out, registers, state, .. } = lent;
+        match &case.call {
+            Call::Check { kernel } => calls::check(dictionary, kernel),
+            Call::Pack { kernel, .. } => calls::pack(dictionary, kernel, out),
+            Call::Unpack { kernel, .. } => calls::unpack(dictionary, kernel, out),
+            Call::Shorten { word, .. } => calls::shorten(dictionary, word, out),
+            Call::Expand { word, .. } => calls::expand(dictionary, word, out),
+            Call::Decode { kernel, place } => calls::decode(dictionary, kernel, *place),
+            Call::Start { mask, flag0, flag1, .. } => calls::start(*mask, *flag0, *flag1, state),
+            Call::Step { kernel, .. } => calls::step(dictionary, kernel, registers, state),
+            Call::Run { kernel, budget, .. } => {
+                calls::run(dictionary, kernel, *budget, registers, state)
+            }
+        }
     }
 }
 
 /// Makes a case's call on a bench.
 pub fn perform(case: &Case, bench: &mut impl Bench) -> Outcome {
-    let dictionary = &case.dictionary[..];
     let mut after = lent(case);
-    let Outcome { out, registers, state, .. } = &mut after;
-    let answer = match &case.call {
-        Call::Check { kernel } => bench.check(dictionary, kernel),
-        Call::Pack { kernel, .. } => bench.pack(dictionary, kernel, out),
-        Call::Unpack { kernel, .. } => bench.unpack(dictionary, kernel, out),
-        Call::Shorten { word, .. } => bench.shorten(dictionary, word, out),
-        Call::Expand { word, .. } => bench.expand(dictionary, word, out),
-        Call::Decode { kernel, place } => bench.decode(dictionary, kernel, *place),
-        Call::Start { mask, flag0, flag1, .. } => bench.start(*mask, *flag0, *flag1, state),
-        Call::Step { kernel, .. } => bench.step(dictionary, kernel, registers, state),
-        Call::Run { kernel, budget, .. } => {
-            bench.run(dictionary, kernel, *budget, registers, state)
-        }
-    };
-    after.answer = answer;
+    after.answer = bench.call(case, &mut after);
     after
 }
 
@@ -181,4 +116,22 @@ pub fn lent(case: &Case) -> Outcome {
         Call::Check { .. } | Call::Decode { .. } => {}
     }
     before
+}
+
+/// The numbers that a call can answer at all, by its name. Packing never answers 17: 1,024 long
+/// words fill the 16,384 bytes, so one more is 1 already.
+pub fn possible(name: &str) -> BTreeSet<u8> {
+    let kernel = [1, 2, 3, 4, 5, 6, 7, 8, 9, 10, 11, 12];
+    let with = |more: &[u8]| kernel.iter().chain(more).copied().collect();
+    match name {
+        "check" => with(&[0, 17]),
+        "pack" => with(&[0, 14]),
+        "unpack" => with(&[0, 14, 17]),
+        "shorten" => [0, 1, 2, 4, 5, 13, 14].into(),
+        "expand" => [0, 1, 2, 4, 5, 14].into(),
+        "decode" => (0..=11).collect(),
+        "start" => [0, 1].into(),
+        "step" => with(&[0, 15, 17, 20]),
+        _ => with(&[15, 16, 17, 20, 21]),
+    }
 }

@@ -1,13 +1,26 @@
-//! The checking program: a dictionary of 512 bytes and then a kernel on standard input, four
-//! lines on standard output.
+//! With no argument the checking program: a dictionary of 512 bytes and then a kernel on
+//! standard input, four lines on standard output. With `assemble TEXT DICTIONARY KERNEL` the
+//! assembler: it reads a kernel's text and writes a dictionary for it and its bytes.
 #![forbid(unsafe_code)]
 
 use spokeshaver_reference::answers::{Answer, ACCEPTED};
 use spokeshaver_reference::calls::check;
 use spokeshaver_reference::dictionary::DICTIONARY_BYTES;
-use std::io::{Read, Result, Write};
+use spokeshaver_reference::text;
+use std::io::{Error, Read, Result, Write};
 
 fn main() -> Result<()> {
+    let words: Vec<String> = std::env::args().skip(1).collect();
+    match &words[..] {
+        [] => check_input(),
+        [verb, text, dictionary, kernel] if verb == "assemble" => {
+            assemble(text, dictionary, kernel)
+        }
+        _ => Err(Error::other("usage: spokeshaver-reference [assemble TEXT DICTIONARY KERNEL]")),
+    }
+}
+
+fn check_input() -> Result<()> {
     let mut input = Vec::new();
     std::io::stdin().read_to_end(&mut input)?;
     let (dictionary, kernel) = input.split_at(input.len().min(DICTIONARY_BYTES));
@@ -18,4 +31,10 @@ fn main() -> Result<()> {
     writeln!(output, "at={}", answer.at)?;
     writeln!(output, "instructions={}", answer.count)?;
     writeln!(output, "bytes={bytes}")
+}
+
+fn assemble(text: &str, dictionary: &str, kernel: &str) -> Result<()> {
+    let (bytes, numbers) = text::assemble(&std::fs::read_to_string(text)?).map_err(Error::other)?;
+    std::fs::write(dictionary, numbers.to_bytes())?;
+    std::fs::write(kernel, bytes)
 }

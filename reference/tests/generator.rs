@@ -3,31 +3,15 @@
 
 use spokeshaver_reference::answers::Answer;
 use spokeshaver_reference::calls;
-use spokeshaver_reference::generate::{case, lent, perform, Call, Case, Outcome, Reference};
+use spokeshaver_reference::generate::{
+    case, lent, perform, possible, Call, Case, Outcome, Reference,
+};
 use std::collections::{BTreeMap, BTreeSet};
 
 const SEEDS: u64 = 27_000;
 
 fn outcome(case: &Case) -> Outcome {
     perform(case, &mut Reference)
-}
-
-/// The numbers that a call can give at all. Packing never gives 17: 1,024 long words fill the
-/// 16,384 bytes, so one more is 1 already.
-fn reachable(name: &str) -> BTreeSet<u8> {
-    let kernel = [1, 2, 3, 4, 5, 6, 7, 8, 9, 10, 11, 12];
-    let with = |more: &[u8]| kernel.iter().chain(more).copied().collect();
-    match name {
-        "check" => with(&[0, 17]),
-        "pack" => with(&[0, 14]),
-        "unpack" => with(&[0, 14, 17]),
-        "shorten" => [0, 1, 2, 4, 5, 13, 14].into(),
-        "expand" => [0, 1, 2, 4, 5, 14].into(),
-        "decode" => (0..=11).collect(),
-        "start" => [0, 1].into(),
-        "step" => with(&[0, 15, 17, 20]),
-        _ => with(&[15, 16, 17, 20, 21]),
-    }
 }
 
 #[test]
@@ -42,7 +26,7 @@ fn every_answer_comes_up_and_no_other() {
     for (name, numbers) in &seen {
         println!("{name}: {numbers:?}");
         let found: BTreeSet<u8> = numbers.keys().copied().collect();
-        assert_eq!(found, reachable(name), "{name}");
+        assert_eq!(found, possible(name), "{name}");
     }
 }
 

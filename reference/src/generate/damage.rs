@@ -12,7 +12,7 @@ use crate::words::{LongWord, SHORT_BIT};
 
 /// A kernel that is most likely refused.
 pub fn damaged_pair(random: &mut Random, laying: Laying) -> Pair {
-    match random.below(12) {
+    match random.below(13) {
         0 => flipped(random, laying),
         1 => cut(random, laying),
         2 => noise(random, laying),
@@ -21,6 +21,7 @@ pub fn damaged_pair(random: &mut Random, laying: Laying) -> Pair {
         5 => stray_jump(random, laying),
         6 => with_instruction(random, laying, unlisted),
         7 => with_instruction(random, laying, short_branch),
+        8 => twice_damaged(random, laying),
         _ => {
             let number = random.between(6, 11) as u8;
             with_broken(random, laying, number)
@@ -90,11 +91,35 @@ fn too_long(random: &mut Random, laying: Laying) -> Pair {
 fn stray_jump(random: &mut Random, laying: Laying) -> Pair {
     let length = random.between(2, 12);
     let mut plan = plan(random, length);
+    let at = position(random, plan.len());
+    plan[at] = Planned::Raw(stray_branch(random));
+    finish(random, &plan, laying)
+}
+
+/// A branch whose distance most likely leads nowhere.
+fn stray_branch(random: &mut Random) -> Vec<u8> {
     let operation = random.pick(&BRANCHES);
     let off = random.pick(&[-1_000, -3, -1, 1, 3, 24, 1_000, 32_767, -32_768]);
-    let word = with_distance(branch_word(random, operation), operation, off);
-    let at = position(random, plan.len());
-    plan[at] = Planned::Raw(word.to_bytes().to_vec());
+    with_distance(branch_word(random, operation), operation, off).to_bytes().to_vec()
+}
+
+/// Two faults, of which the rules' order and the kernel's say which one is named: a jump that
+/// leads nowhere only where all instructions pass.
+fn twice_damaged(random: &mut Random, laying: Laying) -> Pair {
+    let length = random.between(2, 12);
+    let mut plan = plan(random, length);
+    let half = length / 2;
+    for at in [random.below(half), random.between(half, length - 1)] {
+        plan[at] = match random.below(5) {
+            0 | 1 => Planned::Raw(stray_branch(random)),
+            2 => Planned::Raw(unlisted(random)),
+            3 => Planned::Raw(short_branch(random)),
+            _ => {
+                let number = random.between(6, 11) as u8;
+                Planned::Plain(broken_word(random, number))
+            }
+        };
+    }
     finish(random, &plan, laying)
 }
 

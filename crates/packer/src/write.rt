@@ -1,0 +1,76 @@
+// The second pass: the instructions written where they come to stand.
+use crate::distance::aim;
+use crate::form::form;
+use crate::form::places_taken;
+use crate::target::target;
+use kernel::fetch::word_at;
+use words::bytes::Word;
+use words::bytes::write8;
+use words::bytes::write16;
+use words::shorten::Shorter;
+ghost use mathlib.Core.List.{_++_};
+ghost use mathlib.Core.Path.{_≡_};
+ghost use Prim.Native.Nat.{_+_, _*_, _<_, _≤_};
+ghost use lib.ListN.{length, getD, take, drop};
+ghost use Rattle.paper.specs.Dictionary.{dictionaryOf};
+ghost use Rattle.paper.specs.Operation.{operation};
+ghost use Rattle.paper.specs.Jump.{targetOf};
+ghost use Rattle.paper.specs.Machine.{placeOf};
+ghost use Rattle.paper.specs.Packing.{placesTaken, encode, aimed};
+ghost use Rattle.words.specs.Shorter.{shorterIs};
+ghost use Rattle.words.specs.Words.{toWord};
+ghost use Rattle.kernel.specs.Jumps.{instrOf};
+ghost use Rattle.packer.specs.Forms.{formOf, kernelOf, Taken, resultOf, resultEnd};
+ghost use Rattle.packer.specs.Stages.{Placed, Reaches};
+
+// Stores a word in its form from byte `from` on.
+fn write_word(a: Shorter, w: Word, out: &mut [u8], from: usize)
+    requires { ⌜ from + 8 * placesTaken (shorterIs a) ≤ length (now out) ⌝ }
+    ensures { λ r. ⌜ now (out .exit) ≡ take from (now (out .entry))
+        ++ (encode (shorterIs a) (toWord w) ++ drop (from + 8 * placesTaken (shorterIs a)) (now (out .entry))) ⌝ }
+{
+    match a {
+        Shorter::Short(s) => write8(out, from, s),
+        Shorter::NoShort => write16(out, from, w),
+    }
+}
+
+// The word w of an instruction of `size` places from the old place `here` on, which comes to stand from `to` to `next`, with its distance rewritten.
+fn rewrite(places: &[u64; 2049], w: Word, here: u64, size: u64, to: u64, next: u64) -> Word
+    requires { ⌜ (here < 65536) × (size < 65536) × (to ≤ 4096) × (next ≤ 4096) × Reaches (now places) (instrOf here size (toWord w)) ⌝ }
+    ensures { λ r. ⌜ toWord r ≡ aimed (operation (toWord w)) (toWord w) to next
+        (getD (now (places .entry)) (placeOf (targetOf (instrOf here size (toWord w)))) 0) ⌝ }
+{
+    let old = target(w, here, size) as usize;
+    let new = places[old];
+    aim(w, to, next, new)
+}
+
+// The kernel's instructions as the output's first bytes.
+pub fn write_all(
+    packs: bool,
+    dictionary: &[u8],
+    kernel: &[u8],
+    places: &[u64; 2049],
+    out: &mut [u8],
+)
+    requires { ⌜ Taken packs (now dictionary) (now kernel) ⌝ }
+    requires { ⌜ Placed (formOf packs (dictionaryOf (now dictionary))) (kernelOf packs (now dictionary) (now kernel)) (now places) ⌝ }
+    requires { ⌜ 8 * resultEnd packs (now dictionary) (now kernel) ≤ length (now out) ⌝ }
+    ensures { λ r. ⌜ now (out .exit) ≡ resultOf packs (now (dictionary .entry)) (now (kernel .entry))
+        ++ drop (8 * resultEnd packs (now (dictionary .entry)) (now (kernel .entry))) (now (out .entry)) ⌝ }
+{
+    let mut from: usize = 0;
+    let mut to: u64 = 0;
+    while from < kernel.len() {
+        let f = word_at(dictionary, kernel, from);
+        let a = form(packs, dictionary, f.word);
+        let here = (from / 8) as u64;
+        let next = to + places_taken(a);
+        let w = rewrite(places, f.word, here, f.size, to, next);
+        let at = 8 * (to as usize);
+        write_word(a, w, out, at);
+        to = next;
+        from += 8 * (f.size as usize);
+    }
+}

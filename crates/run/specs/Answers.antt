@@ -1,0 +1,210 @@
+-- What the code's answers are in the paper's terms, and the calls' cases in the code's order. Assumes nothing.
+use mathlib.Core.Bool.{Bool, true, false, _&&_, true≢false}
+use mathlib.Core.List.{List}
+use mathlib.Core.Option.{none}
+use mathlib.Core.Path.{_≡_, refl, sym, ap, _∙_, subst}
+use Prim.Native.Nat.{ℕ, _*_, _<_, _≤_}
+use lib.Dec.{eqb}
+use lib.ListN.{length}
+use borrow.Author.Tests.{eqb-true, eq-eqb, ne-eqb, lt-ltb, le-ltb}
+use Rattle.paper.specs.Limits.{registerBytes, stateLength, budgetLimit}
+use Rattle.paper.specs.Kernel.{Instr, longAndShort, Parsed, good}
+use Rattle.paper.specs.Jump.{lands}
+use Rattle.paper.specs.Machine as paper
+use Rattle.paper.specs.Machine.{stops, step, run}
+use Rattle.paper.specs.State.{stateOf, stateLegal, stateLands, allThree, stateBytes}
+use Rattle.paper.specs.Calls.{Answer, refusal, verdict, sized, judgedKernel, accepted, Changed, unchanged, allSized, onState, steppedAs, stepCall, ranAs, runCall}
+use Rattle.laws.specs.Same.{state-names}
+use Rattle.laws.specs.Demands.{Ready, run-ready, step-ready}
+use Rattle.kernel.specs.declared.walk.Scan.{Scan}
+use Rattle.kernel.specs.Marks.{marked, Says, says-refused, says-accepted, says-instrs, instrsOf}
+use Rattle.kernel.specs.Accepting.{accepted-kernel}
+use Rattle.machine.specs.declared.state.State.{State}
+use Rattle.machine.specs.States.{stateIs, SaneState, sixteen-channels}
+use Rattle.run.specs.declared.calls.Ran.{Ran}
+use Rattle.run.specs.declared.calls.Ran.the-variants.{Made, Refused}
+use Rattle.run.specs.declared.calls.Admission.{Admission}
+use Rattle.run.specs.declared.calls.Admission.the-variants.{Fine, Barred}
+use Rattle.run.specs.Landing.{legalBy, legal-same}
+use Rattle.run.specs.declared.running.Outcome.{Outcome}
+use Rattle.run.specs.Running.{instructions, Running, running-end, running-on}
+use Rattle.run.specs.Outcomes.{outcomeIs}
+
+abbrev pub ranIs : Ran → Answer
+ranIs (Made number count) = verdict number count
+ranIs (Refused number offset) = refusal number offset
+
+-- A call's answer, and what registers and state then hold, are the paper's.
+abbrev pub Leaves : Ran → List ℕ → List ℕ → Changed → Type 0
+Leaves r registers bytes x = (ranIs r ≡ x .answer) × (registers ≡ x .registers) × (bytes ≡ x .state)
+
+-- ---- 1
+
+-- All that is lent has its size.
+pub record Sizes (dictionary kernel registers bytes : List ℕ) : Type 0 where
+  pub all : allSized dictionary kernel registers bytes ≡ true
+  pub right : sized dictionary kernel ≡ true
+  pub registers-are : length registers ≡ registerBytes
+  pub state-is : length bytes ≡ stateLength
+
+and-parts : (a b : Bool) → (a && b) ≡ true → (a ≡ true) × (b ≡ true)
+and-parts true b e = (refl, e)
+and-parts false b e = absurd (true≢false (sym e))
+
+module _ (dictionary kernel registers bytes : List ℕ) where
+  sizes-of : allSized dictionary kernel registers bytes ≡ true → Sizes dictionary kernel registers bytes
+  sizes-of e =
+      let p = and-parts (sized dictionary kernel) (eqb (length registers) registerBytes && eqb (length bytes) stateLength) e in
+      let q = and-parts (eqb (length registers) registerBytes) (eqb (length bytes) stateLength) (p .1) in
+      record { all = e; right = p .0; registers-are = eqb-true _ _ (q .0); state-is = eqb-true _ _ (q .1) }
+
+  -- What the code says of the sizes.
+  abbrev pub Told : Bool → Type 0
+  Told t = (t ≡ allSized dictionary kernel registers bytes) × (t ≡ true → Sizes dictionary kernel registers bytes)
+
+  told : (t : Bool) → allSized dictionary kernel registers bytes ≡ t → Told t
+  told t e = (sym e, λ h. sizes-of (e ∙ h))
+
+  -- As the code tests them.
+  pub told-kernel : sized dictionary kernel ≡ false → Told false
+  told-kernel h = told false (rw h)
+
+  module _ (h : sized dictionary kernel ≡ true) where
+    pub told-registers : (length registers ≡ registerBytes → ⊥) → Told false
+    told-registers n = told false (rw (h, ne-eqb _ _ n))
+
+    pub told-state : length registers ≡ registerBytes → Told (eqb (length bytes) stateLength)
+    told-state e = told (eqb (length bytes) stateLength) (rw (h, eq-eqb _ _ e))
+
+-- ---- the kernel's refusals, and 15
+
+-- The kernel is accepted, and the state is legal in it.
+pub record Lawful (dictionary kernel registers bytes : List ℕ) : Type 0 where
+  pub accepts : accepted longAndShort dictionary kernel ≡ good (instructions dictionary kernel)
+  pub judged : judgedKernel longAndShort dictionary kernel ≡ good (instructions dictionary kernel)
+  pub legal : stateLegal (instructions dictionary kernel) registers bytes ≡ true
+
+-- What is said of a kernel and a state: the refusal that any call on them answers, or that they are lawful.
+abbrev pub Admits : List ℕ → List ℕ → List ℕ → List ℕ → Admission → Type 0
+Admits dictionary kernel registers bytes (Barred number offset) =
+    (go : List Instr → paper.State → Changed)
+    → onState registers bytes go (judgedKernel longAndShort dictionary kernel) ≡ unchanged (refusal number offset) registers bytes
+Admits dictionary kernel registers bytes Fine = Lawful dictionary kernel registers bytes
+
+module _ (dictionary kernel bytes : List ℕ) (right : sized dictionary kernel ≡ true) (scan : Scan) (says : Says (accepted longAndShort dictionary kernel) scan) where
+  judged-is : judgedKernel longAndShort dictionary kernel ≡ accepted longAndShort dictionary kernel
+  unfolding accepted
+  judged-is = rw right
+
+  pub admits-refused : scan .good ≡ false → (registers : List ℕ) → Admits dictionary kernel registers bytes (Barred (scan .number) (scan .offset))
+  admits-refused g registers go =
+      ap (onState registers bytes go) (judged-is ∙ says-refused (accepted longAndShort dictionary kernel) scan says g)
+
+  module _ (g : scan .good ≡ true) where
+    is-good : accepted longAndShort dictionary kernel ≡ good (instructions dictionary kernel)
+    unfolding instructions
+    is-good = says-instrs (accepted longAndShort dictionary kernel) scan says g
+
+    marks-land : (p : ℕ) → marked (scan .marks) p ≡ lands (instructions dictionary kernel) p
+    unfolding instructions
+    marks-land p =
+        let a = says-accepted (accepted longAndShort dictionary kernel) scan says g in
+        a .marks p ∙ ap (λ (q : Parsed). lands (instrsOf q) p) (sym (a .judged))
+
+    legal-is : (registers : List ℕ) → legalBy (marked (scan .marks)) bytes ≡ stateLegal (instructions dictionary kernel) registers bytes
+    legal-is registers = legal-same (marked (scan .marks)) (instructions dictionary kernel) marks-land registers bytes
+
+    pub admits-illegal : legalBy (marked (scan .marks)) bytes ≡ false → (registers : List ℕ) → Admits dictionary kernel registers bytes (Barred 15 0)
+    admits-illegal l registers go = rw (judged-is ∙ is-good, sym (legal-is registers) ∙ l)
+
+    pub admits-fine : legalBy (marked (scan .marks)) bytes ≡ true → (registers : List ℕ) → Admits dictionary kernel registers bytes Fine
+    admits-fine l registers = record { accepts = is-good; judged = judged-is ∙ is-good; legal = sym (legal-is registers) ∙ l }
+
+-- ---- the calls, in the code's order
+
+module _ (dictionary kernel registers bytes : List ℕ) where
+  pub step-size : allSized dictionary kernel registers bytes ≡ false → Leaves (Refused 1 0) registers bytes (stepCall dictionary kernel registers bytes)
+  unfolding stepCall
+  step-size h = rw h (refl, refl, refl)
+
+  pub run-size : (budget : ℕ) → allSized dictionary kernel registers bytes ≡ false
+      → Leaves (Refused 1 0) registers bytes (runCall dictionary kernel budget registers bytes)
+  unfolding runCall
+  run-size budget h = rw h (refl, refl, refl)
+
+module _ (dictionary kernel registers bytes : List ℕ) (sizes : Sizes dictionary kernel registers bytes) where
+  pub run-limit : (budget : ℕ) → budgetLimit < budget → Leaves (Refused 16 0) registers bytes (runCall dictionary kernel budget registers bytes)
+  unfolding runCall
+  run-limit budget h = rw (sizes .all, lt-ltb _ _ h) (refl, refl, refl)
+
+  module _ (o : Admission) (admits : Admits dictionary kernel registers bytes o) where
+    module _ (number offset : ℕ) (e : o ≡ Barred number offset) where
+      barred : (go : List Instr → paper.State → Changed)
+          → onState registers bytes go (judgedKernel longAndShort dictionary kernel) ≡ unchanged (refusal number offset) registers bytes
+      barred = subst (λ (o : Admission). Admits dictionary kernel registers bytes o) e admits
+
+      pub step-barred : Leaves (Refused number offset) registers bytes (stepCall dictionary kernel registers bytes)
+      unfolding stepCall
+      step-barred = rw (sizes .all, barred (λ k s. steppedAs (stops k s) registers bytes (step k s))) (refl, refl, refl)
+
+      pub run-barred : (budget : ℕ) → budget ≤ budgetLimit → Leaves (Refused number offset) registers bytes (runCall dictionary kernel budget registers bytes)
+      unfolding runCall
+      run-barred budget h = rw (sizes .all, le-ltb _ _ h, barred (λ k s. ranAs (run k budget s))) (refl, refl, refl)
+
+    pub lawful : o ≡ Fine → Lawful dictionary kernel registers bytes
+    lawful e = subst (λ (o : Admission). Admits dictionary kernel registers bytes o) e admits
+
+-- Of a state s that was read from the bytes.
+module _ (dictionary kernel registers bytes : List ℕ) (sizes : Sizes dictionary kernel registers bytes) (law : Lawful dictionary kernel registers bytes)
+    (s : State) (read : stateIs registers s ≡ stateOf registers bytes) (sane : allThree bytes 16 ≡ true → SaneState s) where
+  abbrev k : List Instr
+  k = instructions dictionary kernel
+
+  ready : Ready dictionary kernel registers bytes k
+  ready = record { sizes = sizes .all; judged = law .judged; legal = law .legal }
+
+  legal-parts : (allThree bytes 16 ≡ true) × (stateLands k (stateOf registers bytes) ≡ true)
+  unfolding stateLegal
+  legal-parts = and-parts (allThree bytes 16) (stateLands k (stateOf registers bytes)) (law .legal)
+
+  -- Steps are made from it.
+  pub opened : Running dictionary kernel registers s
+  opened =
+      let a = accepted-kernel longAndShort dictionary kernel k (law .accepts) in
+      let h = sane (legal-parts .0) in
+      record {
+        accepts = a;
+        lasts =
+            record {
+              holding =
+                  record {
+                    store = record { bytes = sizes .registers-are; flag0 = h .flag0; flag1 = h .flag1 };
+                    count = sixteen-channels (s .channels) (h .channels);
+                  };
+              naming = state-names k (a .sound) (stateIs registers s) (ap (stateLands k) read ∙ legal-parts .1);
+            };
+        sane = h;
+      }
+
+  -- A step at the end,
+  pub step-end : 8 * s .place ≡ length kernel → Leaves (Made 20 0) registers bytes (stepCall dictionary kernel registers bytes)
+  unfolding stepCall
+  step-end h =
+      rw (sizes .all, law .judged, law .legal, ap (stops k) (sym read) ∙ running-end dictionary kernel registers s opened h) (refl, refl, refl)
+
+  -- a step away from it,
+  pub step-made : (8 * s .place ≡ length kernel → ⊥) → (registers′ bytes′ : List ℕ) (s′ : State)
+      → stateIs registers′ s′ ≡ step k (stateIs registers s) → bytes′ ≡ stateBytes (stateIs registers′ s′)
+      → Leaves (Made 0 0) registers′ bytes′ (stepCall dictionary kernel registers bytes)
+  step-made away registers′ bytes′ s′ made wrote =
+      let on : stops k (stateOf registers bytes) ≡ none = ap (stops k) (sym read) ∙ running-on dictionary kernel registers s opened away in
+      let same : stateIs registers′ s′ ≡ step k (stateOf registers bytes) = made ∙ ap (step k) read in
+      rw (step-ready dictionary kernel registers bytes k ready on, ← same) (refl, refl, wrote)
+
+  -- a run.
+  pub run-made : (budget : ℕ) → budget ≤ budgetLimit → (registers′ bytes′ : List ℕ) (out : Outcome)
+      → outcomeIs registers′ out ≡ run k budget (stateIs registers s) → bytes′ ≡ stateBytes (stateIs registers′ (out .state))
+      → Leaves (Made (out .verdict) (out .steps)) registers′ bytes′ (runCall dictionary kernel budget registers bytes)
+  run-made budget h registers′ bytes′ out made wrote =
+      let same : outcomeIs registers′ out ≡ run k budget (stateOf registers bytes) = made ∙ ap (run k budget) read in
+      rw (run-ready dictionary kernel registers bytes k ready budget h, ← same) (refl, refl, wrote)

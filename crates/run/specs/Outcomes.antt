@@ -1,0 +1,63 @@
+-- A run's outcome as the code has it, and what is left of a run from where its loop stands. Assumes nothing.
+use mathlib.Core.List.{List}
+use mathlib.Core.Option.{Option, none, some}
+use mathlib.Core.Path.{_≡_, sym, ap, _∙_}
+use Prim.Native.Nat.{ℕ, zero, suc, _+_, _-_, _<_}
+use native.Mathlib.Omega.{arith}
+use Rattle.paper.specs.Kernel.{Instr}
+use Rattle.paper.specs.Machine as paper
+use Rattle.paper.specs.Machine.{stops, step, run}
+use Rattle.laws.specs.Runs.{still, orSpent, run-zero, run-stop, run-on}
+use Rattle.run.specs.declared.running.Outcome.{Outcome}
+use Rattle.machine.specs.States.{stateIs}
+
+-- The paper's outcome, with the registers that are lent beside the state.
+abbrev pub outcomeIs : List ℕ → Outcome → paper.Outcome
+outcomeIs registers o = record { verdict = o .verdict; steps = o .steps; state = stateIs registers (o .state) }
+
+-- An outcome after n steps more.
+abbrev pub after : ℕ → paper.Outcome → paper.Outcome
+after n o = record { verdict = o .verdict; steps = n + o .steps; state = o .state }
+
+-- The outcome of a run that stops after n steps with verdict v.
+abbrev pub ended : ℕ → ℕ → paper.State → paper.Outcome
+ended v n s = record { verdict = v; steps = n; state = s }
+
+-- The whole run comes to what is left of it from state s, n steps being made.
+abbrev pub Leads : List Instr → ℕ → paper.State → ℕ → paper.State → Type 0
+Leads k budget whole n s = run k budget whole ≡ after n (run k (budget - n) s)
+
+-- Outcomes that differ in how their steps are summed.
+summed : (o : paper.Outcome) (n m : ℕ) → n ≡ m → ended (o .verdict) n (o .state) ≡ ended (o .verdict) m (o .state)
+summed o n m e = λ i. record { verdict = o .verdict; steps = e i; state = o .state }
+
+pub leads-start : (k : List Instr) (budget : ℕ) (whole : paper.State) → Leads k budget whole 0 whole
+leads-start k budget whole =
+    let b : budget ≡ budget - 0 = omega arith in
+    ap (λ (n : ℕ). run k n whole) b ∙ summed (run k (budget - 0) whole) (run k (budget - 0) whole .steps) (0 + run k (budget - 0) whole .steps) (omega arith)
+
+module _ (k : List Instr) (budget : ℕ) (whole : paper.State) (n : ℕ) (s : paper.State) (leads : Leads k budget whole n s) where
+  -- A state that stops the run, with budget left or none.
+  stopped : (m v : ℕ) → stops k s ≡ some v → run k m s ≡ still v s
+  stopped zero v e = run-zero (stops k) (step k) s ∙ rw e
+  stopped (suc m) v e = run-stop (stops k) (step k) m s v e
+
+  pub leads-end : (v : ℕ) → stops k s ≡ some v → ended v n s ≡ run k budget whole
+  leads-end v e = sym (leads ∙ ap (after n) (stopped (budget - n) v e) ∙ summed (still v s) (n + 0) n (omega arith))
+
+  module _ (on : stops k s ≡ none) where
+    -- The budget is spent.
+    pub leads-spent : n ≡ budget → ended 21 budget s ≡ run k budget whole
+    leads-spent e =
+        let z : budget - n ≡ 0 = omega arith in
+        let spent : run k 0 s ≡ still 21 s = run-zero (stops k) (step k) s ∙ ap (λ (o : Option ℕ). still (orSpent o) s) on in
+        sym (leads ∙ ap (λ (m : ℕ). after n (run k m s)) z ∙ ap (after n) spent ∙ summed (still 21 s) (n + 0) budget (omega arith))
+
+    -- One step more.
+    pub leads-on : n < budget → (t : paper.State) → t ≡ step k s → Leads k budget whole (n + 1) t
+    leads-on h t e =
+        let m : budget - n ≡ suc (budget - (n + 1)) = omega arith in
+        let rest = run k (budget - (n + 1)) (step k s) in
+        leads ∙ ap (λ (m : ℕ). after n (run k m s)) m ∙ ap (after n) (run-on (stops k) (step k) (budget - (n + 1)) s on)
+        ∙ summed rest (n + suc (rest .steps)) (n + 1 + rest .steps) (omega arith)
+        ∙ ap (λ (t : paper.State). after (n + 1) (run k (budget - (n + 1)) t)) (sym e)

@@ -1,0 +1,115 @@
+-- A state in the midst of an accepted kernel: what each step needs, what it makes, and that it leaves such a state. Assumes nothing.
+use mathlib.Core.List.{List}
+use mathlib.Core.Option.{Option, none, some}
+use mathlib.Core.Path.{_≡_, refl, sym, ap, _∙_}
+use Prim.Native.Nat.{ℕ, _+_, _*_, _<_}
+use native.Mathlib.Omega.{arith}
+use lib.ListN.{length}
+use Rattle.paper.specs.Limits.{registerBytes}
+use Rattle.paper.specs.Dictionary.{dictionaryOf}
+use Rattle.paper.specs.Legal.{refusalOf}
+use Rattle.paper.specs.Kernel.{Instr, longAndShort}
+use Rattle.paper.specs.Jump.{fetch, targetOf}
+use Rattle.paper.specs.Machine.{stepAt, placeOf, stepOn, step, stopsOn, stops}
+use Rattle.paper.specs.Calls.{accepted}
+use Rattle.laws.specs.Judged.{Passed, asLong, asShort, judge-passed}
+use Rattle.laws.specs.Places.{jump-lands, place-lands}
+use Rattle.laws.specs.Lasting.{Lasting, names-lands, lands-before, step-lasting}
+use Rattle.kernel.specs.Standing.{Whole, Fetches}
+use Rattle.kernel.specs.Marks.{instrsOf}
+use Rattle.kernel.specs.Jumps.{instrOf}
+use Rattle.kernel.specs.Accepting.{AcceptedKernel, accepted-fetch, lands-fetch, fetch-whole, fetch-is}
+use Rattle.machine.specs.declared.state.State.{State}
+use Rattle.machine.specs.Branches.{waysTo}
+use Rattle.machine.specs.States.{stateIs, SaneState}
+
+-- An accepted kernel's instructions; none of a kernel that is refused.
+unfoldable pub instructions : List ℕ → List ℕ → List Instr
+instructions dictionary kernel = instrsOf (accepted longAndShort dictionary kernel)
+
+-- The kernel is accepted; the state is one that its steps keep; the code's numbers are sane.
+pub record Running (dictionary kernel registers : List ℕ) (s : State) : Type 0 where
+  pub accepts : AcceptedKernel longAndShort dictionary kernel (instructions dictionary kernel)
+  pub lasts : Lasting (instructions dictionary kernel) registerBytes (stateIs registers s)
+  pub sane : SaneState s
+
+-- What is known of the instruction at the state's place, of which the code has the size, the word w and the target.
+pub record Steps (dictionary kernel registers : List ℕ) (s : State) (size w target : ℕ) : Type 0 where
+  pub legal : refusalOf w ≡ 0
+  pub near : s .place + size < 65536
+  pub far : target < 65536
+  pub makes : stepAt w (s .place) (waysTo (s .place + size) target) (stateIs registers s)
+      ≡ step (instructions dictionary kernel) (stateIs registers s)
+
+module _ (dictionary kernel registers : List ℕ) (s : State) (r : Running dictionary kernel registers s) where
+  abbrev k : List Instr
+  k = instructions dictionary kernel
+
+  pub running-dictionary : length dictionary ≡ 512
+  running-dictionary = r .accepts .sizes .dictionary-is
+
+  pub running-registers : length registers ≡ registerBytes
+  running-registers = r .lasts .holding .store .bytes
+
+  -- At the end no instruction starts.
+  pub running-end : 8 * s .place ≡ length kernel → stops k (stateIs registers s) ≡ some 20
+  running-end e = go (fetch k (s .place)) refl
+    where
+      go : (o : Option Instr) → fetch k (s .place) ≡ o → stopsOn o ≡ some 20
+      go none f = refl
+      go (some i) f = absurd (let h = accepted-fetch longAndShort dictionary kernel k (r .accepts) (s .place) i f in omega (arith, h .0))
+
+  module _ (away : 8 * s .place ≡ length kernel → ⊥) where
+    -- Away from it one does.
+    there : (i : Instr) × (fetch k (s .place) ≡ some i)
+    there =
+        lands-fetch k (s .place) (names-lands k (s .place) (r .lasts .naming .current)) (λ e. away (ap (λ (p : ℕ). 8 * p) e ∙ r .accepts .ends))
+
+    pub running-on : stops k (stateIs registers s) ≡ none
+    running-on = ap stopsOn (there .1)
+
+    -- Its bytes are there.
+    pub running-whole : Whole kernel (8 * s .place)
+    running-whole = fetch-whole longAndShort dictionary kernel k (r .accepts) (s .place) (there .0) (there .1)
+
+    module _ (size w : ℕ) (f : Fetches (dictionaryOf dictionary) kernel (8 * s .place) size w) where
+      found : fetch k (s .place) ≡ some (instrOf (s .place) size w)
+      found = there .1 ∙ ap some (fetch-is longAndShort dictionary kernel k (r .accepts) (s .place) (there .0) (there .1) size w f)
+
+      passes : Passed longAndShort (dictionaryOf dictionary) kernel (8 * s .place) size w
+      passes =
+          let a = accepted-fetch longAndShort dictionary kernel k (r .accepts) (s .place) (instrOf (s .place) size w) found in
+          judge-passed longAndShort (dictionaryOf dictionary) kernel (8 * s .place) (a .0) size w (a .2)
+
+      word-legal : {n v : ℕ} → Passed longAndShort (dictionaryOf dictionary) kernel (8 * s .place) n v → refusalOf v ≡ 0
+      word-legal (asLong room form listed legal) = legal
+      word-legal (asShort room form listed plain takes legal) = legal
+
+      target-less : placeOf (targetOf (instrOf (s .place) size w)) < 65536
+      target-less =
+          let sound = r .accepts .sound in
+          let j = jump-lands k k (s .place) (instrOf (s .place) size w) (sound .land) found in
+          let l = place-lands k (sound .laid) (targetOf (instrOf (s .place) size w)) j in
+          let b = lands-before k (sound .laid) (placeOf (targetOf (instrOf (s .place) size w))) l in
+          omega (arith, r .accepts .ends, r .accepts .sizes .kernel-most)
+
+      pub running-steps : (target : ℕ) → target ≡ placeOf (targetOf (instrOf (s .place) size w)) → Steps dictionary kernel registers s size w target
+      unfolding stepOn
+      running-steps target e =
+          let whole = running-whole in
+          record {
+            legal = word-legal passes;
+            near = omega (arith, f .size-is, r .accepts .sizes .kernel-most);
+            far = rw e target-less;
+            makes = rw e (sym (ap (λ (o : Option Instr). stepOn o (stateIs registers s)) found));
+          }
+
+  -- A step leaves such a state.
+  pub running-after : (registers′ : List ℕ) (s′ : State) → stateIs registers′ s′ ≡ step k (stateIs registers s) → SaneState s′
+      → Running dictionary kernel registers′ s′
+  running-after registers′ s′ e sane =
+      record {
+        accepts = r .accepts;
+        lasts = rw e (step-lasting k (r .accepts .sound) registerBytes (stateIs registers s) (r .lasts));
+        sane = sane;
+      }

@@ -1,0 +1,134 @@
+// The calls step and run over lent bytes. A refusal changes nothing.
+use crate::legal::is_legal;
+use crate::running::advance;
+use crate::running::at_end;
+use crate::running::run_from;
+use kernel::accept::accept;
+use kernel::accept::is_sized;
+use machine::state::read_state;
+use machine::state::write_state;
+ghost use mathlib.Core.Path.{_≡_};
+ghost use mathlib.Core.Bool.{true};
+ghost use mathlib.Core.List.{List};
+ghost use Prim.Native.Nat.{ℕ, _≤_};
+ghost use lib.ListN.{length};
+ghost use Rattle.paper.specs.Limits.{stateLength, budgetLimit};
+ghost use Rattle.paper.specs.Calls.{sized, stepCall, runCall};
+ghost use Rattle.run.specs.Answers.{ranIs, Leaves, Told, Sizes, Lawful, Admits};
+
+// A verdict and how many steps were made; or a refusal's number and the byte offset of the instruction.
+pub enum Ran {
+    Made(u8, u64),
+    Refused(u8, u64),
+}
+
+// What is said of a kernel and a state before a step is made.
+pub enum Admission {
+    Fine,
+    Barred(u8, u64),
+}
+
+// 1 of all that is lent to a step or a run.
+fn are_sized(dictionary: &[u8], kernel: &[u8], registers: &[u8], state: &[u8]) -> bool
+    ensures { λ r. ⌜ Told (now (dictionary .entry)) (now (kernel .entry)) (now (registers .entry)) (now (state .entry)) r ⌝ }
+{
+    if !is_sized(dictionary, kernel) {
+        return false;
+    }
+    if registers.len() != 4096 {
+        return false;
+    }
+    state.len() == 42
+}
+
+// The kernel's own refusals, then 15.
+fn admit(dictionary: &[u8], kernel: &[u8], state: &[u8]) -> Admission
+    requires { ⌜ (sized (now dictionary) (now kernel) ≡ true) × (length (now state) ≡ stateLength) ⌝ }
+    ensures { λ r. ⌜ ((registers : List ℕ) → Admits (now (dictionary .entry)) (now (kernel .entry)) registers (now (state .entry)) r) ⌝ }
+{
+    let scan = accept(false, dictionary, kernel);
+    if !scan.good {
+        return Admission::Barred(scan.number, scan.offset);
+    }
+    let marks = scan.marks;
+    if !is_legal(&marks, state) {
+        return Admission::Barred(15, 0);
+    }
+    Admission::Fine
+}
+
+// One step of an accepted kernel from a legal state; 20 at the end, where nothing is written.
+fn step_lawful(dictionary: &[u8], kernel: &[u8], registers: &mut [u8], state: &mut [u8]) -> Ran
+    requires { ⌜ Sizes (now dictionary) (now kernel) (now registers) (now state) × Lawful (now dictionary) (now kernel) (now registers) (now state) ⌝ }
+    ensures { λ r. ⌜ Leaves r (now (registers .exit)) (now (state .exit))
+        (stepCall (now (dictionary .entry)) (now (kernel .entry)) (now (registers .entry)) (now (state .entry))) ⌝ }
+{
+    let s = read_state(state);
+    if at_end(kernel, s) {
+        return Ran::Made(20, 0);
+    }
+    let after = advance(dictionary, kernel, registers, s);
+    write_state(state, after);
+    Ran::Made(0, 0)
+}
+
+// A run of an accepted kernel from a legal state.
+fn run_lawful(
+    dictionary: &[u8],
+    kernel: &[u8],
+    budget: u64,
+    registers: &mut [u8],
+    state: &mut [u8],
+) -> Ran
+    requires { ⌜ Sizes (now dictionary) (now kernel) (now registers) (now state) × Lawful (now dictionary) (now kernel) (now registers) (now state) ⌝ }
+    requires { ⌜ budget ≤ budgetLimit ⌝ }
+    ensures { λ r. ⌜ Leaves r (now (registers .exit)) (now (state .exit))
+        (runCall (now (dictionary .entry)) (now (kernel .entry)) budget (now (registers .entry)) (now (state .entry))) ⌝ }
+{
+    let s = read_state(state);
+    let out = run_from(dictionary, kernel, budget, registers, s);
+    let after = out.state;
+    write_state(state, after);
+    Ran::Made(out.verdict, out.steps)
+}
+
+// One step from the lent state; 20 at the end.
+pub fn step(dictionary: &[u8], kernel: &[u8], registers: &mut [u8], state: &mut [u8]) -> Ran
+    ensures { λ r. ⌜ (ranIs r ≡ stepCall (now (dictionary .entry)) (now (kernel .entry)) (now (registers .entry)) (now (state .entry)) .answer)
+        × (now (registers .exit) ≡ stepCall (now (dictionary .entry)) (now (kernel .entry)) (now (registers .entry)) (now (state .entry)) .registers)
+        × (now (state .exit) ≡ stepCall (now (dictionary .entry)) (now (kernel .entry)) (now (registers .entry)) (now (state .entry)) .state) ⌝ }
+{
+    if !are_sized(dictionary, kernel, registers, state) {
+        return Ran::Refused(1, 0);
+    }
+    let o = admit(dictionary, kernel, state);
+    match o {
+        Admission::Barred(number, offset) => Ran::Refused(number, offset),
+        Admission::Fine => step_lawful(dictionary, kernel, registers, state),
+    }
+}
+
+// Steps from the lent state until the end, 20, or until the budget is spent, 21. 16 for a budget over the limit.
+pub fn run(
+    dictionary: &[u8],
+    kernel: &[u8],
+    budget: u64,
+    registers: &mut [u8],
+    state: &mut [u8],
+) -> Ran
+    ensures { λ r. ⌜ (ranIs r ≡ runCall (now (dictionary .entry)) (now (kernel .entry)) budget (now (registers .entry)) (now (state .entry)) .answer)
+        × (now (registers .exit) ≡ runCall (now (dictionary .entry)) (now (kernel .entry)) budget (now (registers .entry)) (now (state .entry)) .registers)
+        × (now (state .exit) ≡ runCall (now (dictionary .entry)) (now (kernel .entry)) budget (now (registers .entry)) (now (state .entry)) .state) ⌝ }
+{
+    if !are_sized(dictionary, kernel, registers, state) {
+        return Ran::Refused(1, 0);
+    }
+    if 1000000 < budget {
+        return Ran::Refused(16, 0);
+    }
+    let o = admit(dictionary, kernel, state);
+    match o {
+        Admission::Barred(number, offset) => Ran::Refused(number, offset),
+        Admission::Fine => run_lawful(dictionary, kernel, budget, registers, state),
+    }
+}

@@ -1,0 +1,20 @@
+-- The callee's answer as a number. Assumes nothing.
+use mathlib.Core.Path.{sym, ap, _∙_}
+use Rattle.paper.specs.Calls.{asNumber}
+use Rattle.spokeshaver.specs.Small.{small-as}
+use Rattle.spokeshaver.specs.Calls.{check-small}
+use borrow.Author.Needs.{needs}
+use Rattle.spokeshaver.proofs.spokeshaver_check.Statement.{statement}
+use Rattle.spokeshaver.proofs.spokeshaver_check.Tie as tie
+
+check-requires : tie.Need-check-requires
+check-requires c κs = search needs
+
+checked-requires : tie.Need-checked-requires
+checked-requires c κs = small-as _ _ (sym (c .check .ensures)) (check-small _ _)
+
+returns : tie.Need-returns
+returns c = c .checked .ensures ∙ ap asNumber (c .before .check .ensures)
+
+pub spokeshaver-check-spec : {M : Type 1} → statement M
+spokeshaver-check-spec = tie.close (tie.spec check-requires checked-requires returns)

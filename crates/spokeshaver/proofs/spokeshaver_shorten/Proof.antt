@@ -1,0 +1,23 @@
+-- The callee's answer as a number, and what it leaves. Assumes nothing.
+use mathlib.Core.Path.{sym, ap, _∙_}
+use Rattle.paper.specs.Calls.{asNumber}
+use Rattle.spokeshaver.specs.Small.{small-as}
+use Rattle.spokeshaver.specs.Calls.{shorten-small}
+use borrow.Author.Needs.{needs}
+use Rattle.spokeshaver.proofs.spokeshaver_shorten.Statement.{statement}
+use Rattle.spokeshaver.proofs.spokeshaver_shorten.Tie as tie
+
+shorten-word-requires : tie.Need-shorten-word-requires
+shorten-word-requires c κs = search needs
+
+wrote-requires : tie.Need-wrote-requires
+wrote-requires c κs = small-as _ _ (sym (c .before .before .shorten-word .ensures .0)) (shorten-small _ _ _)
+
+same-length : tie.Need-same-length
+same-length c = search needs
+
+returns : tie.Need-returns
+returns c = (c .wrote .ensures ∙ ap asNumber (c .before .before .before .shorten-word .ensures .0), c .before .before .before .shorten-word .ensures .1)
+
+pub spokeshaver-shorten-spec : {M : Type 1} → statement M
+spokeshaver-shorten-spec = tie.close (tie.spec shorten-word-requires wrote-requires same-length returns)

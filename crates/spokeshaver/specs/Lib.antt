@@ -1,0 +1,5 @@
+-- Answers as one number: what fits in it, that it can be taken apart again, and that every call's answer fits.
+pub mod Small
+pub mod Judging
+pub mod Kernels
+pub mod Calls

@@ -1,0 +1,121 @@
+/* Spokeshaver: decode, check, pack, unpack and run small graphics kernels.
+ *
+ * Link with libspokeshaver.a (x86-64 Linux; it needs only memcpy and memset of the C library). No call keeps anything between calls, takes memory,
+ * writes a file or fails to return. Every call's answer, and every byte of what is lent to it, is proved to be what the rules say, for all inputs.
+ *
+ * What is lent
+ *   A buffer is a pointer and a length in bytes. What is lent as `const uint8_t *` is read only; what is lent as `uint8_t *` may be written.
+ *   A call may be given any bytes and any lengths: a wrong size is an answer (1), not an error of the program.
+ *   What the caller must not do, since no call can see it:
+ *   - lend a NULL or stale pointer with a length over 0, or a length that is more than the memory behind the pointer. With length 0 any pointer will do.
+ *   - lend for writing what overlaps anything else that is lent to the same call. What is only read may overlap.
+ *   - let another thread write what is lent, or touch what is lent for writing, while the call runs. Calls on separate memory may run at once.
+ *   A refusal changes nothing that was lent. Of an output, only the result's bytes are written; what lies behind them stays.
+ *
+ * Sizes
+ *   dictionary  512 bytes: 128 little-endian numbers of four bytes, 32 each for control (17 bits), datatype (18), subregister (15), source (12)
+ *   kernel      0 to 16,384 bytes, 0 to 1,024 instructions of 8 bytes (short) or 16 bytes (long)
+ *   registers   4,096 bytes: r0 to r127, 32 bytes each
+ *   state       42 bytes, below
+ *   A place is an offset in a kernel in units of 8 bytes.
+ *
+ * The state's bytes, all numbers 16 bits little-endian
+ *    0  flag f0.0, bit n for channel n
+ *    2  flag f0.1
+ *    4  place of the next instruction; at the kernel's end the run is over
+ *    6  awake mask, bit n for channel n
+ *    8  waiting mask
+ *   10  sixteen places, one for each channel: where it waits; 0 if it does not wait
+ *   A channel is awake (its awake bit alone), waiting (its waiting bit alone) or off (neither). Anything else is refused (15).
+ */
+#ifndef SPOKESHAVER_H
+#define SPOKESHAVER_H
+
+#include <stddef.h>
+#include <stdint.h>
+
+#ifdef __cplusplus
+extern "C" {
+#endif
+
+/* Sizes in bytes, and limits. */
+#define SPOKESHAVER_DICTIONARY_BYTES 512
+#define SPOKESHAVER_REGISTER_BYTES 4096
+#define SPOKESHAVER_STATE_BYTES 42
+#define SPOKESHAVER_KERNEL_MOST 16384
+#define SPOKESHAVER_INSTRUCTIONS_MOST 1024
+#define SPOKESHAVER_BUDGET_MOST 1000000
+#define SPOKESHAVER_LONG_WORD_BYTES 16
+#define SPOKESHAVER_SHORT_WORD_BYTES 8
+
+/* An answer is one number; these take it apart.
+ *   NUMBER  a verdict or a refusal, below
+ *   OFFSET  of a refused instruction, in bytes from the kernel's start; 0 for 1, 2, 13 to 16 and every verdict
+ *   COUNT   instructions (check); bytes of the result (pack, unpack, shorten, expand) or of the instruction (decode); steps made (run);
+ *           0 for start, step and every refusal */
+#define SPOKESHAVER_NUMBER(answer) ((unsigned)((uint64_t)(answer) & 0xFF))
+#define SPOKESHAVER_OFFSET(answer) ((uint32_t)((uint64_t)(answer) >> 8 & 0xFFFFFF))
+#define SPOKESHAVER_COUNT(answer) ((uint32_t)((uint64_t)(answer) >> 32))
+
+/* Verdicts. */
+#define SPOKESHAVER_ACCEPTED 0 /* accepted, written, or one step made */
+#define SPOKESHAVER_ENDED 20   /* step, run: the place is the kernel's end */
+#define SPOKESHAVER_SPENT 21   /* run: the budget is spent short of the end */
+
+/* Refusals. Where more than one would do, the first of this list is given: 3 to 11 and 17 instruction by instruction, 12 after all have passed. */
+#define SPOKESHAVER_WRONG_SIZE 1        /* registers, state or dictionary of another size, a kernel over 16,384 bytes, a word not 8 or 16 bytes */
+#define SPOKESHAVER_BUDGET_OVER 16      /* a budget over 1,000,000 */
+#define SPOKESHAVER_WIDE_DICTIONARY 2   /* a dictionary number is wider than its table */
+#define SPOKESHAVER_TOO_MANY 17         /* this would be the 1,025th instruction */
+#define SPOKESHAVER_CUT_SHORT 3         /* under 8 bytes left, or a long word with under 16; decode: a place at or past the end */
+#define SPOKESHAVER_UNLISTED 4          /* an opcode that is not listed */
+#define SPOKESHAVER_WRONG_FORM 5        /* a short branch; a short word where a long one is asked, or the reverse */
+#define SPOKESHAVER_RESERVED_BITS 6     /* a bit is set that must be clear */
+#define SPOKESHAVER_NOT_SERVED 7        /* a field has a value that is not served */
+#define SPOKESHAVER_OPERAND_RULE 8      /* an operand rule is broken */
+#define SPOKESHAVER_REGION_SHAPE 9      /* a stride or width is undefined, the size is under the width, or the destination's stride is 0 */
+#define SPOKESHAVER_UNALIGNED 10        /* a subregister is no multiple of the element's size */
+#define SPOKESHAVER_OUT_OF_REACH 11     /* an operand spans more than two registers, or goes past r127 */
+#define SPOKESHAVER_STRAY_JUMP 12       /* a jump lands on no instruction's start and not on the end */
+#define SPOKESHAVER_BAD_STATE 15        /* a place in the state is no instruction's start and not the end, or a channel is none of the three */
+#define SPOKESHAVER_NO_SHORT_WORD 13    /* shorten: no short word expands to it */
+#define SPOKESHAVER_OUTPUT_TOO_SHORT 14 /* the output is shorter than the result */
+
+/* Is the kernel accepted? ACCEPTED with its instructions as count; or 1, 2, 3 to 12, 17. */
+uint64_t spokeshaver_check(const uint8_t *dictionary, size_t dictionary_len, const uint8_t *kernel, size_t kernel_len);
+
+/* Packs a kernel of long words: each that can be is shortened, each jump still reaches the same instruction. The result stands at the front of `out`;
+ * kernel_len bytes are always enough for it. ACCEPTED with the result's bytes as count; or what check refuses, 5 for a short word, 14. */
+uint64_t spokeshaver_pack(const uint8_t *dictionary, size_t dictionary_len, const uint8_t *kernel, size_t kernel_len, uint8_t *out, size_t out_len);
+
+/* Unpacks a kernel: every word becomes long. 16 bytes for each instruction are enough, and so 2 * kernel_len bytes are.
+ * ACCEPTED with the result's bytes as count; or what check refuses, 14. */
+uint64_t spokeshaver_unpack(const uint8_t *dictionary, size_t dictionary_len, const uint8_t *kernel, size_t kernel_len, uint8_t *out, size_t out_len);
+
+/* Shortens one long word of 16 bytes to the smallest short word that expands to it. ACCEPTED with count 8; or 1, 2, 4, 5, 13, 14. */
+uint64_t spokeshaver_shorten(const uint8_t *dictionary, size_t dictionary_len, const uint8_t *word, size_t word_len, uint8_t *out, size_t out_len);
+
+/* Expands one short word of 8 bytes. ACCEPTED with count 16; or 1, 2, 4, 5, 14. */
+uint64_t spokeshaver_expand(const uint8_t *dictionary, size_t dictionary_len, const uint8_t *word, size_t word_len, uint8_t *out, size_t out_len);
+
+/* Judges the one instruction at a place, which need not be one that the kernel itself has there. Its bytes are `count` bytes from
+ * kernel + 8 * place on. ACCEPTED with count 8 or 16; or 1, 2, 3 to 11. */
+uint64_t spokeshaver_decode(const uint8_t *dictionary, size_t dictionary_len, const uint8_t *kernel, size_t kernel_len, uint64_t place);
+
+/* Writes the state before the first step: place 0, channel n awake if bit n of the mask is 1 and off for good if it is 0. ACCEPTED, or 1. */
+uint64_t spokeshaver_start(uint16_t mask, uint16_t flag0, uint16_t flag1, uint8_t *state, size_t state_len);
+
+/* Judges the kernel and the state, then makes one step. ACCEPTED; ENDED, where nothing changes; or what check refuses, 15. */
+uint64_t spokeshaver_step(const uint8_t *dictionary, size_t dictionary_len, const uint8_t *kernel, size_t kernel_len,
+                          uint8_t *registers, size_t registers_len, uint8_t *state, size_t state_len);
+
+/* Judges the kernel and the state once, then makes the budget's steps unless the end comes first. ENDED or SPENT with the steps made as count; or
+ * what check refuses, 15, 16. After SPENT a further run goes on where this one stopped. */
+uint64_t spokeshaver_run(const uint8_t *dictionary, size_t dictionary_len, const uint8_t *kernel, size_t kernel_len, uint64_t budget,
+                         uint8_t *registers, size_t registers_len, uint8_t *state, size_t state_len);
+
+#ifdef __cplusplus
+}
+#endif
+
+#endif

@@ -1,0 +1,234 @@
+//! The work of one decoded operation, in loops over its channels (paper: "Operations").
+//!
+//! Every value of the bench and every result before clamping fits 64 signed bits: the widest
+//! is a dword shifted up by 31.
+
+use crate::decoded::{Condition, Decoded, Destination, Layout, Modifier, Predicate, Source};
+use crate::operations::{ElementType, Operation};
+use crate::regions::FILE_BYTES;
+use crate::state::State;
+
+/// The register file.
+pub type Registers = [u8; FILE_BYTES];
+
+/// The channels whose predicate holds, whether awake or not.
+#[inline]
+pub fn predicate_mask(predicate: &Predicate, state: &State) -> u16 {
+    if predicate.is_used {
+        state.flags[predicate.flag] ^ predicate.inversion
+    } else {
+        u16::MAX
+    }
+}
+
+/// Makes an operation that is no branch.
+#[inline]
+pub fn execute(instruction: &Decoded, registers: &mut Registers, state: &mut State) {
+    match instruction.channels {
+        16 => execute_channels::<16>(instruction, registers, state),
+        8 => execute_channels::<8>(instruction, registers, state),
+        4 => execute_channels::<4>(instruction, registers, state),
+        2 => execute_channels::<2>(instruction, registers, state),
+        _ => execute_channels::<1>(instruction, registers, state),
+    }
+}
+
+/// The work of an operation on `N` channels. Masks here are counted from the operation's own
+/// first channel.
+fn execute_channels<const N: usize>(
+    instruction: &Decoded,
+    registers: &mut Registers,
+    state: &mut State,
+) {
+    let own = u16::MAX >> (16 - N);
+    let first = instruction.first_channel;
+    let holding = predicate_mask(&instruction.predicate, state) >> first;
+    let awake = if instruction.ignores_mask { own } else { (state.awake >> first) & own };
+    let enabled = match instruction.operation {
+        Operation::Sel => awake,
+        _ => awake & holding,
+    };
+    if enabled == 0 && instruction.operation != Operation::Cmp {
+        return;
+    }
+    let left = load::<N>(registers, &instruction.sources[0]);
+    let right = load::<N>(registers, &instruction.sources[1]);
+    let results = match instruction.operation {
+        Operation::Sel => select(&left, &right, holding),
+        Operation::Cmp => {
+            let results = compare(&left, &right, instruction.condition);
+            let bits = mask_of(&results) & enabled;
+            let flag = &mut state.flags[instruction.predicate.flag];
+            *flag = (*flag & !(own << first)) | (bits << first);
+            results
+        }
+        operation => combine(operation, left, &right),
+    };
+    if let Some(destination) = &instruction.destination {
+        store::<N>(registers, destination, results, enabled);
+    }
+}
+
+#[inline]
+fn load<const N: usize>(registers: &Registers, source: &Source) -> [i64; N] {
+    let (layout, element, modifier) = match source {
+        Source::Immediate(value) => return [*value; N],
+        Source::Elements { layout, element, modifier } => (layout, element, modifier),
+    };
+    let values = match element {
+        ElementType::Ud => gather(registers, layout, |bytes| u32::from_le_bytes(bytes) as i64),
+        ElementType::D => gather(registers, layout, |bytes| i32::from_le_bytes(bytes) as i64),
+        ElementType::Uw => gather(registers, layout, |bytes| u16::from_le_bytes(bytes) as i64),
+        ElementType::W => gather(registers, layout, |bytes| i16::from_le_bytes(bytes) as i64),
+        ElementType::Ub => gather(registers, layout, |bytes| u8::from_le_bytes(bytes) as i64),
+        ElementType::B => gather(registers, layout, |bytes| i8::from_le_bytes(bytes) as i64),
+    };
+    match modifier {
+        Modifier::None => values,
+        Modifier::Absolute => values.map(|value| value.abs()),
+        Modifier::Negated => values.map(|value| -value),
+        Modifier::NegatedAbsolute => values.map(|value| -value.abs()),
+    }
+}
+
+/// Reads `N` elements of `SIZE` bytes.
+#[inline]
+fn gather<const N: usize, const SIZE: usize>(
+    registers: &Registers,
+    layout: &Layout,
+    value_of: impl Fn([u8; SIZE]) -> i64,
+) -> [i64; N] {
+    let mut values = [0; N];
+    match *layout {
+        Layout::Single { start } => {
+            values = [value_of(element_at(registers, start)); N];
+        }
+        Layout::Packed { start } => {
+            let part = &registers[start..start + N * SIZE];
+            for (value, bytes) in values.iter_mut().zip(part.chunks_exact(SIZE)) {
+                *value = value_of(bytes.try_into().expect("a whole element"));
+            }
+        }
+        Layout::Rows { start, row_step, column_step, width_shift } => {
+            let column_mask = (1 << width_shift) - 1;
+            for (n, value) in values.iter_mut().enumerate() {
+                let row = n >> width_shift;
+                let column = n & column_mask;
+                let byte = start + row * row_step + column * column_step;
+                *value = value_of(element_at(registers, byte));
+            }
+        }
+    }
+    values
+}
+
+#[inline]
+fn element_at<const SIZE: usize>(registers: &Registers, start: usize) -> [u8; SIZE] {
+    registers[start..start + SIZE].try_into().expect("a whole element")
+}
+
+/// Writes the enabled ones of `N` results, clamped or modulo the type's width.
+#[inline]
+fn store<const N: usize>(
+    registers: &mut Registers,
+    destination: &Destination,
+    results: [i64; N],
+    enabled: u16,
+) {
+    let element = destination.element;
+    let results = if destination.saturates {
+        let (least, greatest) = (element.minimum() as i64, element.maximum() as i64);
+        results.map(|value| value.clamp(least, greatest))
+    } else {
+        results
+    };
+    match element.size() {
+        4 => {
+            scatter(registers, destination, &results, enabled, |value| (value as u32).to_le_bytes())
+        }
+        2 => {
+            scatter(registers, destination, &results, enabled, |value| (value as u16).to_le_bytes())
+        }
+        _ => scatter(registers, destination, &results, enabled, |value| [value as u8]),
+    }
+}
+
+#[inline]
+fn scatter<const N: usize, const SIZE: usize>(
+    registers: &mut Registers,
+    destination: &Destination,
+    results: &[i64; N],
+    enabled: u16,
+    bytes_of: impl Fn(i64) -> [u8; SIZE],
+) {
+    let start = destination.start;
+    let all = u16::MAX >> (16 - N);
+    if destination.step == SIZE && enabled == all {
+        let part = &mut registers[start..start + N * SIZE];
+        for (bytes, &value) in part.chunks_exact_mut(SIZE).zip(results) {
+            bytes.copy_from_slice(&bytes_of(value));
+        }
+        return;
+    }
+    for (n, &value) in results.iter().enumerate() {
+        if (enabled >> n) & 1 == 1 {
+            let byte = start + n * destination.step;
+            registers[byte..byte + SIZE].copy_from_slice(&bytes_of(value));
+        }
+    }
+}
+
+/// The results of the operations that hang on the two values alone.
+#[inline]
+fn combine<const N: usize>(operation: Operation, left: [i64; N], right: &[i64; N]) -> [i64; N] {
+    match operation {
+        Operation::Mov => left,
+        Operation::Not => left.map(|value| !value & LOW),
+        Operation::And => each(&left, right, |a, b| a & b & LOW),
+        Operation::Or => each(&left, right, |a, b| (a | b) & LOW),
+        Operation::Xor => each(&left, right, |a, b| (a ^ b) & LOW),
+        Operation::Shl => each(&left, right, |a, b| a << (b & 31)),
+        Operation::Shr | Operation::Asr => each(&left, right, |a, b| a >> (b & 31)),
+        Operation::Add => each(&left, right, |a, b| a + b),
+        Operation::Mul => each(&left, right, |a, b| a * b),
+        Operation::Avg => each(&left, right, |a, b| (a + b + 1) >> 1),
+        other => unreachable!("{other:?} combines nothing"),
+    }
+}
+
+/// The low 32 bits, on which logic works.
+const LOW: i64 = 0xFFFF_FFFF;
+
+#[inline]
+fn each<const N: usize>(
+    left: &[i64; N],
+    right: &[i64; N],
+    operation: impl Fn(i64, i64) -> i64,
+) -> [i64; N] {
+    std::array::from_fn(|n| operation(left[n], right[n]))
+}
+
+/// src0 where the predicate holds, else src1.
+#[inline]
+fn select<const N: usize>(left: &[i64; N], right: &[i64; N], holding: u16) -> [i64; N] {
+    std::array::from_fn(|n| if (holding >> n) & 1 == 1 { left[n] } else { right[n] })
+}
+
+/// 1 where src0 stands to src1 as the condition says, else 0.
+#[inline]
+fn compare<const N: usize>(left: &[i64; N], right: &[i64; N], condition: Condition) -> [i64; N] {
+    match condition {
+        Condition::Zero => each(left, right, |a, b| (a == b) as i64),
+        Condition::NotZero => each(left, right, |a, b| (a != b) as i64),
+        Condition::Greater => each(left, right, |a, b| (a > b) as i64),
+        Condition::GreaterOrEqual => each(left, right, |a, b| (a >= b) as i64),
+        Condition::Less => each(left, right, |a, b| (a < b) as i64),
+        Condition::LessOrEqual => each(left, right, |a, b| (a <= b) as i64),
+    }
+}
+
+/// The mask of the channels whose result is 1.
+#[inline]
+fn mask_of<const N: usize>(results: &[i64; N]) -> u16 {
+    results.iter().enumerate().fold(0, |mask, (n, &result)| mask | ((result as u16) << n))
+}
