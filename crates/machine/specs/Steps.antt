@@ -4,13 +4,12 @@ use mathlib.Core.Bool.{Bool, false≢true}
 use mathlib.Core.List.{List, map}
 use Prim.Native.Nat.{ℕ, _<_}
 use lib.Dec.{lit<}
-use lib.ListN.{replicate}
+use lib.ListN.{replicate, getD-replicate}
 use Rattle.paper.specs.Operation.{nop, unlisted, operation}
 use Rattle.paper.specs.Enable.{Store}
 use Rattle.paper.specs.Effect.{effect}
 use Rattle.paper.specs.Machine.{Channel, State, Ways, isAwake, pass, startFrom}
 use Rattle.lanes.specs.Masks.{awakeList}
-use Rattle.lanes.specs.Values.{getD-copies}
 use Rattle.execute.specs.Awake.{awake-list}
 use Rattle.machine.specs.declared.channels.Channels.{Channels}
 use Rattle.machine.specs.Together.{bit-zero}
@@ -68,6 +67,6 @@ start-sane mask h =
       awakeFits = h;
       waitingFits = lit< tt;
       apart = λ k q e. absurd (false≢true (sym (bit-zero k) ∙ e));
-      zeros = λ k q e. getD-copies 0 k q;
-      fits = λ k q. rw (getD-copies 0 k q) (lit< tt);
+      zeros = λ k q e. getD-replicate {A = ℕ} 16 k 0 0 q;
+      fits = λ k q. rw (getD-replicate {A = ℕ} 16 k 0 0 q) (lit< tt);
     }
