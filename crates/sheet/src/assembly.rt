@@ -1,5 +1,9 @@
 // Words, dictionaries and the answers' parts, as the sheet's rows use them.
 use crate::bytes::put_dword;
+ghost use mathlib.Core.Path.{_≡_};
+ghost use Prim.Native.Nat.{_<_};
+ghost use Rattle.paper.specs.Calls.{Answer, asNumber};
+ghost use Rattle.spokeshaver.specs.Small.{Small};
 
 // Where the numbers of the datatype and of the source table start in a dictionary's bytes; those of the control table start at 0.
 const DATATYPE: usize = 128;
@@ -20,13 +24,13 @@ pub const SHORT_LOW: u64 = 0xE0004140;
 pub const SHORT_HIGH: u64 = 0x03020418;
 
 // Stores the long word of four dwords, the lowest first, from `at` on.
-pub fn put_long(kernel: &mut [u8], at: usize, a: u64, b: u64, c: u64, d: u64) {
-    if at <= 16384 {
-        put_dword(kernel, at, a);
-        put_dword(kernel, at + 4, b);
-        put_dword(kernel, at + 8, c);
-        put_dword(kernel, at + 12, d);
-    }
+pub fn put_long(kernel: &mut [u8], at: usize, a: u64, b: u64, c: u64, d: u64)
+    requires { ⌜ at < 16384 ⌝ }
+{
+    put_dword(kernel, at, a);
+    put_dword(kernel, at + 4, b);
+    put_dword(kernel, at + 8, c);
+    put_dword(kernel, at + 12, d);
 }
 
 // Row A's dictionary: zero but control 1, datatype 2 and source 3. The datatype entry is row A's 0x94A5, or the one that an immediate second source needs.
@@ -37,11 +41,15 @@ pub fn put_entries(dictionary: &mut [u8], datatype: u64) {
 }
 
 // An answer's number.
-pub fn number(answer: u64) -> u64 {
+pub fn number(answer: u64) -> u64
+    ensures { λ r. ⌜ ((a : Answer) → Small a → answer ≡ asNumber a → r ≡ a .number) ⌝ }
+{
     answer % 0x100
 }
 
 // An answer's count.
-pub fn count(answer: u64) -> u64 {
+pub fn count(answer: u64) -> u64
+    ensures { λ r. ⌜ ((a : Answer) → Small a → answer ≡ asNumber a → r ≡ a .count) ⌝ }
+{
     answer / 0x1_0000_0000
 }

@@ -103,17 +103,11 @@ pub fn row_f() {
 
 // ---- G
 
-// The sixteen bytes from r4.0 on after a mov of size 16 of bytes from r2.0 on, whose byte n holds n, by the region.
-fn moved_by(region: u64) -> [u8; 16] {
+// The sixteen bytes from r4.0 on after a mov of size 16 of bytes from r2.0 on, whose byte n holds n. The dword names
+// r2.0 and the region.
+fn moved_by(source: u64) -> [u8; 16] {
     let mut kernel = [0u8; 16];
-    put_long(
-        &mut kernel,
-        0,
-        0x00800001,
-        0x20800231,
-        0x40 + region % 0x1_0000_0000,
-        0,
-    );
+    put_long(&mut kernel, 0, 0x00800001, 0x20800231, source, 0);
     let mut registers = [0u8; 4096];
     put_dword(&mut registers, R2, 0x03020100);
     put_dword(&mut registers, R2 + 4, 0x07060504);
@@ -131,10 +125,10 @@ fn moved_by(region: u64) -> [u8; 16] {
 
 // Row G.
 pub fn row_g() {
-    let columns = moved_by(0x002B0000);
+    let columns = moved_by(0x002B0040);
     let by_columns: [u8; 16] = [0, 4, 8, 12, 1, 5, 9, 13, 2, 6, 10, 14, 3, 7, 11, 15];
     figures(b"G: <1;4,4> reads", &columns, &by_columns);
-    let rows = moved_by(0x00690000);
+    let rows = moved_by(0x00690040);
     let by_rows: [u8; 16] = [0, 1, 2, 3, 4, 5, 6, 7, 8, 9, 10, 11, 12, 13, 14, 15];
     figures(b", <4;4,1> reads", &rows, &by_rows);
     say(b"\n");

@@ -7,16 +7,13 @@ use Rattle.sheet.proofs.elements.moved_by.Statement.{statement}
 use Rattle.sheet.proofs.elements.moved_by.Tie as tie
 
 abbrev Inv-loop : tie.InvT-loop
-Inv-loop region registers out₀ i₀ out i = (length out ≡ 16) × (length registers ≡ 4096)
+Inv-loop source registers out₀ i₀ out i = (length out ≡ 16) × (length registers ≡ 4096)
 
 abbrev μ-loop : tie.MeasureT-loop
-μ-loop region registers out₀ i₀ out i = 16 - i
+μ-loop source registers out₀ i₀ out i = 16 - i
 
 slice-aggregate-put-long : tie.Need-slice-aggregate-put-long Inv-loop μ-loop
 slice-aggregate-put-long c = search needs
-
-add-put-long : tie.Need-add-put-long Inv-loop μ-loop
-add-put-long c = search needs
 
 put-long-requires : tie.Need-put-long-requires Inv-loop μ-loop
 put-long-requires c κs = search needs
@@ -91,7 +88,6 @@ moved-by-spec =
     Inv-loop
     μ-loop
     slice-aggregate-put-long
-    add-put-long
     put-long-requires
     slice-aggregate-put-dword
     put-dword-requires
