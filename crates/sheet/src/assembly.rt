@@ -10,7 +10,7 @@ const DATATYPE: usize = 128;
 
 const SOURCE: usize = 384;
 
-// Row A's long word, but for its second source, and its short word, as dwords.
+// Row A's long word and its short word, as dwords, the lowest first.
 pub const ADD: u64 = 0x00600040;
 
 pub const ADD_OPERANDS: u64 = 0x208014A5;

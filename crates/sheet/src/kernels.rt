@@ -10,6 +10,7 @@ use spokeshaver::spokeshaver_run;
 use spokeshaver::spokeshaver_start;
 use spokeshaver::spokeshaver_step;
 
+// The largest budget.
 const BUDGET: u64 = 1000000;
 
 // ---- H
