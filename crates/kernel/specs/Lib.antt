@@ -2,6 +2,8 @@
 pub mod Judging
 pub mod Standing
 pub mod Marks
+pub mod Reach
 pub mod Jumps
+pub mod Targets
 pub mod Accepting
 pub mod Answers

@@ -5,4 +5,5 @@ pub mod decode;
 pub mod fetch;
 pub mod instruction;
 pub mod jumps;
+pub mod reach;
 pub mod walk;

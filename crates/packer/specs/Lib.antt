@@ -1,7 +1,6 @@
 -- What packing does in the code's terms, and the laws that join it to the paper's.
 pub mod Forms
 pub mod Distances
-pub mod Targets
 pub mod Pieces
 pub mod Stages
 pub mod Written

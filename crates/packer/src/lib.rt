@@ -3,5 +3,4 @@ pub mod distance;
 pub mod form;
 pub mod pack;
 pub mod place;
-pub mod target;
 pub mod write;

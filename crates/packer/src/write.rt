@@ -2,8 +2,8 @@
 use crate::distance::aim;
 use crate::form::form;
 use crate::form::places_taken;
-use crate::target::target;
 use kernel::fetch::word_at;
+use kernel::reach::target_of;
 use words::bytes::Word;
 use words::bytes::write8;
 use words::bytes::write16;
@@ -41,7 +41,7 @@ fn rewrite(places: &[u64; 2049], w: Word, here: u64, size: u64, to: u64, next: u
     ensures { λ r. ⌜ toWord r ≡ aimed (operation (toWord w)) (toWord w) to next
         (getD (now (places .entry)) (placeOf (targetOf (instrOf here size (toWord w)))) 0) ⌝ }
 {
-    let old = target(w, here, size) as usize;
+    let old = target_of(w, here, size) as usize;
     let new = places[old];
     aim(w, to, next, new)
 }

@@ -1,5 +1,4 @@
 -- What the code's answers and states are in the paper's terms, and the laws of an accepted kernel's steps.
-pub mod Targets
 pub mod Landing
 pub mod Running
 pub mod Outcomes

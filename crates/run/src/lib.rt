@@ -1,5 +1,4 @@
 // The calls step and run: an accepted kernel, judged once, and the lent registers and state.
 pub mod calls;
 pub mod legal;
-pub mod reach;
 pub mod running;

@@ -1,6 +1,6 @@
 // Steps of an accepted kernel, which is not judged again.
-use crate::reach::target_of;
 use kernel::fetch::word_at;
+use kernel::reach::target_of;
 use machine::state::State;
 use machine::step::step_at;
 ghost use mathlib.Core.Path.{_≡_};

@@ -8,8 +8,8 @@ ghost use Prim.Native.Nat.{_<_, _^_};
 ghost use Rattle.paper.specs.Jump.{targetOf};
 ghost use Rattle.paper.specs.Machine.{placeOf};
 ghost use Rattle.words.specs.Words.{toWord};
 ghost use Rattle.kernel.specs.Jumps.{instrOf};
-ghost use Rattle.run.specs.Targets.{placeFrom};
+ghost use Rattle.kernel.specs.Targets.{placeFrom};
 
 // The place that a distance leads to from place `base`; 0 for one below 0. The distance is signed, `half` being the least that is negative.
 fn reached(base: u64, distance: u64, half: u64) -> u64

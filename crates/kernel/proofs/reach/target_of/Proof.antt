@@ -1,10 +1,10 @@
 -- Each opcode's distance and where it counts from are the definition's. Assumes nothing.
 use mathlib.Core.Path.{refl, ap}
 use Rattle.paper.specs.Operation.{if, else, endif, while, operationOf}
-use Rattle.run.specs.Targets.{far-target, near-target, no-target}
+use Rattle.kernel.specs.Targets.{far-target, near-target, no-target}
 use borrow.Author.Needs.{needs}
-use Rattle.run.proofs.reach.target_of.Statement.{statement}
-use Rattle.run.proofs.reach.target_of.Tie as tie
+use Rattle.kernel.proofs.reach.target_of.Statement.{statement}
+use Rattle.kernel.proofs.reach.target_of.Tie as tie
 
 opcode-requires : tie.Need-opcode-requires
 opcode-requires c κs = search needs

@@ -1,64 +1,35 @@
 -- A branch's target as a number: the paper's place, reckoned without whole numbers. Assumes nothing.
-use mathlib.Core.Bool.{Bool, true, false, cond}
+use mathlib.Core.Bool.{Bool, cond}
 use mathlib.Core.Option.{some}
 use mathlib.Core.Path.{_≡_, refl, sym, ap, _∙_}
-use Prim.Native.Nat.{ℕ, _+_, _-_, _*_, _^_, _<_, _≤_}
-use native.Mathlib.Omega.{arith}
-use lib.Dec.{eqb, ltb}
-use lib.IntN.{ℤ, pos, subℕ, _+ℤ_, pos-+ℤ-pos}
-use borrow.Author.Tests.{ltb-true, ltb-false, lt-ltb, le-ltb, ne-eqb}
+use Prim.Native.Nat.{ℕ, _+_, _-_, _*_, _^_}
+use lib.Dec.{eqb}
+use lib.IntN.{ℤ, pos, negsuc, _+ℤ_}
+use borrow.Author.Tests.{ne-eqb}
 use Rattle.paper.specs.Bits.{bits}
 use Rattle.paper.specs.Word.{opcode}
 use Rattle.paper.specs.Operation.{Branch, jmpi, Operation, branch, operationOf}
 use Rattle.paper.specs.Jump.{Distance, ownStart, distanceOf, signedOf, reach, jumpOf, targetOf}
 use Rattle.paper.specs.Machine.{placeOf}
-use Rattle.laws.specs.Differences.{sub-add, sub-eq, is-pos, is-neg, sub-pos}
 use Rattle.laws.specs.Rename.{cond-at}
+use Rattle.kernel.specs.Reach.{saidOf, saidFrom, said-from}
 use Rattle.kernel.specs.Jumps.{instrOf}
-
--- Where a distance d of the signed range −half to half − 1 leads from place a; 0 for what lies below 0.
-unfoldable pub placeFrom : ℕ → ℕ → ℕ → ℕ
-placeFrom a d half = cond (ltb d half) (a + d) (cond (ltb (a + d) (2 * half)) 0 (a + d - 2 * half))
-
-pub place-forward : (a d half : ℕ) → d < half → placeFrom a d half ≡ a + d
-unfolding placeFrom
-place-forward a d half h = rw (lt-ltb _ _ h)
-
-pub place-below : (a d half : ℕ) → half ≤ d → a + d < 2 * half → placeFrom a d half ≡ 0
-unfolding placeFrom
-place-below a d half h l = rw (le-ltb _ _ h, lt-ltb _ _ l)
-
-pub place-back : (a d half : ℕ) → half ≤ d → 2 * half ≤ a + d → placeFrom a d half ≡ a + d - 2 * half
-unfolding placeFrom
-place-back a d half h l = rw (le-ltb _ _ h, le-ltb _ _ l)
-
--- A place and a difference make one difference.
-far-of : (a d b : ℕ) → pos a +ℤ subℕ d b ≡ subℕ (a + d) b
-far-of a d b =
-    ap (λ (x : ℤ). x +ℤ subℕ d b) (sub-pos a 0) ∙ sub-add (0 + a) 0 d b ∙ sub-eq (0 + a + d) (0 + b) (a + d) b (omega arith)
 
 -- The place of a whole number.
 abbrev placeAt : ℤ → ℕ
 placeAt z = placeOf (some z)
 
+placed : (z : ℤ) → saidOf (λ (p : ℕ). p) 0 z ≡ placeAt z
+placed (pos p) = refl
+placed (negsuc p) = refl
+
+-- Where a distance d of the signed range −half to half − 1 leads from place a; 0 for what lies below 0.
+abbrev pub placeFrom : ℕ → ℕ → ℕ → ℕ
+placeFrom = saidFrom (λ (p : ℕ). p) 0
+
 -- It leads where the paper says.
 place-from : (a d n half : ℕ) → 2 ^ (n - 1) ≡ half → 2 ^ n ≡ 2 * half → placeFrom a d half ≡ placeAt (pos a +ℤ signedOf n d)
-place-from a d n half e f = rw (e, f) (go (ltb d half) refl)
-  where
-    back : half ≤ d → placeFrom a d half ≡ placeAt (pos a +ℤ subℕ d (2 * half))
-    back h = split (ltb (a + d) (2 * half)) refl ∙ ap placeAt (sym (far-of a d (2 * half)))
-      where
-        split : (t : Bool) → ltb (a + d) (2 * half) ≡ t → placeFrom a d half ≡ placeAt (subℕ (a + d) (2 * half))
-        split true l =
-            let lt = ltb-true _ _ l in
-            place-below a d half h lt ∙ sym (ap placeAt (is-neg (a + d) (2 * half) (2 * half - (a + d) - 1) (omega arith)))
-        split false l =
-            let le = ltb-false _ _ l in
-            place-back a d half h le ∙ sym (ap placeAt (is-pos (a + d) (2 * half) (a + d - 2 * half) (omega arith)))
-
-    go : (t : Bool) → ltb d half ≡ t → placeFrom a d half ≡ placeAt (pos a +ℤ cond t (pos d) (subℕ d (2 * half)))
-    go true h = place-forward a d half (ltb-true _ _ h) ∙ sym (ap placeAt (pos-+ℤ-pos a d))
-    go false h = back (ltb-false _ _ h)
+place-from a d n half e f = said-from (λ (p : ℕ). p) 0 a d half n e f ∙ placed (pos a +ℤ signedOf n d)
 
 -- ---- a word w of opcode n, in an instruction of `size` places from place `here` on, whose distance is d
 

@@ -1,0 +1,2 @@
+-- What the program's bytes hold.
+pub mod Room
