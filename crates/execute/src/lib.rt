@@ -10,4 +10,5 @@ pub mod enable;
 pub mod execute;
 pub mod flags;
 pub mod operations;
+pub mod plain;
 pub mod results;

@@ -36,7 +36,7 @@ fn waits_bit(waiting: u64, own: u64, place: u64, n: u64) -> u64
 }
 
 // The channels that wait at a place, by the mask of those that wait and their places.
-fn waits_mask(waiting: u64, places: &[u64; 16], place: u64) -> u64
+pub fn waits_mask(waiting: u64, places: &[u64; 16], place: u64) -> u64
     ensures { λ r. ⌜ (r ≡ ofBits (waitsThere waiting (now (places .entry)) place) 16) × (r < 65536) ⌝ }
 {
     let mut mask = 0;

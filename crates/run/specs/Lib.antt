@@ -3,3 +3,4 @@ pub mod Landing
 pub mod Running
 pub mod Outcomes
 pub mod Answers
+pub mod Dashes

@@ -1,4 +1,5 @@
 // Steps of an accepted kernel, which is not judged again.
+use crate::dash::dash;
 use kernel::fetch::word_at;
 use kernel::reach::target_of;
 use machine::state::State;
@@ -42,7 +43,7 @@ pub fn advance(dictionary: &[u8], kernel: &[u8], registers: &mut [u8], s: State)
     step_at(w, here, here + f.size, target, registers, s)
 }
 
-// Steps until the end or until the budget is spent.
+// Steps until the end or until the budget is spent: one of any kind, then as many as need no look at the channels.
 pub fn run_from(
     dictionary: &[u8],
     kernel: &[u8],
@@ -67,6 +68,15 @@ pub fn run_from(
         }
         s = advance(dictionary, kernel, registers, s);
         steps += 1;
+        let d = dash(dictionary, kernel, budget - steps, registers, s);
+        let flags = d.flags;
+        let channels = s.channels;
+        s = State {
+            flags: flags,
+            channels: channels,
+            place: d.place,
+        };
+        steps += d.steps;
     }
     Outcome {
         verdict: 20,

@@ -5,6 +5,7 @@ use native.Mathlib.Omega.{arith}
 use Rattle.machine.specs.States.{stateIs}
 use Rattle.run.specs.Running.{instructions, Running, running-registers, running-end, running-on}
 use Rattle.run.specs.Outcomes.{Leads, leads-start, leads-end, leads-spent, leads-on}
+use Rattle.run.specs.Dashes.{Onward}
 use Rattle.run.proofs.running.run_from.Statement.{statement}
 use Rattle.run.proofs.running.run_from.Tie as tie
 
@@ -37,16 +38,28 @@ advance-requires c κs = (c .before .before .before .loop .inv .0, c .before .be
 add-steps : tie.Need-add-steps Inv-loop μ-loop
 add-steps c = omega (arith, c .before .before .before .before .before .before .loop .inv .2, c .before .before .before .before .if1 .left)
 
+sub-dash : tie.Need-sub-dash Inv-loop μ-loop
+sub-dash c = omega (arith, c .before .before .before .before .before .before .loop .inv .2, c .before .before .before .before .if1 .left)
+
+dash-requires : tie.Need-dash-requires Inv-loop μ-loop
+dash-requires c κs = c .before .before .before .advance .ensures .1
+
+add-steps-2 : tie.Need-add-steps-2 Inv-loop μ-loop
+add-steps-2 c = omega (arith, c .before .before .before .before .before .dash .ensures .1 .0, c .before .before .before .before .before .before .before .before .before .before .before .before .before .loop .inv .2, c .before .before .before .before .before .before .before .before .before .before .before .if1 .left, c .before .before .before .before .before .before .before .before .before .before .before .before .before .before .before .before .before .fits .budget)
+
 loop-less : tie.Need-loop-less Inv-loop μ-loop
-loop-less c = omega (arith, c .before .before .before .before .before .before .loop .inv .2, c .before .before .before .before .if1 .left)
+loop-less c = omega (arith, c .before .before .before .before .before .dash .ensures .1 .0, c .before .before .before .before .before .before .before .before .before .before .before .before .before .loop .inv .2, c .before .before .before .before .before .before .before .before .before .before .before .if1 .left)
 
 loop-again : tie.Need-loop-again Inv-loop μ-loop
+unfolding Onward
 loop-again c =
-    let i = c .before .before .before .before .before .before .loop .inv in
-    let e = c .before .before .advance .ensures in
-    let on = running-on _ _ _ _ (i .0) (c .before .before .before .before .before .loop-test .taken) in
-    let left = c .before .before .before .before .if1 .left in
-    (e .1, leads-on _ _ _ _ _ (i .1) on (omega (arith, i .2, left)) _ (e .0), omega (arith, i .2, left))
+    let i = c .before .before .before .before .before .before .before .before .before .before .before .before .before .loop .inv in
+    let e = c .before .before .before .before .before .before .before .before .before .advance .ensures in
+    let d = c .before .before .before .before .before .dash .ensures in
+    let on = running-on _ _ _ _ (i .0) (c .before .before .before .before .before .before .before .before .before .before .before .before .loop-test .taken) in
+    let left = c .before .before .before .before .before .before .before .before .before .before .before .if1 .left in
+    let one = leads-on _ _ _ _ _ (i .1) on (omega (arith, i .2, left)) _ (e .0) in
+    (d .0, d .1 .1 _ _ _ (omega (arith, i .2, left)) one, omega (arith, d .1 .0, i .2, left))
 
 same-length-2 : tie.Need-same-length-2 Inv-loop μ-loop
 same-length-2 c = running-registers _ _ _ _ (c .before .loop .inv .0) ∙ sym (running-registers _ _ _ _ (c .before .before .before .before .before .pre))
@@ -68,6 +81,9 @@ run-from-spec =
     returns
     advance-requires
     add-steps
+    sub-dash
+    dash-requires
+    add-steps-2
     loop-less
     loop-again
     same-length-2
