@@ -6,3 +6,6 @@ pub mod Small
 pub mod Judging
 pub mod Kernels
 pub mod Calls
+pub mod Results
+pub mod Stepping
+pub mod Promises

@@ -1,0 +1,135 @@
+-- What an answer of 0 says of the kernel or the word, and what is then written; what 13 says. Assumes nothing.
+use mathlib.Core.Bool.{Bool, true, false, not, cond, _&&_}
+use mathlib.Core.List.{List, _++_}
+use mathlib.Core.Logic.{inl, inr}
+use mathlib.Core.Option.{Option, none, some}
+use mathlib.Core.Path.{_≡_, refl, sym, ap, _∙_}
+use Prim.Native.Nat.{ℕ, zero, suc, _<_}
+use native.Mathlib.Omega.{arith}
+use lib.Dec.{eqb, ltb}
+use lib.ListN.{length, drop}
+use Rattle.paper.specs.Bits.{bytesOf, numberAt}
+use Rattle.paper.specs.Limits.{dictionaryBytes, kernelBytes, instructionLimit}
+use Rattle.paper.specs.Dictionary.{dictionaryOf, inRange}
+use Rattle.paper.specs.Expand.{isShort}
+use Rattle.paper.specs.Shorten.{shorten}
+use Rattle.paper.specs.Operation.{operation, isListed}
+use Rattle.paper.specs.Kernel.{Instr, longAndShort, longOnly, Parsed, bad, good}
+use Rattle.paper.specs.Packing.{Form, relay}
+use Rattle.paper.specs.Calls.{refusal, verdict, Written, kept, deliver, accepted, checkedAs, checkCall, relaid, packCall, unpackCall, oneWord, shortened, shortenCall}
+use Rattle.laws.specs.Bytes.{length-bytesOf}
+use Rattle.spokeshaver.specs.Kernels.{KernelNo, Near, near-number, accepted-near}
+
+-- A kernel's refusal is not 0.
+no-zero : (number : ℕ) → KernelNo number → number ≡ 0 → ⊥
+no-zero number (inl low) e = omega (arith, low .0)
+no-zero number (inr last) e = omega arith
+
+near-no-zero : (number offset : ℕ) → Near kernelBytes instructionLimit (bad number offset) → number ≡ 0 → ⊥
+near-no-zero number offset h = no-zero number (near-number kernelBytes instructionLimit number offset h)
+
+-- ---- check
+
+-- The instructions of what is accepted.
+pub record Instructions (q : Parsed) : Type 0 where
+  pub instrs : List Instr
+  pub are : q ≡ good instrs
+
+-- A kernel that check answers with 0 is accepted.
+pub check-accepts : (dictionary kernel : List ℕ) → checkCall dictionary kernel .number ≡ 0 → Instructions (accepted longAndShort dictionary kernel)
+unfolding checkCall
+check-accepts dictionary kernel = go (accepted longAndShort dictionary kernel) (accepted-near longAndShort dictionary kernel)
+  where
+    go : (q : Parsed) → Near kernelBytes instructionLimit q → checkedAs q .number ≡ 0 → Instructions q
+    go (bad number offset) h e = absurd (near-no-zero number offset h e)
+    go (good k) h e = record { instrs = k; are = refl }
+
+-- ---- pack and unpack
+
+-- A result as it is written: its length is the count, and the rest of the buffer stays.
+abbrev pub wrote : List ℕ → List ℕ → Written
+wrote result out = record { answer = verdict 0 (length result); output = result ++ drop (length result) out }
+
+-- What an answer of 0 says of a result.
+deliver-fits : (result out : List ℕ) → deliver result out .answer .number ≡ 0 → deliver result out ≡ wrote result out
+unfolding deliver
+deliver-fits result out = go (ltb (length out) (length result))
+  where
+    go : (b : Bool) → cond b (kept (refusal 14 0) out) (wrote result out) .answer .number ≡ 0
+        → cond b (kept (refusal 14 0) out) (wrote result out) ≡ wrote result out
+    go true e = absurd (omega arith)
+    go false e = refl
+
+-- A result is never answered with 13.
+deliver-other : (result out : List ℕ) → deliver result out .answer .number ≡ 13 → ⊥
+unfolding deliver
+deliver-other result out = go (ltb (length out) (length result))
+  where
+    go : (b : Bool) → cond b (kept (refusal 14 0) out) (wrote result out) .answer .number ≡ 13 → ⊥
+    go true e = omega arith
+    go false e = omega arith
+
+-- A kernel that is laid out anew is accepted, and its new bytes are written.
+pub record Relaid (form : Form) (out : List ℕ) (q : Parsed) : Type 0 where
+  pub instrs : List Instr
+  pub are : q ≡ good instrs
+  pub whole : relaid form out q ≡ wrote (relay form instrs) out
+
+relaid-fits : (form : Form) (out : List ℕ) (q : Parsed) → Near kernelBytes instructionLimit q → relaid form out q .answer .number ≡ 0 → Relaid form out q
+relaid-fits form out (bad number offset) h e = absurd (near-no-zero number offset h e)
+relaid-fits form out (good k) h e = record { instrs = k; are = refl; whole = deliver-fits (relay form k) out e }
+
+pub pack-fits : (dictionary kernel out : List ℕ) → packCall dictionary kernel out .answer .number ≡ 0
+    → Relaid (shorten (dictionaryOf dictionary)) out (accepted longOnly dictionary kernel)
+unfolding packCall
+pack-fits dictionary kernel out =
+    relaid-fits (shorten (dictionaryOf dictionary)) out (accepted longOnly dictionary kernel) (accepted-near longOnly dictionary kernel)
+
+-- ---- shorten
+
+-- A short word is there, and its eight bytes are written.
+pub record Shorter (short : Option ℕ) (out : List ℕ) (r : Written) : Type 0 where
+  pub word : ℕ
+  pub is : short ≡ some word
+  pub count : r .answer .count ≡ 8
+  pub output : r .output ≡ bytesOf 8 word ++ drop 8 out
+
+-- What 0 and 13 say.
+pub record Says (short : Option ℕ) (out : List ℕ) (r : Written) : Type 0 where
+  pub fine : r .answer .number ≡ 0 → Shorter short out r
+  pub thirteen : r .answer .number ≡ 13 → short ≡ none
+
+-- Any other refusal says neither; a choice says what both say.
+says-no : (short : Option ℕ) (out : List ℕ) (number : ℕ) → (number ≡ 0 → ⊥) → (number ≡ 13 → ⊥) → Says short out (kept (refusal number 0) out)
+says-no short out number a b = record { fine = λ e. absurd (a e); thirteen = λ e. absurd (b e) }
+
+says-cond : (short : Option ℕ) (out : List ℕ) (b : Bool) (x y : Written) → Says short out x → Says short out y → Says short out (cond b x y)
+says-cond short out true x y h g = h
+says-cond short out false x y h g = g
+
+-- A short word, or none.
+says-shortened : (short : Option ℕ) (out : List ℕ) → Says short out (shortened short out)
+says-shortened none out = record { fine = λ e. absurd (omega arith); thirteen = λ _. refl }
+says-shortened (some s) out =
+    record {
+      fine = λ e.
+          let w = deliver-fits (bytesOf 8 s) out e in
+          record {
+            word = s;
+            is = refl;
+            count = ap (λ (r : Written). r .answer .count) w ∙ length-bytesOf 8 s;
+            output = ap (λ (r : Written). r .output) w ∙ ap (λ (n : ℕ). bytesOf 8 s ++ drop n out) (length-bytesOf 8 s);
+          };
+      thirteen = λ e. absurd (deliver-other (bytesOf 8 s) out e);
+    }
+
+pub shorten-says : (dictionary word out : List ℕ)
+    → Says (shorten (dictionaryOf dictionary) (numberAt word 0 16)) out (shortenCall dictionary word out)
+unfolding shortenCall oneWord
+shorten-says dictionary word out =
+    let w = numberAt word 0 16 in
+    let short = shorten (dictionaryOf dictionary) w in
+    says-cond short out (not (eqb (length dictionary) dictionaryBytes && eqb (length word) 16)) _ _ (says-no short out 1 (λ e. omega arith) (λ e. omega arith))
+    (says-cond short out (not (inRange (dictionaryOf dictionary))) _ _ (says-no short out 2 (λ e. omega arith) (λ e. omega arith))
+    (says-cond short out (not (isListed (operation w))) _ _ (says-no short out 4 (λ e. omega arith) (λ e. omega arith))
+    (says-cond short out (isShort w) _ _ (says-no short out 5 (λ e. omega arith) (λ e. omega arith)) (says-shortened short out))))
