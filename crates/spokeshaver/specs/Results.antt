@@ -21,7 +21,7 @@ use Rattle.laws.specs.Bytes.{length-bytesOf}
 use Rattle.spokeshaver.specs.Kernels.{KernelNo, Near, near-number, accepted-near}
 
 -- A kernel's refusal is not 0.
-no-zero : (number : ℕ) → KernelNo number → number ≡ 0 → ⊥
+pub no-zero : (number : ℕ) → KernelNo number → number ≡ 0 → ⊥
 no-zero number (inl low) e = omega (arith, low .0)
 no-zero number (inr last) e = omega arith
 
