@@ -9,3 +9,5 @@ pub mod Calls
 pub mod Results
 pub mod Stepping
 pub mod Promises
+pub mod PackingPromises
+pub mod RunningPromises

@@ -1,22 +1,25 @@
 -- What an answer of 0 says of the kernel or the word, and what is then written; what 13 says. Assumes nothing.
 use mathlib.Core.Bool.{Bool, true, false, not, cond, _&&_}
-use mathlib.Core.List.{List, _++_}
+use mathlib.Core.List.{List, [], _++_}
 use mathlib.Core.Logic.{inl, inr}
 use mathlib.Core.Option.{Option, none, some}
-use mathlib.Core.Path.{_≡_, refl, sym, ap, _∙_}
-use Prim.Native.Nat.{ℕ, zero, suc, _<_}
+use mathlib.Core.Path.{_≡_, refl, ap, _∙_}
+use Prim.Native.Nat.{ℕ}
 use native.Mathlib.Omega.{arith}
 use lib.Dec.{eqb, ltb}
 use lib.ListN.{length, drop}
+use borrow.Author.Tests.{eqb-true}
 use Rattle.paper.specs.Bits.{bytesOf, numberAt}
-use Rattle.paper.specs.Limits.{dictionaryBytes, kernelBytes, instructionLimit}
+use Rattle.paper.specs.Limits.{dictionaryBytes, stateLength, kernelBytes, instructionLimit}
 use Rattle.paper.specs.Dictionary.{dictionaryOf, inRange}
 use Rattle.paper.specs.Expand.{isShort}
 use Rattle.paper.specs.Shorten.{shorten}
 use Rattle.paper.specs.Operation.{operation, isListed}
 use Rattle.paper.specs.Kernel.{Instr, longAndShort, longOnly, Parsed, bad, good}
-use Rattle.paper.specs.Packing.{Form, relay}
-use Rattle.paper.specs.Calls.{refusal, verdict, Written, kept, deliver, accepted, checkedAs, checkCall, relaid, packCall, unpackCall, oneWord, shortened, shortenCall}
+use Rattle.paper.specs.Machine.{start}
+use Rattle.paper.specs.State.{stateBytes}
+use Rattle.paper.specs.Packing.{packed}
+use Rattle.paper.specs.Calls.{refusal, verdict, Written, kept, deliver, accepted, checkedAs, checkCall, relaid, packCall, oneWord, shortened, shortenCall, startCall}
 use Rattle.laws.specs.Bytes.{length-bytesOf}
 use Rattle.spokeshaver.specs.Kernels.{KernelNo, Near, near-number, accepted-near}
 
@@ -29,6 +32,12 @@ near-no-zero : (number offset : ℕ) → Near kernelBytes instructionLimit (bad 
 near-no-zero number offset h = no-zero number (near-number kernelBytes instructionLimit number offset h)
 
 -- ---- check
+
+-- What is accepted is answered with 0 and its count of instructions.
+pub accepted-checks : (dictionary kernel : List ℕ) (k : List Instr) → accepted longAndShort dictionary kernel ≡ good k
+    → checkCall dictionary kernel ≡ verdict 0 (length k)
+unfolding checkCall
+accepted-checks dictionary kernel k e = ap checkedAs e
 
 -- The instructions of what is accepted.
 pub record Instructions (q : Parsed) : Type 0 where
@@ -44,7 +53,7 @@ check-accepts dictionary kernel = go (accepted longAndShort dictionary kernel) (
     go (bad number offset) h e = absurd (near-no-zero number offset h e)
     go (good k) h e = record { instrs = k; are = refl }
 
--- ---- pack and unpack
+-- ---- pack
 
 -- A result as it is written: its length is the count, and the rest of the buffer stays.
 abbrev pub wrote : List ℕ → List ℕ → Written
@@ -69,21 +78,34 @@ deliver-other result out = go (ltb (length out) (length result))
     go true e = omega arith
     go false e = omega arith
 
--- A kernel that is laid out anew is accepted, and its new bytes are written.
-pub record Relaid (form : Form) (out : List ℕ) (q : Parsed) : Type 0 where
+-- A kernel that packing answers with 0 is accepted, and its packed bytes are written.
+pub record Packs (dictionary kernel out : List ℕ) : Type 0 where
   pub instrs : List Instr
-  pub are : q ≡ good instrs
-  pub whole : relaid form out q ≡ wrote (relay form instrs) out
+  pub are : accepted longOnly dictionary kernel ≡ good instrs
+  pub whole : packCall dictionary kernel out ≡ wrote (packed (dictionaryOf dictionary) instrs) out
 
-relaid-fits : (form : Form) (out : List ℕ) (q : Parsed) → Near kernelBytes instructionLimit q → relaid form out q .answer .number ≡ 0 → Relaid form out q
-relaid-fits form out (bad number offset) h e = absurd (near-no-zero number offset h e)
-relaid-fits form out (good k) h e = record { instrs = k; are = refl; whole = deliver-fits (relay form k) out e }
-
-pub pack-fits : (dictionary kernel out : List ℕ) → packCall dictionary kernel out .answer .number ≡ 0
-    → Relaid (shorten (dictionaryOf dictionary)) out (accepted longOnly dictionary kernel)
+pub pack-packs : (dictionary kernel out : List ℕ) → packCall dictionary kernel out .answer .number ≡ 0 → Packs dictionary kernel out
 unfolding packCall
-pack-fits dictionary kernel out =
-    relaid-fits (shorten (dictionaryOf dictionary)) out (accepted longOnly dictionary kernel) (accepted-near longOnly dictionary kernel)
+pack-packs dictionary kernel out = go (accepted longOnly dictionary kernel) refl (accepted-near longOnly dictionary kernel)
+  where
+    go : (q : Parsed) → accepted longOnly dictionary kernel ≡ q → Near kernelBytes instructionLimit q
+        → relaid (shorten (dictionaryOf dictionary)) out q .answer .number ≡ 0 → Packs dictionary kernel out
+    go (bad number offset) a h e = absurd (near-no-zero number offset h e)
+    go (good k) a h e =
+        record { instrs = k; are = a; whole = ap (relaid (shorten (dictionaryOf dictionary)) out) a ∙ deliver-fits (packed (dictionaryOf dictionary) k) out e }
+
+-- ---- start
+
+-- A start that answers 0 was lent a state of the right length.
+pub start-fits : (mask flag0 flag1 : ℕ) (bytes : List ℕ) → startCall mask flag0 flag1 bytes .answer .number ≡ 0 → length bytes ≡ stateLength
+unfolding startCall
+start-fits mask flag0 flag1 bytes = go (eqb (length bytes) stateLength) refl
+  where
+    go : (b : Bool) → eqb (length bytes) stateLength ≡ b
+        → cond b (record { answer = verdict 0 0; output = stateBytes (start (record { registers = []; flag0 = flag0; flag1 = flag1 }) mask) }) (kept (refusal 1 0) bytes) .answer .number ≡ 0
+        → length bytes ≡ stateLength
+    go true h e = eqb-true (length bytes) stateLength h
+    go false h e = absurd (omega arith)
 
 -- ---- shorten
 
