@@ -118,8 +118,7 @@ module _ (dictionary kernel out : List ℕ) (right : areBytes kernel ≡ true) (
       let long = accepted-checks dictionary kernel (g .instrs) (long-accepted dictionary kernel (g .instrs) h) in
       let short = accepted-checks dictionary (result r out′) (instrsFrom 0 (g .items)) (g .taken) in
       let many : length (instrsFrom 0 (g .items)) ≡ length (g .instrs) =
-      sym (length-map (instrsFrom 0 (g .items)) (lineOf (instrsFrom 0 (g .items)))) ∙ ap length (g .same) ∙ length-map (g .instrs) (lineOf (g .instrs)) in
-      (
+      sym (length-map (instrsFrom 0 (g .items)) (lineOf (instrsFrom 0 (g .items)))) ∙ ap length (g .same) ∙ length-map (g .instrs) (lineOf (g .instrs)) in (
         check-told dictionary (result r out′) b d .number ∙ ap (λ (x : Answer). x .number) short,
         c ∙ ap asNumber (long ∙ ap (verdict 0) (sym many) ∙ sym short) ∙ sym d,
       )

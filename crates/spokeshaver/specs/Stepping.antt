@@ -95,7 +95,7 @@ module _ (dictionary kernel registers bytes : List ℕ) (right : areBytes kernel
     unchanged-lent number count = λ i. record { answer = verdict number count; registers = registers; state = bytes-lent i }
 
     -- One step more is the step and then the run.
-    run-suc : stops k lent ≡ none → (n : ℕ) → suc n ≤ budgetLimit
+    pub run-suc : stops k lent ≡ none → (n : ℕ) → suc n ≤ budgetLimit
         → let one = stepCall dictionary kernel registers bytes in
         let rest = runCall dictionary kernel n (one .registers) (one .state) in
         runCall dictionary kernel (suc n) registers bytes
@@ -142,7 +142,7 @@ module _ (dictionary kernel registers bytes : List ℕ) (right : areBytes kernel
       go none e = (
         λ z. absurd (omega arith),
         λ _. run-ready dictionary kernel registers bytes k r budget le ∙ ap ranAs (run-ended k begins (ap stopsOn e) budget)
-        ∙ unchanged-lent dictionary kernel registers bytes right small k r 20 0,
+            ∙ unchanged-lent dictionary kernel registers bytes right small k r 20 0,
         refl,
       )
       go (some i) e = (λ z. record { instrs = k; ready = r; on = ap stopsOn e }, λ n. absurd (n refl), refl)
