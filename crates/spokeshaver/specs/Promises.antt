@@ -5,7 +5,7 @@ use mathlib.Core.Bool.{Bool, true}
 use mathlib.Core.List.{List, _++_, map}
 use mathlib.Core.Logic.{_⊎_, inl, inr}
 use mathlib.Core.Path.{_≡_, refl, sym, ap, _∙_}
-use Prim.Native.Nat.{ℕ, suc, _%_, _^_, _<_, _≤_}
+use Prim.Native.Nat.{ℕ, _+_, _*_, _≤_}
 use native.Mathlib.Omega.{arith}
 use lib.ListN.{length, take, drop}
 use lib.Pow.{areBytes}
@@ -15,6 +15,7 @@ use Rattle.spokeshaver.specs.Contracts.{numberIn, offsetIn, countIn, Wro
 use Rattle.spokeshaver.specs.Contracts.{DecodePromise, StartPromise, StepPromise, RunPromise}
 use Rattle.spokeshaver.specs.Numbers.{checkNumbers, packNumbers, shortenNumbers, expandNumbers, decodeNumbers, startNumbers, stepNumbers, runNumbers}
 use Rattle.spokeshaver.specs.Small.{number-back, offset-back, count-back}
+use Rattle.spokeshaver.specs.Results.{decode-inside}
 use Rattle.spokeshaver.specs.Calls.{Fine, check-fine, pack-fine, unpack-fine, shorten-fine, expand-fine, decode-fine, start-fine, step-fine, run-fine}
 
 -- ==== demand 1: one outcome
@@ -170,3 +171,13 @@ run-kept dictionary kernel budget registers state r registers′ state′ p n m 
     let t = run-told dictionary kernel budget registers state r registers′ state′ p in
     let u = run-unchanged dictionary kernel budget registers state (λ e. n (t .number ∙ e)) (λ e. m (t .number ∙ e)) in
     (p .1 ∙ u .sameRegisters, p .2 ∙ u .sameState)
+
+-- ==== what decoding points at
+
+-- A decoded instruction has 8 or 16 bytes, and they lie inside the kernel from the place on.
+pub decode-points-inside : (dictionary kernel : List ℕ) (place r : ℕ) → DecodePromise dictionary kernel place r → numberIn r ≡ 0
+    → ((countIn r ≡ 8) ⊎ (countIn r ≡ 16)) × (8 * place + countIn r ≤ length kernel)
+decode-points-inside dictionary kernel place r p zero =
+    let t = decode-told dictionary kernel place r p in
+    let i = decode-inside dictionary kernel place (sym (t .number) ∙ zero) in
+    rw (t .count) (i .size, i .ends)

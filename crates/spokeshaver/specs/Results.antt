@@ -1,26 +1,30 @@
--- What an answer of 0 says of the kernel or the word, and what is then written; what 13 says. Assumes nothing.
+-- What an answer of 0 says of the kernel or the word, and what is then written; what 13 and 14 say. Assumes nothing.
 use mathlib.Core.Bool.{Bool, true, false, not, cond, _&&_}
 use mathlib.Core.List.{List, [], _++_}
-use mathlib.Core.Logic.{inl, inr}
+use mathlib.Core.Logic.{_⊎_, inl, inr}
 use mathlib.Core.Option.{Option, none, some}
 use mathlib.Core.Path.{_≡_, refl, ap, _∙_}
-use Prim.Native.Nat.{ℕ}
+use Prim.Native.Nat.{ℕ, _+_, _*_, _<_, _≤_}
 use native.Mathlib.Omega.{arith}
-use lib.Dec.{eqb, ltb}
+use lib.Dec.{eqb, ltb, leb}
 use lib.ListN.{length, drop}
-use borrow.Author.Tests.{eqb-true}
+use borrow.Author.Tests.{eqb-true, ltb-true, leb-false}
 use Rattle.paper.specs.Bits.{bytesOf, numberAt}
 use Rattle.paper.specs.Limits.{dictionaryBytes, stateLength, kernelBytes, instructionLimit}
-use Rattle.paper.specs.Dictionary.{dictionaryOf, inRange}
+use Rattle.paper.specs.Dictionary.{Dictionary, dictionaryOf, inRange}
 use Rattle.paper.specs.Expand.{isShort}
 use Rattle.paper.specs.Shorten.{shorten}
 use Rattle.paper.specs.Operation.{operation, isListed}
-use Rattle.paper.specs.Kernel.{Instr, longAndShort, longOnly, Parsed, bad, good}
+use Rattle.paper.specs.Kernel.{Instr, longAndShort, longOnly, Judged, refused, passed, judgeAt, Parsed, bad, good}
 use Rattle.paper.specs.Machine.{start}
 use Rattle.paper.specs.State.{stateBytes}
-use Rattle.paper.specs.Packing.{packed}
-use Rattle.paper.specs.Calls.{refusal, verdict, Written, kept, deliver, accepted, checkedAs, checkCall, relaid, packCall, oneWord, shortened, shortenCall, startCall}
+use Rattle.paper.specs.Packing.{Form, relay}
+use Rattle.paper.specs.Calls.{refusal, verdict, Written, kept, deliver, accepted, checkedAs, checkCall, relaid, packCall, unpackCall, oneWord, shortened, shortenCall, startCall}
+use Rattle.paper.specs.Calls.{Answer, sized, Decoded, judgedAs, decodeAt, decodedAs, decodeCall}
 use Rattle.laws.specs.Bytes.{length-bytesOf}
+use Rattle.laws.specs.Names.{longForm}
+use Rattle.laws.specs.Judged.{Passed, asLong, asShort, judge-passed}
+use Rattle.spokeshaver.specs.Judging.{Modest, modest-above, judged-modest}
 use Rattle.spokeshaver.specs.Kernels.{KernelNo, Near, near-number, accepted-near}
 
 -- A kernel's refusal is not 0.
@@ -53,7 +57,7 @@ check-accepts dictionary kernel = go (accepted longAndShort dictionary kernel) (
     go (bad number offset) h e = absurd (near-no-zero number offset h e)
     go (good k) h e = record { instrs = k; are = refl }
 
--- ---- pack
+-- ---- pack and unpack
 
 -- A result as it is written: its length is the count, and the rest of the buffer stays.
 abbrev pub wrote : List ℕ → List ℕ → Written
@@ -69,6 +73,16 @@ deliver-fits result out = go (ltb (length out) (length result))
     go true e = absurd (omega arith)
     go false e = refl
 
+-- 14 says that the output is shorter.
+deliver-full : (result out : List ℕ) → deliver result out .answer .number ≡ 14 → length out < length result
+unfolding deliver
+deliver-full result out = go (ltb (length out) (length result)) refl
+  where
+    go : (b : Bool) → ltb (length out) (length result) ≡ b → cond b (kept (refusal 14 0) out) (wrote result out) .answer .number ≡ 14
+        → length out < length result
+    go true h e = ltb-true (length out) (length result) h
+    go false h e = absurd (omega arith)
+
 -- A result is never answered with 13.
 deliver-other : (result out : List ℕ) → deliver result out .answer .number ≡ 13 → ⊥
 unfolding deliver
@@ -78,21 +92,83 @@ deliver-other result out = go (ltb (length out) (length result))
     go true e = omega arith
     go false e = omega arith
 
--- A kernel that packing answers with 0 is accepted, and its packed bytes are written.
-pub record Packs (dictionary kernel out : List ℕ) : Type 0 where
+-- A kernel that is laid out anew with 0 as the answer is accepted, and its new bytes are written.
+pub record Writes (form : Form) (out : List ℕ) (q : Parsed) (w : Written) : Type 0 where
   pub instrs : List Instr
-  pub are : accepted longOnly dictionary kernel ≡ good instrs
-  pub whole : packCall dictionary kernel out ≡ wrote (packed (dictionaryOf dictionary) instrs) out
+  pub are : q ≡ good instrs
+  pub whole : w ≡ wrote (relay form instrs) out
 
-pub pack-packs : (dictionary kernel out : List ℕ) → packCall dictionary kernel out .answer .number ≡ 0 → Packs dictionary kernel out
+relaid-writes : (form : Form) (out : List ℕ) (q : Parsed) → Near kernelBytes instructionLimit q → relaid form out q .answer .number ≡ 0
+    → Writes form out q (relaid form out q)
+relaid-writes form out (bad number offset) h e = absurd (near-no-zero number offset h e)
+relaid-writes form out (good k) h e = record { instrs = k; are = refl; whole = deliver-fits (relay form k) out e }
+
+pub pack-writes : (dictionary kernel out : List ℕ) → packCall dictionary kernel out .answer .number ≡ 0
+    → Writes (shorten (dictionaryOf dictionary)) out (accepted longOnly dictionary kernel) (packCall dictionary kernel out)
 unfolding packCall
-pack-packs dictionary kernel out = go (accepted longOnly dictionary kernel) refl (accepted-near longOnly dictionary kernel)
+pack-writes dictionary kernel out =
+    relaid-writes (shorten (dictionaryOf dictionary)) out (accepted longOnly dictionary kernel) (accepted-near longOnly dictionary kernel)
+
+pub unpack-writes : (dictionary kernel out : List ℕ) → unpackCall dictionary kernel out .answer .number ≡ 0
+    → Writes longForm out (accepted longAndShort dictionary kernel) (unpackCall dictionary kernel out)
+unfolding unpackCall
+unpack-writes dictionary kernel out =
+    relaid-writes longForm out (accepted longAndShort dictionary kernel) (accepted-near longAndShort dictionary kernel)
+
+-- 14 is answered only where a result is longer than the output.
+relaid-full : (form : Form) (out : List ℕ) (q : Parsed) → Near kernelBytes instructionLimit q → relaid form out q .answer .number ≡ 14
+    → (k : List Instr) × (q ≡ good k) × (length out < length (relay form k))
+relaid-full form out (bad number offset) h e = absurd (no-fourteen number (near-number kernelBytes instructionLimit number offset h) e)
   where
-    go : (q : Parsed) → accepted longOnly dictionary kernel ≡ q → Near kernelBytes instructionLimit q
-        → relaid (shorten (dictionaryOf dictionary)) out q .answer .number ≡ 0 → Packs dictionary kernel out
-    go (bad number offset) a h e = absurd (near-no-zero number offset h e)
-    go (good k) a h e =
-        record { instrs = k; are = a; whole = ap (relaid (shorten (dictionaryOf dictionary)) out) a ∙ deliver-fits (packed (dictionaryOf dictionary) k) out e }
+    no-fourteen : (n : ℕ) → KernelNo n → n ≡ 14 → ⊥
+    no-fourteen n (inl low) z = omega (arith, low .1)
+    no-fourteen n (inr last) z = omega arith
+relaid-full form out (good k) h e = (k, refl, deliver-full (relay form k) out e)
+
+pub pack-full : (dictionary kernel out : List ℕ) → packCall dictionary kernel out .answer .number ≡ 14
+    → (k : List Instr) × (accepted longOnly dictionary kernel ≡ good k) × (length out < length (relay (shorten (dictionaryOf dictionary)) k))
+unfolding packCall
+pack-full dictionary kernel out =
+    relaid-full (shorten (dictionaryOf dictionary)) out (accepted longOnly dictionary kernel) (accepted-near longOnly dictionary kernel)
+
+pub unpack-full : (dictionary kernel out : List ℕ) → unpackCall dictionary kernel out .answer .number ≡ 14
+    → (k : List Instr) × (accepted longAndShort dictionary kernel ≡ good k) × (length out < length (relay longForm k))
+unfolding unpackCall
+unpack-full dictionary kernel out =
+    relaid-full longForm out (accepted longAndShort dictionary kernel) (accepted-near longAndShort dictionary kernel)
+
+-- ---- decode
+
+-- What is decoded has 8 or 16 bytes, which lie inside the kernel.
+pub record Inside (kernel : List ℕ) (from : ℕ) (a : Answer) : Type 0 where
+  pub size : (a .count ≡ 8) ⊎ (a .count ≡ 16)
+  pub ends : from + a .count ≤ length kernel
+
+judged-inside : (D : Dictionary) (kernel : List ℕ) (from : ℕ) → from < length kernel → (v : Judged) → judgeAt longAndShort D kernel from ≡ v → Modest v
+    → decodedAs (judgedAs from v) .number ≡ 0 → Inside kernel from (decodedAs (judgedAs from v))
+judged-inside D kernel from before (refused number) h m e = let a = modest-above number m in absurd (omega arith)
+judged-inside D kernel from before (passed size w) h m e = go size w (judge-passed longAndShort D kernel from before size w h)
+  where
+    go : (size w : ℕ) → Passed longAndShort D kernel from size w → Inside kernel from (verdict 0 (8 * size))
+    go size w (asLong room form listed legal) = record { size = inr refl; ends = room }
+    go size w (asShort room form listed plain takes legal) = record { size = inl refl; ends = room }
+
+pub decode-inside : (dictionary kernel : List ℕ) (place : ℕ) → decodeCall dictionary kernel place .number ≡ 0
+    → Inside kernel (8 * place) (decodeCall dictionary kernel place)
+unfolding decodeCall decodeAt
+decode-inside dictionary kernel place =
+    let D = dictionaryOf dictionary in
+    by-cond Q (not (sized dictionary kernel)) _ _ (λ e. absurd (omega arith))
+    (λ _. by-cond Q (not (inRange D)) _ _ (λ e. absurd (omega arith))
+    (λ _. by-cond Q (leb (length kernel) (8 * place)) _ _ (λ e. absurd (omega arith))
+    (λ e. judged-inside D kernel (8 * place) (leb-false (length kernel) (8 * place) e) (judgeAt longAndShort D kernel (8 * place)) refl (judged-modest longAndShort D kernel (8 * place)))))
+  where
+    Q : Decoded → Type 0
+    Q d = decodedAs d .number ≡ 0 → Inside kernel (8 * place) (decodedAs d)
+
+    by-cond : (R : Decoded → Type 0) (b : Bool) (x y : Decoded) → R x → (b ≡ false → R y) → R (cond b x y)
+    by-cond R true x y h g = h
+    by-cond R false x y h g = g refl
 
 -- ---- start
 
