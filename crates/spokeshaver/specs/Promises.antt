@@ -132,7 +132,7 @@ kept numbers w out r out′ f c p =
     record {
       refused = λ n. p .1 ∙ c .refused (λ e. n (t .number ∙ e));
       fits = rw (t .count) (c .fits);
-      rest = rw (t .count, p .1) (c .rest);
+      rest = (λ i. drop (t .count i) (p .1 i)) ∙ c .rest ∙ ap (λ (n : ℕ). drop n out) (sym (t .count));
       same = ap length (p .1) ∙ c .same;
     }
 
