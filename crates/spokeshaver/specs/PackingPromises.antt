@@ -1,8 +1,9 @@
 -- What the exported calls promise, further: the smallest short word, and packing and unpacking (demand 2). Promises says how to read it. Assumes nothing.
 use mathlib.Core.Bool.{true}
 use mathlib.Core.List.{List, [], _∷_, _++_, map}
+use mathlib.Core.Option.{Option, none, some}
 use mathlib.Core.Path.{_≡_, refl, sym, ap, _∙_}
-use Prim.Native.Nat.{ℕ, _+_, _*_, _%_, _^_, _<_, _≤_}
+use Prim.Native.Nat.{ℕ, _+_, _*_, _^_, _<_, _≤_}
 use native.Mathlib.Nat.{mod-eq-of-lt}
 use native.Mathlib.Omega.{arith}
 use lib.ListN.{length, take, drop, length-map}
@@ -13,15 +14,15 @@ use Rattle.paper.specs.Dictionary.{Dictionary, dictionaryOf}
 use Rattle.paper.specs.Shorten.{Shortens, Least, shorten}
 use Rattle.paper.specs.Kernel.{Instr, Forms, longAndShort, longOnly, good}
 use Rattle.paper.specs.Jump.{nextOf, endFrom}
-use Rattle.paper.specs.Packing.{Form, piece, relay, packed}
-use Rattle.paper.specs.Calls.{Answer, asNumber, verdict, Written, accepted, checkCall, packCall, unpackCall}
-use Rattle.laws.specs.Bytes.{number-lt, bytes-drop, number-bytesOf}
+use Rattle.paper.specs.Packing.{Form, piece, encode, relay}
+use Rattle.paper.specs.Calls.{Answer, asNumber, verdict, Written, accepted, packCall, unpackCall}
+use Rattle.laws.specs.Bytes.{number-lt, bytes-drop, bytes-append, bytes-bytesOf, number-bytesOf}
 use Rattle.laws.specs.Shorten.{shorten-some, shorten-none}
-use Rattle.laws.specs.Names.{Laid, Line, lineOf, program, relaidBy, longForm}
-use Rattle.laws.specs.Items.{Item, allBytes, instrsFrom}
+use Rattle.laws.specs.Names.{Laid, lineOf, program, relaidBy, longForm}
+use Rattle.laws.specs.Items.{Item, itemBytes, allBytes, instrsFrom}
 use Rattle.laws.specs.Packing.{kernel-of, long-accepted, packed-accepted, packed-program, unpacked-accepted, unpacked-program, AllShortest, packed-items}
 use Rattle.laws.specs.Moved.{end-near}
-use Rattle.laws.specs.Relay.{relay-length}
+use Rattle.laws.specs.Relay.{itemsOf, relay-items, relay-length}
 use Rattle.laws.specs.Walk.{Each}
 use Rattle.laws.specs.Parse.{WordAt}
 use Rattle.laws.specs.Demands.{unpack-delivers}
@@ -90,6 +91,16 @@ relaid-of forms form dictionary kernel out w v r out′ c e =
       are = ap (take (countIn r)) (e ∙ ap (λ (x : Written). x .output) (v .whole)) ∙ take-at bytes (drop (length bytes) out) (countIn r) (sym count);
     }
 
+-- Items are laid out as bytes.
+items-bytes : (items : List Item) → areBytes (allBytes items) ≡ true
+unfolding allBytes
+items-bytes [] = refl
+items-bytes (i ∷ items) = bytes-append (itemBytes i) (allBytes items) (go (i .short) (i .word)) (items-bytes items)
+  where
+    go : (short : Option ℕ) (word : ℕ) → areBytes (encode short word) ≡ true
+    go none word = bytes-bytesOf 16 word
+    go (some s) word = bytes-bytesOf 8 s
+
 module _ (dictionary kernel out : List ℕ) (right : areBytes kernel ≡ true) (r : ℕ) (out′ : List ℕ)
     (p : PackPromise dictionary kernel out r out′) (zero : numberIn r ≡ 0) where
   abbrev D : Dictionary
@@ -100,6 +111,10 @@ module _ (dictionary kernel out : List ℕ) (right : areBytes kernel ≡ true) (
       let t = pack-told dictionary kernel out r out′ p in
       relaid-of longOnly (shorten D) dictionary kernel out (packCall dictionary kernel out)
       (pack-writes dictionary kernel out (sym (t .number) ∙ zero)) r out′ (t .count) (p .1)
+
+  -- What was packed is bytes.
+  pub pack-bytes : areBytes (result r out′) ≡ true
+  pack-bytes = ap areBytes (pack-wrote .are ∙ relay-items (shorten D) (pack-wrote .instrs)) ∙ items-bytes (itemsOf (shorten D) (pack-wrote .instrs))
 
   -- If spokeshaver_pack answers 0, then every instruction that can be shortened is, to its smallest short word, in order and without gaps.
   pub pack-right : Packed dictionary kernel (result r out′)
@@ -185,7 +200,7 @@ one-each a [] l = omega arith
 one-each a (i ∷ k) l =
     let rest = one-each (nextOf i) k (l .2) in
     let here = l .0 in
-    let some = l .1 in
+    let nonempty = l .1 in
     omega arith
 
 -- A relayout takes at most two places for each instruction.

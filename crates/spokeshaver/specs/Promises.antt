@@ -2,13 +2,11 @@
 -- lent these, answered r and left out′ in its output; src/lib.rt proves it of the call. `numberIn`, `offsetIn` and `countIn` take an answer apart as
 -- the header's macros do. Inputs are bytes (`areBytes`) and 16-bit numbers, as their types in C are. Assumes nothing.
 use mathlib.Core.Bool.{Bool, true}
-use mathlib.Core.List.{List, _++_, map}
-use mathlib.Core.Logic.{_⊎_, inl, inr}
-use mathlib.Core.Path.{_≡_, refl, sym, ap, _∙_}
+use mathlib.Core.List.{List}
+use mathlib.Core.Logic.{_⊎_}
+use mathlib.Core.Path.{_≡_, sym, ap, _∙_}
 use Prim.Native.Nat.{ℕ, _+_, _*_, _≤_}
-use native.Mathlib.Omega.{arith}
-use lib.ListN.{length, take, drop}
-use lib.Pow.{areBytes}
+use lib.ListN.{length, drop}
 use Rattle.paper.specs.Calls.{Answer, asNumber, Written, Changed, checkCall, packCall, unpackCall, shortenCall, expandCall, decodeCall, startCall, stepCall, runCall}
 use Rattle.laws.specs.Calls.{Confined, pack-confined, unpack-confined, shorten-confined, expand-confined, start-confined, step-unchanged, run-unchanged}
 use Rattle.spokeshaver.specs.Contracts.{numberIn, offsetIn, countIn, Wrote, Left, CheckPromise, PackPromise, UnpackPromise, ShortenPromise, ExpandPromise}

@@ -3,29 +3,29 @@
 use mathlib.Core.Bool.{true}
 use mathlib.Core.List.{List, map}
 use mathlib.Core.Logic.{_⊎_, inl, inr}
-use mathlib.Core.Path.{_≡_, refl, sym, ap, _∙_}
+use mathlib.Core.Path.{_≡_, sym, ap, _∙_}
 use Prim.Native.Nat.{ℕ, suc, _^_, _<_, _≤_}
 use native.Mathlib.Omega.{arith}
 use lib.ListN.{length}
 use lib.Pow.{areBytes}
-use Rattle.paper.specs.Limits.{registerBytes, stateLength, budgetLimit}
+use Rattle.paper.specs.Limits.{registerBytes, budgetLimit}
 use Rattle.paper.specs.Dictionary.{dictionaryOf}
 use Rattle.paper.specs.Shorten.{shorten}
 use Rattle.paper.specs.Kernel.{Instr, longAndShort, longOnly, good}
 use Rattle.paper.specs.Jump.{endOf}
-use Rattle.paper.specs.Machine.{Channel, State, run}
-use Rattle.paper.specs.State.{half, channelsIn, stateOf, stateBytes}
+use Rattle.paper.specs.Machine.{State, run}
+use Rattle.paper.specs.State.{half, channelsIn, stateOf, stateLegal, stateBytes}
 use Rattle.paper.specs.Packing.{index, packed}
-use Rattle.paper.specs.Calls.{Answer, asNumber, Changed, accepted, stepCall, runCall}
+use Rattle.paper.specs.Calls.{asNumber, Changed, accepted, stepCall, runCall}
 use Rattle.laws.specs.Names.{renameC, named, relaidBy}
 use Rattle.laws.specs.Calls.{step-unchanged, run-verdict}
 use Rattle.laws.specs.Packing.{kernel-of, kernel-near, long-accepted, packed-accepted, accepted-parts}
-use Rattle.laws.specs.Demands.{run-ready, stored-ready, begun, start-lasting, start-bytes, alike}
+use Rattle.laws.specs.Demands.{Ready, run-ready, stored-ready, begun, start-lasting, start-bytes, alike}
 use Rattle.spokeshaver.specs.Contracts.{numberIn, countIn, CheckPromise, PackPromise, StartPromise, StepPromise, RunPromise, Steps}
 use Rattle.spokeshaver.specs.Results.{check-accepts, start-fits}
-use Rattle.spokeshaver.specs.Stepping.{follows, run-suc, run-made}
+use Rattle.spokeshaver.specs.Stepping.{state-bytes, follows, run-suc, run-leaves-ready, run-made}
 use Rattle.spokeshaver.specs.Promises.{check-told, start-told, step-told, run-told}
-use Rattle.spokeshaver.specs.PackingPromises.{result, pack-wrote}
+use Rattle.spokeshaver.specs.PackingPromises.{result, pack-wrote, pack-bytes}
 
 -- ==== a run is single steps
 
@@ -108,6 +108,16 @@ module _ (mask flag0 flag1 : ℕ) (small0 : flag0 < 2 ^ 16) (small1 : flag1 < 2 
       let t = start-told mask flag0 flag1 lent s state begin in
       begin .1 ∙ start-bytes registers flag0 flag1 mask lent (start-fits mask flag0 flag1 lent (sym (t .number) ∙ begins))
 
+  -- With a kernel that is accepted, nothing that is lent is refused.
+  start-ready : (dictionary kernel : List ℕ) → areBytes kernel ≡ true → (k : List Instr) → accepted longAndShort dictionary kernel ≡ good k
+      → Ready dictionary kernel registers state k
+  start-ready dictionary kernel right k given =
+      let h = kernel-of longAndShort dictionary kernel right k given in
+      let parts = accepted-parts dictionary kernel k given in
+      let near : endOf k ≤ 2048 = kernel-near longAndShort dictionary kernel k h in
+      let lasts = start-lasting k (h .sound) registers flag0 flag1 mask whole small0 small1 in
+      rw started (stored-ready dictionary kernel k (h .sound) (omega arith) (parts .0) (parts .1) (begun registers flag0 flag1 mask) lasts)
+
   -- What check accepts, runs: from a start with any mask and flags, any registers and any budget up to 1,000,000 the answer is 20 or 21, no refusal.
   pub accepted-runs : (dictionary kernel : List ℕ) → areBytes kernel ≡ true → (c : ℕ) → CheckPromise dictionary kernel c → numberIn c ≡ 0
       → (budget : ℕ) → budget ≤ budgetLimit → (r : ℕ) (registers′ state′ : List ℕ)
@@ -115,22 +125,25 @@ module _ (mask flag0 flag1 : ℕ) (small0 : flag0 < 2 ^ 16) (small1 : flag1 < 2 
   accepted-runs dictionary kernel right c checked zero budget le r registers′ state′ p =
       let g = check-accepts dictionary kernel (sym (check-told dictionary kernel c checked .number) ∙ zero) in
       let k = g .instrs in
-      let h = kernel-of longAndShort dictionary kernel right k (g .are) in
-      let parts = accepted-parts dictionary kernel k (g .are) in
-      let near : endOf k ≤ 2048 = kernel-near longAndShort dictionary kernel k h in
-      let first = begun registers flag0 flag1 mask in
-      let lasts = start-lasting k (h .sound) registers flag0 flag1 mask whole small0 small1 in
-      let ready = stored-ready dictionary kernel k (h .sound) (omega arith) (parts .0) (parts .1) first lasts in
-      let law = run-ready dictionary kernel registers (stateBytes first) k ready budget le in
+      let law = run-ready dictionary kernel registers state k (start-ready dictionary kernel right k (g .are)) budget le in
       let t = run-told dictionary kernel budget registers state r registers′ state′ p in
-      let n : numberIn r ≡ run k budget (stateOf registers (stateBytes first)) .verdict =
-      t .number ∙ ap (λ (x : List ℕ). runCall dictionary kernel budget registers x .answer .number) started ∙ ap (λ (x : Changed). x .answer .number) law in
-      elim (run-verdict k budget (stateOf registers (stateBytes first))) [ inl e ↦ inl (n ∙ e) | inr e ↦ inr (n ∙ e) ]
+      let n : numberIn r ≡ run k budget (stateOf registers state) .verdict = t .number ∙ ap (λ (x : Changed). x .answer .number) law in
+      elim (run-verdict k budget (stateOf registers state)) [ inl e ↦ inl (n ∙ e) | inr e ↦ inr (n ∙ e) ]
+
+  -- And what the run leaves is legal again: every place in it is an instruction's start or the end.
+  pub legal-after : (dictionary kernel : List ℕ) → areBytes kernel ≡ true → (k : List Instr) → accepted longAndShort dictionary kernel ≡ good k
+      → (budget : ℕ) → budget ≤ budgetLimit → (r : ℕ) (registers′ state′ : List ℕ)
+      → RunPromise dictionary kernel budget registers state r registers′ state′ → stateLegal k registers′ state′ ≡ true
+  legal-after dictionary kernel right k given budget le r registers′ state′ p =
+      let bytes : areBytes state ≡ true = ap areBytes started ∙ state-bytes (begun registers flag0 flag1 mask) in
+      let after = run-leaves-ready dictionary kernel registers state right bytes k (start-ready dictionary kernel right k given) budget le in
+      (λ i. stateLegal k (p .1 i) (p .2 i)) ∙ after .legal
 
 -- ==== demand 3: long and packed run alike
 
 -- How two runs are alike, of a kernel with the instructions k and one with the instructions l: the same answer, that is verdict and steps; the same
--- registers and flags; and the place, and each channel's waiting place, name the same instruction by its number, the end being one past the last.
+-- registers and flags; and the place, and each channel's waiting place, name the same instruction by its number, the end being one past the last. In
+-- both every place is an instruction's start or the end.
 pub record Alike (k l : List Instr) (r : ℕ) (registers state : List ℕ) (r′ : ℕ) (registers′ state′ : List ℕ) : Type 0 where
   pub sameAnswer : r ≡ r′
   pub sameRegisters : registers ≡ registers′
@@ -138,13 +151,15 @@ pub record Alike (k l : List Instr) (r : ℕ) (registers state : List ℕ) (r′
   pub sameFlag1 : half state 2 ≡ half state′ 2
   pub samePlace : index k (half state 4) ≡ index l (half state′ 4)
   pub sameChannels : map (renameC (index k)) (channelsIn state 0 16) ≡ map (renameC (index l)) (channelsIn state′ 0 16)
+  pub legal : stateLegal k registers state ≡ true
+  pub legal′ : stateLegal l registers′ state′ ≡ true
 
 -- What two states that read the same by instruction numbers have in common.
 alike-named : (k l : List Instr) (r : ℕ) (registers state : List ℕ) (r′ : ℕ) (registers′ state′ : List ℕ)
     → r ≡ r′ → registers ≡ registers′ → named k (stateOf registers state) ≡ named l (stateOf registers′ state′)
-    → Alike k l r registers state r′ registers′ state′
+    → stateLegal k registers state ≡ true → stateLegal l registers′ state′ ≡ true → Alike k l r registers state r′ registers′ state′
 unfolding stateOf
-alike-named k l r registers state r′ registers′ state′ a b e =
+alike-named k l r registers state r′ registers′ state′ a b e legal legal′ =
     record {
       sameAnswer = a;
       sameRegisters = b;
@@ -152,6 +167,8 @@ alike-named k l r registers state r′ registers′ state′ a b e =
       sameFlag1 = ap (λ (s : State). s .store .flag1) e;
       samePlace = ap (λ (s : State). s .place) e;
       sameChannels = ap (λ (s : State). s .channels) e;
+      legal = legal;
+      legal′ = legal′;
     }
 
 -- A kernel that spokeshaver_pack answered with 0, and the bytes that it wrote; a start with any mask and flags; any registers; every budget up to
@@ -181,10 +198,15 @@ packed-runs-alike dictionary kernel out right p out′ pack zero mask flag0 flag
     ≡ runCall dictionary (packed D (w .instrs)) budget registers (stateBytes (begun registers flag0 flag1 mask)) =
     (λ i. runCall dictionary (w .are i) budget registers (first i)) in
     let law = alike dictionary kernel right (w .instrs) (w .given) registers flag0 flag1 mask whole small0 small1 budget le in
-    rw (sym same-k, sym same-l)
-    (alike-named (w .instrs) (relaidBy (shorten D) (w .instrs)) r registers′ state′ q registers″ state″
+    let names : named k (stateOf registers′ state′) ≡ named l (stateOf registers″ state″) =
+    (λ i. named (sym same-k i) (stateOf ((long .1 ∙ ap (λ (x : Changed). x .registers) one) i) ((long .2 ∙ ap (λ (x : Changed). x .state) one) i)))
+    ∙ law .2
+    ∙ sym (λ i. named (sym same-l i) (stateOf ((short .1 ∙ ap (λ (x : Changed). x .registers) two) i) ((short .2 ∙ ap (λ (x : Changed). x .state) two) i))) in
+    let packs = pack-bytes dictionary kernel out right p out′ pack zero in
+    let legal = legal-after mask flag0 flag1 small0 small1 lent s state begin begins registers whole in
+    alike-named k l r registers′ state′ q registers″ state″
     (long .0 ∙ ap (λ (x : Changed). asNumber (x .answer)) one ∙ ap asNumber (law .0) ∙ sym (short .0 ∙ ap (λ (x : Changed). asNumber (x .answer)) two))
     (long .1 ∙ ap (λ (x : Changed). x .registers) one ∙ law .1 ∙ sym (short .1 ∙ ap (λ (x : Changed). x .registers) two))
-    ((λ i. named (w .instrs) (stateOf ((long .1 ∙ ap (λ (x : Changed). x .registers) one) i) ((long .2 ∙ ap (λ (x : Changed). x .state) one) i)))
-    ∙ law .2
-    ∙ sym (λ i. named (relaidBy (shorten D) (w .instrs)) (stateOf ((short .1 ∙ ap (λ (x : Changed). x .registers) two) i) ((short .2 ∙ ap (λ (x : Changed). x .state) two) i)))))
+    names
+    (legal dictionary kernel right k given budget le r registers′ state′ long)
+    (legal dictionary (result p out′) packs l taken budget le q registers″ state″ short)

@@ -1,30 +1,29 @@
 -- Steps and runs of the calls, from any registers and state that are lent: a run is as many steps as it says, each by the call itself. Assumes nothing.
-use mathlib.Core.Bool.{Bool, true, false, not, cond, _&&_, false≢true}
-use mathlib.Core.List.{List, [], _∷_, _++_}
+use mathlib.Core.Bool.{Bool, true, false, cond, _&&_, false≢true}
+use mathlib.Core.List.{List, [], _∷_}
 use mathlib.Core.Option.{Option, none, some}
 use mathlib.Core.Path.{_≡_, refl, sym, ap, _∙_}
-use Prim.Native.Nat.{ℕ, zero, suc, _+_, _≤_}
+use Prim.Native.Nat.{ℕ, zero, suc, _≤_}
 use native.Mathlib.Omega.{arith}
-use lib.Dec.{eqb, ltb, leb}
+use lib.Dec.{eqb}
 use lib.ListN.{length}
 use lib.Pow.{areBytes}
 use borrow.Author.Tests.{eqb-true, eqb-false, le-ltb}
-use Rattle.paper.specs.Limits.{registerBytes, stateLength, budgetLimit, kernelBytes, instructionLimit}
+use Rattle.paper.specs.Limits.{registerBytes, stateLength, budgetLimit, instructionLimit}
 use Rattle.paper.specs.Kernel.{Instr, longAndShort, Parsed, bad, good}
 use Rattle.paper.specs.Jump.{endOf, fetch}
-use Rattle.paper.specs.Machine.{Channel, State, step, stops, stopsOn, Outcome, run}
-use Rattle.paper.specs.State.{half, channelIn, channelsIn, stateOf, allThree, stateLands, stateLegal, stateBytes}
+use Rattle.paper.specs.Machine.{State, step, stops, stopsOn, run}
+use Rattle.paper.specs.State.{channelsIn, stateOf, allThree, stateLands, stateLegal, stateBytes}
 use Rattle.paper.specs.Bits.{bytesOf}
 use Rattle.paper.specs.Calls.{refusal, verdict, Changed, unchanged, changedTo, sized, allSized, judgedKernel, accepted, onState, steppedAs, stepCall, ranAs, runCall}
 use Rattle.laws.specs.Bytes.{bytes-append, bytes-bytesOf}
 use Rattle.laws.specs.Halfwords.{halves, both, half-less}
-use Rattle.laws.specs.Names.{Sound}
 use Rattle.laws.specs.Runs.{still, orSpent, run-zero, run-stop}
 use Rattle.laws.specs.Same.{state-names}
 use Rattle.laws.specs.StateBytes.{state-halves, bytes-back}
-use Rattle.laws.specs.Lasting.{Lasting}
+use Rattle.laws.specs.Lasting.{Lasting, run-lasting}
 use Rattle.laws.specs.Packing.{Kernel, kernel-of, kernel-near}
-use Rattle.laws.specs.Demands.{Ready, run-ready, step-ready, run-steps}
+use Rattle.laws.specs.Demands.{Ready, run-ready, step-ready, stored-ready, run-steps}
 use Rattle.laws.specs.Calls.{step-unchanged}
 use Rattle.spokeshaver.specs.Contracts.{Steps, nothing, onward}
 use Rattle.spokeshaver.specs.Numbers.{stepNumbers}
@@ -93,6 +92,15 @@ module _ (dictionary kernel registers bytes : List ℕ) (right : areBytes kernel
     unchanged-lent : (number count : ℕ) → changedTo (verdict number count) lent ≡ unchanged (verdict number count) registers bytes
     unfolding stateOf
     unchanged-lent number count = λ i. record { answer = verdict number count; registers = registers; state = bytes-lent i }
+
+    -- What a run leaves is as ready for the next.
+    pub run-leaves-ready : (budget : ℕ) → budget ≤ budgetLimit
+        → let c = runCall dictionary kernel budget registers bytes in Ready dictionary kernel (c .registers) (c .state) k
+    run-leaves-ready budget le =
+        let near : endOf k ≤ 2048 = kernel-near longAndShort dictionary kernel k kernel-lent in
+        let after = run-lasting k (kernel-lent .sound) registerBytes budget lent lasting-lent in
+        rw (run-ready dictionary kernel registers bytes k r budget le)
+        (stored-ready dictionary kernel k (kernel-lent .sound) (omega arith) (sizes .0) (r .judged) (run k budget lent .state) after)
 
     -- One step more is the step and then the run.
     pub run-suc : stops k lent ≡ none → (n : ℕ) → suc n ≤ budgetLimit
