@@ -1,6 +1,7 @@
 -- What the exported calls promise, for all that can be lent to them. A hypothesis such as `PackPromise dictionary kernel out r out′` says: spokeshaver_pack,
 -- lent these, answered r and left out′ in its output; src/lib.rt proves it of the call. `numberIn`, `offsetIn` and `countIn` take an answer apart as
--- the header's macros do. Inputs are bytes (`areBytes`) and 16-bit numbers, as their types in C are. Assumes nothing.
+-- the header's macros do. Here: one outcome, its numbers, and what a refusal leaves; PackingPromises and RunningPromises go on, and ask besides that what
+-- is lent is bytes (`areBytes`) and 16-bit numbers, as the types in C say. Assumes nothing.
 use mathlib.Core.Bool.{Bool, true}
 use mathlib.Core.List.{List}
 use mathlib.Core.Logic.{_⊎_}
