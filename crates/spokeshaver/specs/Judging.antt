@@ -1,7 +1,8 @@
 -- How large a refusal's number and an instruction's size are. Assumes nothing.
-use mathlib.Core.Bool.{Bool, true, false, not, cond, _||_}
+use mathlib.Core.Bool.{Bool, true, false, not, cond, _||_, false≢true}
 use mathlib.Core.List.{List}
-use Prim.Native.Nat.{ℕ, _-_, _≤_}
+use mathlib.Core.Path.{_≡_, refl, sym}
+use Prim.Native.Nat.{ℕ, zero, suc, _-_, _<_, _≤_}
 use native.Mathlib.Omega.{arith}
 use lib.Dec.{eqb, ltb}
 use lib.ListN.{length}
@@ -12,9 +13,9 @@ use Rattle.paper.specs.Operation.{Operation, plain, nop, branch, unlisted, oper
 use Rattle.paper.specs.Legal.{reservedSet, plainServed, branchServed, operandRuleBroken, shapeBroken, alignmentBroken, reachBroken, later, refusalOf}
 use Rattle.paper.specs.Kernel.{Forms, takesShort, Judged, refused, passed, judgeWord, judgeShort, judgeLong, judgeAt}
 
--- What is said of one instruction has a number up to 11, or a size up to 2 places.
+-- What is said of one instruction has a number from 1 to 11, or a size up to 2 places.
 unfoldable pub Modest : Judged → Type 0
-Modest (refused number) = number ≤ 11
+Modest (refused number) = (0 < number) × (number ≤ 11)
 Modest (passed size w) = size ≤ 2
 
 -- What that says of a size, and of a number; and how it is said.
@@ -24,11 +25,15 @@ modest-size size w h = h
 
 pub modest-number : (number : ℕ) → Modest (refused number) → number ≤ 11
 unfolding Modest
-modest-number number h = h
+modest-number number h = h .1
 
-modest-no : (number : ℕ) → number ≤ 11 → Modest (refused number)
+pub modest-above : (number : ℕ) → Modest (refused number) → 0 < number
 unfolding Modest
-modest-no number h = h
+modest-above number h = h .0
+
+modest-no : (number : ℕ) → 0 < number → number ≤ 11 → Modest (refused number)
+unfolding Modest
+modest-no number h g = (h, g)
 
 modest-yes : (size w : ℕ) → size ≤ 2 → Modest (passed size w)
 unfolding Modest
@@ -61,27 +66,35 @@ refusal-small : (w : ℕ) → refusalOf w ≤ 11
 unfolding refusalOf
 refusal-small w = least-cond (reservedSet w) 6 (later (operation w) w) (omega arith) (later-small (operation w) w)
 
+-- What is not 0 is above it.
+above : (n : ℕ) → eqb n 0 ≡ false → 0 < n
+above zero e = absurd (false≢true (sym e))
+above (suc n) e = omega arith
+
 -- A word that is judged by 6 to 11.
 word-modest : (size w : ℕ) → size ≤ 2 → Modest (judgeWord size w)
-word-modest size w h =
-    modest-cond (eqb (refusalOf w) 0) (passed size w) (refused (refusalOf w)) (modest-yes size w h) (modest-no (refusalOf w) (refusal-small w))
+word-modest size w h = go (eqb (refusalOf w) 0) refl
+  where
+    go : (b : Bool) → eqb (refusalOf w) 0 ≡ b → Modest (cond b (passed size w) (refused (refusalOf w)))
+    go true e = modest-yes size w h
+    go false e = modest-no (refusalOf w) (above (refusalOf w) e) (refusal-small w)
 
 -- A short word, a long word.
 short-modest : (forms : Forms) (D : Dictionary) (s : ℕ) → Modest (judgeShort forms D s)
 unfolding judgeShort
 short-modest forms D s =
-    modest-cond (not (isListed (operation s))) (refused 4) _ (modest-no 4 (omega arith))
-    (modest-cond (isBranch (operation s) || not (takesShort forms)) (refused 5) _ (modest-no 5 (omega arith))
+    modest-cond (not (isListed (operation s))) (refused 4) _ (modest-no 4 (omega arith) (omega arith))
+    (modest-cond (isBranch (operation s) || not (takesShort forms)) (refused 5) _ (modest-no 5 (omega arith) (omega arith))
     (word-modest 1 (expand D s) (omega arith)))
 
 long-modest : (w : ℕ) → Modest (judgeLong w)
 unfolding judgeLong
-long-modest w = modest-cond (not (isListed (operation w))) (refused 4) _ (modest-no 4 (omega arith)) (word-modest 2 w (omega arith))
+long-modest w = modest-cond (not (isListed (operation w))) (refused 4) _ (modest-no 4 (omega arith) (omega arith)) (word-modest 2 w (omega arith))
 
 -- What is said of the instruction at any byte of a kernel is modest.
 pub judged-modest : (forms : Forms) (D : Dictionary) (kernel : List ℕ) (from : ℕ) → Modest (judgeAt forms D kernel from)
 unfolding judgeAt
 judged-modest forms D kernel from =
-    modest-cond (ltb (length kernel - from) 8) (refused 3) _ (modest-no 3 (omega arith))
+    modest-cond (ltb (length kernel - from) 8) (refused 3) _ (modest-no 3 (omega arith) (omega arith))
     (modest-cond (isShort (numberAt kernel from 8)) _ _ (short-modest forms D (numberAt kernel from 8))
-    (modest-cond (ltb (length kernel - from) 16) (refused 3) _ (modest-no 3 (omega arith)) (long-modest (numberAt kernel from 16))))
+    (modest-cond (ltb (length kernel - from) 16) (refused 3) _ (modest-no 3 (omega arith) (omega arith)) (long-modest (numberAt kernel from 16))))

@@ -1,6 +1,7 @@
 -- How large the numbers are that are said of a kernel: a refusal's number and offset, how many instructions there are. Assumes nothing.
 use mathlib.Core.Bool.{Bool, true, false, cond, _&&_, false≢true}
 use mathlib.Core.List.{List, [], _∷_}
+use mathlib.Core.Logic.{_⊎_, inl, inr}
 use mathlib.Core.Option.{some}
 use mathlib.Core.Path.{_≡_, refl}
 use Prim.Native.Nat.{ℕ, zero, suc, _+_, _*_, _/_, _<_, _≤_}
@@ -13,26 +14,38 @@ use Rattle.paper.specs.Dictionary.{dictionaryOf, inRange}
 use Rattle.paper.specs.Kernel.{Instr, Forms, Judged, refused, passed, judgeAt, Parsed, bad, good, prepend, enter, walk, parse}
 use Rattle.paper.specs.Jump.{targetOf, jumpLands, firstAstray, astray, withJumps}
 use Rattle.paper.specs.Calls.{sized, judgedKernel, accepted}
-use Rattle.spokeshaver.specs.Judging.{Modest, modest-number, judged-modest}
+use Rattle.spokeshaver.specs.Judging.{Modest, modest-number, modest-above, judged-modest}
 
 -- Every instruction starts at a byte before `end`.
 unfoldable pub Inside : ℕ → List Instr → Type 0
 Inside end [] = Unit {0}
 Inside end (i ∷ k) = (8 * i .place < end) × Inside end k
 
--- What is said of a kernel: a number up to 17 and an offset up to `end`; or at most n instructions, which start before `end`.
+-- A kernel is refused with 1 to 12, or with 17.
+abbrev pub KernelNo : ℕ → Type 0
+KernelNo number = ((0 < number) × (number ≤ 12)) ⊎ (number ≡ 17)
+
+-- What is said of a kernel: such a number and an offset up to `end`; or at most n instructions, which start before `end`.
 unfoldable pub Near : ℕ → ℕ → Parsed → Type 0
-Near end n (bad number offset) = (number ≤ 17) × (offset ≤ end)
+Near end n (bad number offset) = KernelNo number × (offset ≤ end)
 Near end n (good k) = (length k ≤ n) × Inside end k
 
 -- How that is said of a refusal, and what it says of one and of a kernel.
-pub near-bad : (end n number offset : ℕ) → number ≤ 17 → offset ≤ end → Near end n (bad number offset)
+pub near-bad : (end n number offset : ℕ) → KernelNo number → offset ≤ end → Near end n (bad number offset)
 unfolding Near
 near-bad end n number offset h g = (h, g)
 
 pub near-refused : (end n number offset : ℕ) → Near end n (bad number offset) → (number ≤ 17) × (offset ≤ end)
 unfolding Near
-near-refused end n number offset h = h
+near-refused end n number offset h = (at-most (h .0), h .1)
+  where
+    at-most : KernelNo number → number ≤ 17
+    at-most (inl low) = omega (arith, low .1)
+    at-most (inr last) = omega arith
+
+pub near-number : (end n number offset : ℕ) → Near end n (bad number offset) → KernelNo number
+unfolding Near
+near-number end n number offset h = h .0
 
 pub near-few : (end n : ℕ) (k : List Instr) → Near end n (good k) → length k ≤ n
 unfolding Near
@@ -59,7 +72,7 @@ module _ (judge : ℕ → Judged) (end : ℕ) (modest : (from : ℕ) → Modest 
   near-enter : (n from : ℕ) (v : Judged) → Modest v → from < end → ((m : ℕ) → Near end n (walk judge end n m))
       → Near end (suc n) (enter from v (walk judge end n))
   near-enter n from (refused number) m h ih =
-      let few = modest-number number m in near-bad end (suc n) number from (omega arith) (omega arith)
+      let few = modest-number number m in near-bad end (suc n) number from (inl (modest-above number m, omega arith)) (omega arith)
   near-enter n from (passed size w) m h ih =
       near-prepend end n (record { place = from / 8; size = size; word = w }) _ (omega arith) (ih (from + 8 * size))
 
@@ -68,7 +81,7 @@ module _ (judge : ℕ → Judged) (end : ℕ) (modest : (from : ℕ) → Modest 
   unfolding walk
   near-walk zero from =
       near-cond end zero (ltb from end) (bad 17 from) (good [])
-      (λ e. near-bad end zero 17 from (omega arith) (let h = ltb-true from end e in omega arith)) (near-none end zero)
+      (λ e. near-bad end zero 17 from (inr refl) (let h = ltb-true from end e in omega arith)) (near-none end zero)
   near-walk (suc n) from =
       near-cond end (suc n) (ltb from end) (enter from (judge from) (walk judge end n)) (good [])
       (λ e. near-enter n from (judge from) (modest from) (ltb-true from end e) (near-walk n)) (near-none end (suc n))
@@ -83,7 +96,7 @@ near-astray end n k (i ∷ rest) h g = go (jumpLands k (targetOf i)) (near-astra
   where
     go : (b : Bool) → Near end n (astray k (firstAstray k rest)) → Near end n (astray k (cond b (firstAstray k rest) (some (8 * i .place))))
     go true later = later
-    go false later = near-bad end n 12 (8 * i .place) (omega arith) (omega (arith, g .0))
+    go false later = near-bad end n 12 (8 * i .place) (inl (omega arith, omega arith)) (omega (arith, g .0))
 
 near-inside : (end n : ℕ) (k : List Instr) → Near end n (good k) → Inside end k
 unfolding Near
@@ -114,7 +127,7 @@ judged-near forms dictionary kernel =
     near-cond (length kernel) instructionLimit (inRange D) _ (bad 2 0)
     (λ _. near-jumps (length kernel) instructionLimit _
     (near-walk (judgeAt forms D kernel) (length kernel) (judged-modest forms D kernel) instructionLimit 0))
-    (near-bad (length kernel) instructionLimit 2 0 (omega arith) (omega arith))
+    (near-bad (length kernel) instructionLimit 2 0 (inl (omega arith, omega arith)) (omega arith))
 
 -- What lies before an end lies before a later one.
 inside-more : (end more : ℕ) (k : List Instr) → end ≤ more → Inside end k → Inside more k
@@ -133,4 +146,4 @@ unfolding accepted
 accepted-near forms dictionary kernel =
     near-cond kernelBytes instructionLimit (sized dictionary kernel) _ (bad 1 0)
     (λ e. near-more (length kernel) kernelBytes instructionLimit _ (sized-most dictionary kernel e) (judged-near forms dictionary kernel))
-    (near-bad kernelBytes instructionLimit 1 0 (omega arith) (omega arith))
+    (near-bad kernelBytes instructionLimit 1 0 (inl (omega arith, omega arith)) (omega arith))

@@ -1,5 +1,6 @@
 // The calls of the C boundary (include/spokeshaver.h): numbers and byte slices only. Each answers one number, by `asNumber`, and leaves in what it is
-// lent what the paper's definition of the call says, for all inputs; nothing is asked of the caller.
+// lent what the paper's definition of the call says, for all inputs; nothing is asked of the caller. What each promises stands in specs/Contracts.antt,
+// what follows from it in specs/Promises.antt.
 mod answers;
 
 use crate::answers::checked;
@@ -15,13 +16,13 @@ use run::calls::run;
 use run::calls::step;
 use words::calls::expand_word;
 use words::calls::shorten_word;
-ghost use mathlib.Core.Path.{_≡_};
-ghost use Rattle.paper.specs.Calls.{asNumber, checkCall, packCall, unpackCall, shortenCall, expandCall, decodeCall, startCall, stepCall, runCall};
+ghost use Rattle.spokeshaver.specs.Contracts.{CheckPromise, PackPromise, UnpackPromise, ShortenPromise, ExpandPromise};
+ghost use Rattle.spokeshaver.specs.Contracts.{DecodePromise, StartPromise, StepPromise, RunPromise};
 
 // Is the kernel accepted; the count is its instructions.
 #[no_mangle]
 pub extern "C" fn spokeshaver_check(dictionary: &[u8], kernel: &[u8]) -> u64
-    ensures { λ r. ⌜ r ≡ asNumber (checkCall (now (dictionary .entry)) (now (kernel .entry))) ⌝ }
+    ensures { λ r. ⌜ CheckPromise (now (dictionary .entry)) (now (kernel .entry)) r ⌝ }
 {
     checked(check(dictionary, kernel))
 }
@@ -29,8 +30,7 @@ pub extern "C" fn spokeshaver_check(dictionary: &[u8], kernel: &[u8]) -> u64
 // The kernel of long words with each word short that can be; the count is its bytes.
 #[no_mangle]
 pub extern "C" fn spokeshaver_pack(dictionary: &[u8], kernel: &[u8], out: &mut [u8]) -> u64
-    ensures { λ r. ⌜ r ≡ asNumber (packCall (now (dictionary .entry)) (now (kernel .entry)) (now (out .entry)) .answer) ⌝ }
-    ensures { λ _. ⌜ now (out .exit) ≡ packCall (now (dictionary .entry)) (now (kernel .entry)) (now (out .entry)) .output ⌝ }
+    ensures { λ r. ⌜ PackPromise (now (dictionary .entry)) (now (kernel .entry)) (now (out .entry)) r (now (out .exit)) ⌝ }
 {
     wrote(pack(dictionary, kernel, out))
 }
@@ -38,8 +38,7 @@ pub extern "C" fn spokeshaver_pack(dictionary: &[u8], kernel: &[u8], out: &mut [
 // The kernel with each word long; the count is its bytes.
 #[no_mangle]
 pub extern "C" fn spokeshaver_unpack(dictionary: &[u8], kernel: &[u8], out: &mut [u8]) -> u64
-    ensures { λ r. ⌜ r ≡ asNumber (unpackCall (now (dictionary .entry)) (now (kernel .entry)) (now (out .entry)) .answer) ⌝ }
-    ensures { λ _. ⌜ now (out .exit) ≡ unpackCall (now (dictionary .entry)) (now (kernel .entry)) (now (out .entry)) .output ⌝ }
+    ensures { λ r. ⌜ UnpackPromise (now (dictionary .entry)) (now (kernel .entry)) (now (out .entry)) r (now (out .exit)) ⌝ }
 {
     wrote(unpack(dictionary, kernel, out))
 }
@@ -47,8 +46,7 @@ pub extern "C" fn spokeshaver_unpack(dictionary: &[u8], kernel: &[u8], out: &mut
 // The smallest short word that expands to the long word; the count is 8.
 #[no_mangle]
 pub extern "C" fn spokeshaver_shorten(dictionary: &[u8], word: &[u8], out: &mut [u8]) -> u64
-    ensures { λ r. ⌜ r ≡ asNumber (shortenCall (now (dictionary .entry)) (now (word .entry)) (now (out .entry)) .answer) ⌝ }
-    ensures { λ _. ⌜ now (out .exit) ≡ shortenCall (now (dictionary .entry)) (now (word .entry)) (now (out .entry)) .output ⌝ }
+    ensures { λ r. ⌜ ShortenPromise (now (dictionary .entry)) (now (word .entry)) (now (out .entry)) r (now (out .exit)) ⌝ }
 {
     wrote(shorten_word(dictionary, word, out))
 }
@@ -56,8 +54,7 @@ pub extern "C" fn spokeshaver_shorten(dictionary: &[u8], word: &[u8], out: &mut 
 // The long word that the short word stands for; the count is 16.
 #[no_mangle]
 pub extern "C" fn spokeshaver_expand(dictionary: &[u8], word: &[u8], out: &mut [u8]) -> u64
-    ensures { λ r. ⌜ r ≡ asNumber (expandCall (now (dictionary .entry)) (now (word .entry)) (now (out .entry)) .answer) ⌝ }
-    ensures { λ _. ⌜ now (out .exit) ≡ expandCall (now (dictionary .entry)) (now (word .entry)) (now (out .entry)) .output ⌝ }
+    ensures { λ r. ⌜ ExpandPromise (now (dictionary .entry)) (now (word .entry)) (now (out .entry)) r (now (out .exit)) ⌝ }
 {
     wrote(expand_word(dictionary, word, out))
 }
@@ -65,7 +62,7 @@ pub extern "C" fn spokeshaver_expand(dictionary: &[u8], word: &[u8], out: &mut [
 // The one instruction at a place; the count is its bytes.
 #[no_mangle]
 pub extern "C" fn spokeshaver_decode(dictionary: &[u8], kernel: &[u8], place: u64) -> u64
-    ensures { λ r. ⌜ r ≡ asNumber (decodeCall (now (dictionary .entry)) (now (kernel .entry)) place) ⌝ }
+    ensures { λ r. ⌜ DecodePromise (now (dictionary .entry)) (now (kernel .entry)) place r ⌝ }
 {
     decoded(decode(dictionary, kernel, place))
 }
@@ -73,8 +70,7 @@ pub extern "C" fn spokeshaver_decode(dictionary: &[u8], kernel: &[u8], place: u6
 // The state before the first step; the count is 0.
 #[no_mangle]
 pub extern "C" fn spokeshaver_start(mask: u16, flag0: u16, flag1: u16, state: &mut [u8]) -> u64
-    ensures { λ r. ⌜ r ≡ asNumber (startCall mask flag0 flag1 (now (state .entry)) .answer) ⌝ }
-    ensures { λ _. ⌜ now (state .exit) ≡ startCall mask flag0 flag1 (now (state .entry)) .output ⌝ }
+    ensures { λ r. ⌜ StartPromise mask flag0 flag1 (now (state .entry)) r (now (state .exit)) ⌝ }
 {
     wrote(start(mask, flag0, flag1, state))
 }
@@ -87,9 +83,7 @@ pub extern "C" fn spokeshaver_step(
     registers: &mut [u8],
     state: &mut [u8],
 ) -> u64
-    ensures { λ r. ⌜ r ≡ asNumber (stepCall (now (dictionary .entry)) (now (kernel .entry)) (now (registers .entry)) (now (state .entry)) .answer) ⌝ }
-    ensures { λ _. ⌜ now (registers .exit) ≡ stepCall (now (dictionary .entry)) (now (kernel .entry)) (now (registers .entry)) (now (state .entry)) .registers ⌝ }
-    ensures { λ _. ⌜ now (state .exit) ≡ stepCall (now (dictionary .entry)) (now (kernel .entry)) (now (registers .entry)) (now (state .entry)) .state ⌝ }
+    ensures { λ r. ⌜ StepPromise (now (dictionary .entry)) (now (kernel .entry)) (now (registers .entry)) (now (state .entry)) r (now (registers .exit)) (now (state .exit)) ⌝ }
 {
     ran(step(dictionary, kernel, registers, state))
 }
@@ -103,9 +97,7 @@ pub extern "C" fn spokeshaver_run(
     registers: &mut [u8],
     state: &mut [u8],
 ) -> u64
-    ensures { λ r. ⌜ r ≡ asNumber (runCall (now (dictionary .entry)) (now (kernel .entry)) budget (now (registers .entry)) (now (state .entry)) .answer) ⌝ }
-    ensures { λ _. ⌜ now (registers .exit) ≡ runCall (now (dictionary .entry)) (now (kernel .entry)) budget (now (registers .entry)) (now (state .entry)) .registers ⌝ }
-    ensures { λ _. ⌜ now (state .exit) ≡ runCall (now (dictionary .entry)) (now (kernel .entry)) budget (now (registers .entry)) (now (state .entry)) .state ⌝ }
+    ensures { λ r. ⌜ RunPromise (now (dictionary .entry)) (now (kernel .entry)) budget (now (registers .entry)) (now (state .entry)) r (now (registers .exit)) (now (state .exit)) ⌝ }
 {
     ran(run(dictionary, kernel, budget, registers, state))
 }

@@ -2,7 +2,7 @@
 use mathlib.Core.Path.{sym, ap, _∙_}
 use Rattle.paper.specs.Calls.{asNumber}
 use Rattle.spokeshaver.specs.Small.{small-as}
-use Rattle.spokeshaver.specs.Calls.{check-small}
+use Rattle.spokeshaver.specs.Calls.{check-fine}
 use borrow.Author.Needs.{needs}
 use Rattle.spokeshaver.proofs.spokeshaver_check.Statement.{statement}
 use Rattle.spokeshaver.proofs.spokeshaver_check.Tie as tie
@@ -11,7 +11,7 @@ check-requires : tie.Need-check-requires
 check-requires c κs = search needs
 
 checked-requires : tie.Need-checked-requires
-checked-requires c κs = small-as _ _ (sym (c .check .ensures)) (check-small _ _)
+checked-requires c κs = small-as _ _ (sym (c .check .ensures)) (check-fine _ _ .small)
 
 returns : tie.Need-returns
 returns c = c .checked .ensures ∙ ap asNumber (c .before .check .ensures)

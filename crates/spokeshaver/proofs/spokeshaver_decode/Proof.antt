@@ -2,7 +2,7 @@
 use mathlib.Core.Path.{sym, ap, _∙_}
 use Rattle.paper.specs.Calls.{asNumber, decodedAs, decodeCall}
 use Rattle.spokeshaver.specs.Small.{small-as}
-use Rattle.spokeshaver.specs.Calls.{decode-small}
+use Rattle.spokeshaver.specs.Calls.{decode-fine}
 use borrow.Author.Needs.{needs}
 use Rattle.spokeshaver.proofs.spokeshaver_decode.Statement.{statement}
 use Rattle.spokeshaver.proofs.spokeshaver_decode.Tie as tie
@@ -12,7 +12,7 @@ decode-requires c κs = search needs
 
 decoded-requires : tie.Need-decoded-requires
 unfolding decodeCall
-decoded-requires c κs = small-as _ _ (sym (ap decodedAs (c .decode .ensures))) (decode-small _ _ _)
+decoded-requires c κs = small-as _ _ (sym (ap decodedAs (c .decode .ensures))) (decode-fine _ _ _ .small)
 
 returns : tie.Need-returns
 unfolding decodeCall

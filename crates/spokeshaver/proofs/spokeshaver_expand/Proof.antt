@@ -2,7 +2,7 @@
 use mathlib.Core.Path.{sym, ap, _∙_}
 use Rattle.paper.specs.Calls.{asNumber}
 use Rattle.spokeshaver.specs.Small.{small-as}
-use Rattle.spokeshaver.specs.Calls.{expand-small}
+use Rattle.spokeshaver.specs.Calls.{expand-fine}
 use borrow.Author.Needs.{needs}
 use Rattle.spokeshaver.proofs.spokeshaver_expand.Statement.{statement}
 use Rattle.spokeshaver.proofs.spokeshaver_expand.Tie as tie
@@ -11,7 +11,7 @@ expand-word-requires : tie.Need-expand-word-requires
 expand-word-requires c κs = search needs
 
 wrote-requires : tie.Need-wrote-requires
-wrote-requires c κs = small-as _ _ (sym (c .before .before .expand-word .ensures .0)) (expand-small _ _ _)
+wrote-requires c κs = small-as _ _ (sym (c .before .before .expand-word .ensures .0)) (expand-fine _ _ _ .small)
 
 same-length : tie.Need-same-length
 same-length c = search needs

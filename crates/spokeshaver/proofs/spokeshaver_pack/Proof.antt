@@ -2,7 +2,7 @@
 use mathlib.Core.Path.{sym, ap, _∙_}
 use Rattle.paper.specs.Calls.{asNumber}
 use Rattle.spokeshaver.specs.Small.{small-as}
-use Rattle.spokeshaver.specs.Calls.{pack-small}
+use Rattle.spokeshaver.specs.Calls.{pack-fine}
 use borrow.Author.Needs.{needs}
 use Rattle.spokeshaver.proofs.spokeshaver_pack.Statement.{statement}
 use Rattle.spokeshaver.proofs.spokeshaver_pack.Tie as tie
@@ -11,7 +11,7 @@ pack-requires : tie.Need-pack-requires
 pack-requires c κs = search needs
 
 wrote-requires : tie.Need-wrote-requires
-wrote-requires c κs = small-as _ _ (sym (c .before .before .pack .ensures .0)) (pack-small _ _ _)
+wrote-requires c κs = small-as _ _ (sym (c .before .before .pack .ensures .0)) (pack-fine _ _ _ .small)
 
 same-length : tie.Need-same-length
 same-length c = search needs

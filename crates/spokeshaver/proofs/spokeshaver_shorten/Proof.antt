@@ -2,7 +2,7 @@
 use mathlib.Core.Path.{sym, ap, _∙_}
 use Rattle.paper.specs.Calls.{asNumber}
 use Rattle.spokeshaver.specs.Small.{small-as}
-use Rattle.spokeshaver.specs.Calls.{shorten-small}
+use Rattle.spokeshaver.specs.Calls.{shorten-fine}
 use borrow.Author.Needs.{needs}
 use Rattle.spokeshaver.proofs.spokeshaver_shorten.Statement.{statement}
 use Rattle.spokeshaver.proofs.spokeshaver_shorten.Tie as tie
@@ -11,7 +11,7 @@ shorten-word-requires : tie.Need-shorten-word-requires
 shorten-word-requires c κs = search needs
 
 wrote-requires : tie.Need-wrote-requires
-wrote-requires c κs = small-as _ _ (sym (c .before .before .shorten-word .ensures .0)) (shorten-small _ _ _)
+wrote-requires c κs = small-as _ _ (sym (c .before .before .shorten-word .ensures .0)) (shorten-fine _ _ _ .small)
 
 same-length : tie.Need-same-length
 same-length c = search needs

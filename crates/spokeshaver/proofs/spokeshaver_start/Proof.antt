@@ -2,7 +2,7 @@
 use mathlib.Core.Path.{sym, ap, _∙_}
 use Rattle.paper.specs.Calls.{asNumber}
 use Rattle.spokeshaver.specs.Small.{small-as}
-use Rattle.spokeshaver.specs.Calls.{start-small}
+use Rattle.spokeshaver.specs.Calls.{start-fine}
 use borrow.Author.Needs.{needs}
 use Rattle.spokeshaver.proofs.spokeshaver_start.Statement.{statement}
 use Rattle.spokeshaver.proofs.spokeshaver_start.Tie as tie
@@ -11,7 +11,7 @@ start-requires : tie.Need-start-requires
 start-requires c κs = search needs
 
 wrote-requires : tie.Need-wrote-requires
-wrote-requires c κs = small-as _ _ (sym (c .before .before .start .ensures .0)) (start-small _ _ _ _)
+wrote-requires c κs = small-as _ _ (sym (c .before .before .start .ensures .0)) (start-fine _ _ _ _ .small)
 
 same-length : tie.Need-same-length
 same-length c = search needs

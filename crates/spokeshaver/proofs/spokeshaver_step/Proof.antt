@@ -2,7 +2,7 @@
 use mathlib.Core.Path.{sym, ap, _∙_}
 use Rattle.paper.specs.Calls.{asNumber}
 use Rattle.spokeshaver.specs.Small.{small-as}
-use Rattle.spokeshaver.specs.Calls.{step-small}
+use Rattle.spokeshaver.specs.Calls.{step-fine}
 use borrow.Author.Needs.{needs}
 use Rattle.spokeshaver.proofs.spokeshaver_step.Statement.{statement}
 use Rattle.spokeshaver.proofs.spokeshaver_step.Tie as tie
@@ -11,7 +11,7 @@ step-requires : tie.Need-step-requires
 step-requires c κs = search needs
 
 ran-requires : tie.Need-ran-requires
-ran-requires c κs = small-as _ _ (sym (c .before .before .before .before .step .ensures .0)) (step-small _ _ _ _)
+ran-requires c κs = small-as _ _ (sym (c .before .before .before .before .step .ensures .0)) (step-fine _ _ _ _ .small)
 
 same-length : tie.Need-same-length
 same-length c = search needs
@@ -22,7 +22,7 @@ same-length-2 c = search needs
 returns : tie.Need-returns
 returns c =
     let made = c .before .before .before .before .before .step .ensures in
-    (c .ran .ensures ∙ ap asNumber (made .0), (made .1, made .2))
+    (c .ran .ensures ∙ ap asNumber (made .0), made .1, made .2)
 
 pub spokeshaver-step-spec : {M : Type 1} → statement M
 spokeshaver-step-spec = tie.close (tie.spec step-requires ran-requires same-length same-length-2 returns)

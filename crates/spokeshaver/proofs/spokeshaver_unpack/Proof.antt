@@ -2,7 +2,7 @@
 use mathlib.Core.Path.{sym, ap, _∙_}
 use Rattle.paper.specs.Calls.{asNumber}
 use Rattle.spokeshaver.specs.Small.{small-as}
-use Rattle.spokeshaver.specs.Calls.{unpack-small}
+use Rattle.spokeshaver.specs.Calls.{unpack-fine}
 use borrow.Author.Needs.{needs}
 use Rattle.spokeshaver.proofs.spokeshaver_unpack.Statement.{statement}
 use Rattle.spokeshaver.proofs.spokeshaver_unpack.Tie as tie
@@ -11,7 +11,7 @@ unpack-requires : tie.Need-unpack-requires
 unpack-requires c κs = search needs
 
 wrote-requires : tie.Need-wrote-requires
-wrote-requires c κs = small-as _ _ (sym (c .before .before .unpack .ensures .0)) (unpack-small _ _ _)
+wrote-requires c κs = small-as _ _ (sym (c .before .before .unpack .ensures .0)) (unpack-fine _ _ _ .small)
 
 same-length : tie.Need-same-length
 same-length c = search needs

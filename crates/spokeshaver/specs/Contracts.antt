@@ -1,0 +1,69 @@
+-- What each exported call promises of its answer r and of what it leaves in each buffer that it was lent, whatever it was lent: an equation with the
+-- paper's definition of the call. The contracts in src/lib.rt are these, and Promises says what follows from them. Assumes nothing.
+use mathlib.Core.Path.{_≡_}
+use mathlib.Core.List.{List}
+use Prim.Native.Nat.{ℕ, suc, _/_, _%_, _^_}
+use Rattle.paper.specs.Calls.{asNumber, Written, Changed, checkCall, packCall, unpackCall, shortenCall, expandCall, decodeCall, startCall, stepCall, runCall}
+
+-- ---- an answer taken apart, as the header's macros do
+
+-- The verdict's or the refusal's number.
+abbrev pub numberIn : ℕ → ℕ
+numberIn r = r % 2 ^ 8
+
+-- The refused instruction's byte offset.
+abbrev pub offsetIn : ℕ → ℕ
+offsetIn r = r / 2 ^ 8 % 2 ^ 24
+
+-- The count.
+abbrev pub countIn : ℕ → ℕ
+countIn r = r / 2 ^ 32
+
+-- ---- what is left
+
+-- The answer is r, and the one lent buffer then holds out′.
+abbrev pub Wrote : Written → ℕ → List ℕ → Type 0
+Wrote w r out′ = (r ≡ asNumber (w .answer)) × (out′ ≡ w .output)
+
+-- The answer is r, and registers and state then hold registers′ and state′.
+abbrev pub Left : Changed → ℕ → List ℕ → List ℕ → Type 0
+Left c r registers′ state′ = (r ≡ asNumber (c .answer)) × (registers′ ≡ c .registers) × (state′ ≡ c .state)
+
+-- ---- the nine calls
+
+abbrev pub CheckPromise : List ℕ → List ℕ → ℕ → Type 0
+CheckPromise dictionary kernel r = r ≡ asNumber (checkCall dictionary kernel)
+
+abbrev pub PackPromise : List ℕ → List ℕ → List ℕ → ℕ → List ℕ → Type 0
+PackPromise dictionary kernel out r out′ = Wrote (packCall dictionary kernel out) r out′
+
+abbrev pub UnpackPromise : List ℕ → List ℕ → List ℕ → ℕ → List ℕ → Type 0
+UnpackPromise dictionary kernel out r out′ = Wrote (unpackCall dictionary kernel out) r out′
+
+abbrev pub ShortenPromise : List ℕ → List ℕ → List ℕ → ℕ → List ℕ → Type 0
+ShortenPromise dictionary word out r out′ = Wrote (shortenCall dictionary word out) r out′
+
+abbrev pub ExpandPromise : List ℕ → List ℕ → List ℕ → ℕ → List ℕ → Type 0
+ExpandPromise dictionary word out r out′ = Wrote (expandCall dictionary word out) r out′
+
+abbrev pub DecodePromise : List ℕ → List ℕ → ℕ → ℕ → Type 0
+DecodePromise dictionary kernel place r = r ≡ asNumber (decodeCall dictionary kernel place)
+
+abbrev pub StartPromise : ℕ → ℕ → ℕ → List ℕ → ℕ → List ℕ → Type 0
+StartPromise mask flag0 flag1 state r state′ = Wrote (startCall mask flag0 flag1 state) r state′
+
+abbrev pub StepPromise : List ℕ → List ℕ → List ℕ → List ℕ → ℕ → List ℕ → List ℕ → Type 0
+StepPromise dictionary kernel registers state r registers′ state′ = Left (stepCall dictionary kernel registers state) r registers′ state′
+
+abbrev pub RunPromise : List ℕ → List ℕ → ℕ → List ℕ → List ℕ → ℕ → List ℕ → List ℕ → Type 0
+RunPromise dictionary kernel budget registers state r registers′ state′ =
+    Left (runCall dictionary kernel budget registers state) r registers′ state′
+
+-- ---- steps one after the other
+
+-- So many steps of a kernel, each made by the call from what the one before it left, and each answered with 0.
+pub data Steps (dictionary kernel : List ℕ) : ℕ → List ℕ → List ℕ → List ℕ → List ℕ → Type 0 where
+  nothing : {registers state : List ℕ} → Steps dictionary kernel 0 registers state registers state
+  onward : {n r : ℕ} {registers state registers₁ state₁ registers′ state′ : List ℕ}
+      → StepPromise dictionary kernel registers state r registers₁ state₁ → numberIn r ≡ 0
+      → Steps dictionary kernel n registers₁ state₁ registers′ state′ → Steps dictionary kernel (suc n) registers state registers′ state′
