@@ -4,6 +4,22 @@ use crate::dictionary::{Dictionary, Table, TABLE_LENGTH};
 use crate::operations::{ElementType, Operation};
 use crate::words::{LongWord, FILE_IMMEDIATE, FILE_REGISTER};
 
+/// The numbers of channels, in the order of their codes.
+pub const CHANNEL_COUNTS: [u32; 5] = [1, 2, 4, 8, 16];
+/// The vertical strides of a region, in the order of their codes.
+pub const VERTICAL_STRIDES: [u32; 7] = [0, 1, 2, 4, 8, 16, 32];
+/// The widths of a region, in the order of their codes.
+pub const WIDTHS: [u32; 5] = [1, 2, 4, 8, 16];
+/// The horizontal strides of a region and the strides of a destination, in the order of
+/// their codes. The bench refuses a destination's stride of 0.
+pub const STRIDES: [u32; 4] = [0, 1, 2, 4];
+
+/// The code of a number in its list. It is the caller's fault if the number has none.
+fn code_of(number: u32, numbers: &[u32]) -> u32 {
+    let found = numbers.iter().position(|listed| *listed == number);
+    found.unwrap_or_else(|| panic!("{number} has no code among {numbers:?}")) as u32
+}
+
 /// A region of a source as it is written: <vertical; width, horizontal>, in codes.
 #[derive(Clone, Copy, PartialEq, Eq, Debug)]
 pub struct RegionCodes {
@@ -14,17 +30,17 @@ pub struct RegionCodes {
 
 /// The codes of a region written in elements.
 pub fn region(vertical: u32, width: u32, horizontal: u32) -> RegionCodes {
-    let stride_code = |stride: u32| if stride == 0 { 0 } else { stride.trailing_zeros() + 1 };
     RegionCodes {
-        vertical: stride_code(vertical),
-        width: width.trailing_zeros(),
-        horizontal: stride_code(horizontal),
+        vertical: code_of(vertical, &VERTICAL_STRIDES),
+        width: code_of(width, &WIDTHS),
+        horizontal: code_of(horizontal, &STRIDES),
     }
 }
 
 /// A word of an operation on so many channels, all else 0.
 pub fn word(operation: Operation, channels: u32) -> LongWord {
-    LongWord(0).with_field(6, 0, operation.opcode()).with_field(23, 21, channels.trailing_zeros())
+    let size = code_of(channels, &CHANNEL_COUNTS);
+    LongWord(0).with_field(6, 0, operation.opcode()).with_field(23, 21, size)
 }
 
 /// A jmpi of one channel with a distance in places.
@@ -50,7 +66,7 @@ impl LongWord {
             .with_field(36, 34, element.code())
             .with_field(52, 48, subregister)
             .with_field(60, 53, register)
-            .with_field(62, 61, if stride == 0 { 0 } else { stride.trailing_zeros() + 1 })
+            .with_field(62, 61, code_of(stride, &STRIDES))
     }
 
     /// Null destination.

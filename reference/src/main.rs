@@ -1,6 +1,7 @@
 //! With no argument the checking program: a dictionary of 512 bytes and then a kernel on
 //! standard input, four lines on standard output. With `assemble TEXT DICTIONARY KERNEL` the
-//! assembler: it reads a kernel's text and writes a dictionary for it and its bytes.
+//! assembler: it reads a kernel's text and writes a dictionary for it and its bytes, or, if it
+//! refuses the text, a message on standard error and no file.
 #![forbid(unsafe_code)]
 
 use spokeshaver_reference::answers::{Answer, ACCEPTED};
@@ -8,10 +9,21 @@ use spokeshaver_reference::calls::check;
 use spokeshaver_reference::dictionary::DICTIONARY_BYTES;
 use spokeshaver_reference::text;
 use std::io::{Error, Read, Result, Write};
+use std::process::ExitCode;
 
-fn main() -> Result<()> {
+fn main() -> ExitCode {
     let words: Vec<String> = std::env::args().skip(1).collect();
-    match &words[..] {
+    match perform(&words) {
+        Ok(()) => ExitCode::SUCCESS,
+        Err(error) => {
+            eprintln!("{error}");
+            ExitCode::FAILURE
+        }
+    }
+}
+
+fn perform(words: &[String]) -> Result<()> {
+    match words {
         [] => check_input(),
         [verb, text, dictionary, kernel] if verb == "assemble" => {
             assemble(text, dictionary, kernel)

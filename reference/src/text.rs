@@ -10,154 +10,250 @@
 //! A size in channels stands in parentheses, a subregister counts elements of the operand's
 //! type, a number with a type is an immediate. `.sat` saturates; `-`, `|` and `-|` before a
 //! register are the modifiers. Words are long, so that instruction n starts at place 2n.
+//!
+//! A text that no word can hold as it stands is refused. What the bench refuses is not: a
+//! reviewer may write it in order to see the refusal.
 
-use crate::assemble::{kernel_of, region, word, DictionaryBuilder};
+mod operands;
+
+use crate::assemble::{kernel_of, word, DictionaryBuilder, CHANNEL_COUNTS};
 use crate::dictionary::Dictionary;
-use crate::operations::{ElementType, Operation, OPCODES, TYPES};
+use crate::operations::{ElementType, Operation, OPCODES};
 use crate::packing::with_distance;
 use crate::words::LongWord;
+use operands::with_operands;
 use std::collections::BTreeMap;
 
 /// The conditions of a cmp, in the order of their codes from 1 on.
 const CONDITIONS: [&str; 6] = ["z", "nz", "g", "ge", "l", "le"];
 
-/// What is wrong with a line, with the line's number from 1 on.
+/// The flags, in the order of their codes.
+const FLAGS: [&str; 2] = ["f0.0", "f0.1"];
+
+/// What is wrong with a text. `assemble` puts the line's number, from 1 on, before it.
 pub type Fault = String;
 
 /// A kernel of long words, and a dictionary that shortens as many of them as it can hold.
 pub fn assemble(text: &str) -> Result<(Vec<u8>, Dictionary), Fault> {
-    let (lines, labels) = lines_and_labels(text);
+    let (lines, labels) = lines_and_labels(text)?;
     let mut words = Vec::new();
     let mut dictionary = DictionaryBuilder::default();
     for (at, (number, line)) in lines.iter().enumerate() {
-        let word = instruction(line, at, &labels)
-            .ok_or_else(|| format!("line {number}: not understood: {line}"))?;
+        let word = instruction(line, at, &labels).map_err(|fault| on_line(*number, fault))?;
         words.push(word);
         dictionary.add(word);
     }
     Ok((kernel_of(&words), dictionary.finish()))
 }
 
-/// Instructions with the numbers of their lines, and which instruction each label names.
-type Lines<'a> = (Vec<(usize, &'a str)>, BTreeMap<&'a str, usize>);
+fn on_line(number: usize, fault: Fault) -> Fault {
+    format!("line {number}: {fault}")
+}
 
-fn lines_and_labels(text: &str) -> Lines<'_> {
+/// Where a label stands, and the instruction that it names.
+struct Label {
+    line: usize,
+    instruction: usize,
+}
+
+type Labels<'a> = BTreeMap<&'a str, Label>;
+
+/// Instructions with the numbers of their lines, and the labels.
+type Lines<'a> = (Vec<(usize, &'a str)>, Labels<'a>);
+
+fn lines_and_labels(text: &str) -> Result<Lines<'_>, Fault> {
     let (mut lines, mut labels) = (Vec::new(), BTreeMap::new());
-    for (number, line) in (1..).zip(text.lines()) {
-        let line = line.split("//").next().unwrap_or("").trim();
+    for (number, whole) in (1..).zip(text.lines()) {
+        let line = without_remark(whole).map_err(|fault| on_line(number, fault))?;
         match line.strip_suffix(':') {
-            Some(label) => drop(labels.insert(label, lines.len())),
+            Some(name) => {
+                let label = Label { line: number, instruction: lines.len() };
+                add_label(&mut labels, name, label).map_err(|fault| on_line(number, fault))?;
+            }
             None if line.is_empty() => {}
             None => lines.push((number, line)),
         }
     }
-    (lines, labels)
+    Ok((lines, labels))
 }
 
-fn instruction(line: &str, at: usize, labels: &BTreeMap<&str, usize>) -> Option<LongWord> {
+/// A line up to its remark. Characters that would show it as other than it is are refused,
+/// in the remark too.
+fn without_remark(line: &str) -> Result<&str, Fault> {
+    if let Some(found) = line.chars().find(|character| misleads(*character)) {
+        return Err(format!("control character {}", found.escape_unicode()));
+    }
+    Ok(line.split("//").next().unwrap_or("").trim())
+}
+
+/// Whether a character breaks a line or turns the order in which it is shown.
+fn misleads(character: char) -> bool {
+    let turns = matches!(character, '\u{2028}'..='\u{202E}' | '\u{2066}'..='\u{2069}');
+    turns || (character.is_control() && character != '\t')
+}
+
+fn add_label<'a>(labels: &mut Labels<'a>, name: &'a str, label: Label) -> Result<(), Fault> {
+    if !is_label(name) {
+        return Err(format!("{name}: is no label: letters, digits, - and _ after a letter"));
+    }
+    match labels.insert(name, label) {
+        None => Ok(()),
+        Some(earlier) => Err(format!("label {name} appears twice, first on line {}", earlier.line)),
+    }
+}
+
+fn is_label(name: &str) -> bool {
+    let inner = |character: char| character.is_ascii_alphanumeric() || "-_".contains(character);
+    name.starts_with(|first: char| first.is_ascii_alphabetic()) && name.chars().all(inner)
+}
+
+fn instruction(line: &str, at: usize, labels: &Labels) -> Result<LongWord, Fault> {
     let (predicate, line) = predicate(line)?;
     let mut parts = line.split_whitespace();
-    let (name, size) = parts.next()?.strip_suffix(')')?.split_once('(')?;
-    let mut names = name.split('.');
-    let operation = operation(names.next()?)?;
-    let mut result = word(operation, size.parse().ok()?);
-    if let Some((flag, inverted)) = predicate {
-        result = result.predicated(flag, inverted);
-    }
-    let mut operands: Vec<&str> = parts.collect();
-    for suffix in names {
-        result = match suffix {
-            "sat" => result.saturated(),
-            _ => {
-                let code = CONDITIONS.iter().position(|name| *name == suffix)? as u32 + 1;
-                let written = flag(operands.remove(0))?;
-                result.conditioned(code, written)
-            }
-        };
+    let (operation, suffixes, channels) = head(parts.next().unwrap_or(""))?;
+    let operands: Vec<&str> = parts.collect();
+    let (condition, operands) = condition_and_rest(suffixes.condition, &operands)?;
+    let mut result = with_flags(word(operation, channels), predicate, condition)?;
+    if suffixes.saturated {
+        result = result.saturated();
     }
     match operation.is_branch() {
-        true => jump(result, operation, at, *labels.get(operands.first()?)?),
-        false => with_operands(result, &operands),
+        true => jump(result, operation, at, target(operands, labels)?),
+        false => with_operands(result, operation, operands),
     }
 }
 
-/// A leading predicate, as the flag and whether it is inverted; and the rest of the line.
-fn predicate(line: &str) -> Option<(Option<(u32, bool)>, &str)> {
-    let Some(inner) = line.strip_prefix('(') else { return Some((None, line)) };
-    let (inner, rest) = inner.split_once(')')?;
-    let inverted = inner.starts_with('-');
-    let flag = flag(inner.trim_start_matches(['+', '-']))?;
-    Some((Some((flag, inverted)), rest.trim_start()))
+/// The first word of an instruction: operation, suffixes and channels.
+fn head(text: &str) -> Result<(Operation, Suffixes, u32), Fault> {
+    let parts = text.strip_suffix(')').and_then(|text| text.split_once('('));
+    let (name, channels) = parts
+        .ok_or_else(|| format!("'{text}' is no operation with its channels, as add(16) is"))?;
+    let mut names = name.split('.');
+    let operation = operation(names.next().unwrap_or(""))?;
+    Ok((operation, suffixes(names)?, listed("channel count", channels, &CHANNEL_COUNTS)?))
 }
 
-fn flag(name: &str) -> Option<u32> {
-    name.strip_prefix("f0.")?.parse().ok().filter(|flag| *flag < 2)
+fn operation(name: &str) -> Result<Operation, Fault> {
+    let mut operations = OPCODES.iter().map(|(operation, _)| *operation);
+    let found = operations.find(|operation| format!("{operation:?}").to_lowercase() == name);
+    found.ok_or_else(|| format!("unknown operation '{name}'"))
 }
 
-fn operation(name: &str) -> Option<Operation> {
-    let listed = OPCODES.iter().map(|(operation, _)| *operation);
-    listed.into_iter().find(|operation| format!("{operation:?}").to_lowercase() == name)
+/// What stands after an operation's name.
+#[derive(Default)]
+struct Suffixes {
+    saturated: bool,
+    condition: Option<u32>,
 }
 
-fn element(name: &str) -> Option<ElementType> {
-    TYPES.into_iter().find(|element| format!("{element:?}").to_lowercase() == name)
+fn suffixes<'a>(names: impl Iterator<Item = &'a str>) -> Result<Suffixes, Fault> {
+    let mut found = Suffixes::default();
+    for name in names {
+        let repeated = match name {
+            "sat" => std::mem::replace(&mut found.saturated, true),
+            _ => found.condition.replace(condition(name)?).is_some(),
+        };
+        if repeated {
+            return Err(format!("suffix .{name} is one too many"));
+        }
+    }
+    Ok(found)
+}
+
+fn condition(name: &str) -> Result<u32, Fault> {
+    let found = CONDITIONS.iter().position(|listed| *listed == name);
+    let unknown = || format!("unknown suffix .{name}: there are sat, {}", CONDITIONS.join(", "));
+    Ok(found.ok_or_else(unknown)? as u32 + 1)
+}
+
+/// A flag, and whether the predicate is inverted.
+type Predicate = (u32, bool);
+
+/// A condition's code and the flag it writes.
+type Condition = (u32, u32);
+
+/// A leading predicate, and the rest of the line.
+fn predicate(line: &str) -> Result<(Option<Predicate>, &str), Fault> {
+    let Some(inner) = line.strip_prefix('(') else { return Ok((None, line)) };
+    let (inner, rest) = inner.split_once(')').ok_or("the predicate has no closing parenthesis")?;
+    let name = inner.strip_prefix(['+', '-']);
+    let name = name.ok_or_else(|| format!("predicate ({inner}) does not start with + or -"))?;
+    Ok((Some((flag(name)?, inner.starts_with('-'))), rest.trim_start()))
+}
+
+/// A condition with its flag, which is the first operand, and the other operands.
+fn condition_and_rest<'a, 'b>(
+    code: Option<u32>,
+    operands: &'b [&'a str],
+) -> Result<(Option<Condition>, &'b [&'a str]), Fault> {
+    let Some(code) = code else { return Ok((None, operands)) };
+    let (name, rest) = operands.split_first().ok_or("the condition has no flag")?;
+    Ok((Some((code, flag(name)?)), rest))
+}
+
+fn flag(name: &str) -> Result<u32, Fault> {
+    let found = FLAGS.iter().position(|listed| *listed == name);
+    found.map(|code| code as u32).ok_or_else(|| format!("{name} is no flag: f0.0 or f0.1"))
+}
+
+/// A word with its predicate and condition. It has one flag for both.
+fn with_flags(
+    mut word: LongWord,
+    predicate: Option<Predicate>,
+    condition: Option<Condition>,
+) -> Result<LongWord, Fault> {
+    if let (Some((read, _)), Some((_, written))) = (predicate, condition) {
+        if read != written {
+            return Err(format!("two flags, f0.{read} and f0.{written}: a word has one"));
+        }
+    }
+    if let Some((flag, inverted)) = predicate {
+        word = word.predicated(flag, inverted);
+    }
+    if let Some((code, flag)) = condition {
+        word = word.conditioned(code, flag);
+    }
+    Ok(word)
+}
+
+/// The instruction that a branch's only operand names.
+fn target(operands: &[&str], labels: &Labels) -> Result<usize, Fault> {
+    let [name] = operands else {
+        return Err(format!("a branch takes one label and has {} operands", operands.len()));
+    };
+    let found = labels.get(name).map(|label| label.instruction);
+    found.ok_or_else(|| format!("there is no label {name}"))
 }
 
 /// A branch to an instruction, from its own start or, for jmpi, from its end.
-fn jump(word: LongWord, operation: Operation, at: usize, target: usize) -> Option<LongWord> {
+fn jump(word: LongWord, operation: Operation, at: usize, target: usize) -> Result<LongWord, Fault> {
     let jmpi = operation == Operation::Jmpi;
     let word = if jmpi { word.immediate_source(1, ElementType::D, 0) } else { word };
-    let base = at + jmpi as usize;
-    Some(with_distance(word, operation, 2 * (target as i64 - base as i64)))
-}
-
-fn with_operands(word: LongWord, operands: &[&str]) -> Option<LongWord> {
-    let Some((first, sources)) = operands.split_first() else { return Some(word) };
-    let mut word = destination(word, first)?;
-    for (which, text) in sources.iter().enumerate() {
-        word = source(word, which, text)?;
+    let distance = 2 * (target as i64 - (at + jmpi as usize) as i64);
+    let bits = if jmpi { 32 } else { 16 };
+    let reach = 1 << (bits - 1);
+    match (-reach..reach).contains(&distance) {
+        true => Ok(with_distance(word, operation, distance)),
+        false => Err(format!("distance {distance} does not fit {bits} bits")),
     }
-    Some(word)
 }
 
-fn destination(word: LongWord, text: &str) -> Option<LongWord> {
-    let (place, kind) = text.split_once(':')?;
-    let kind = element(kind)?;
-    if place == "null" {
-        return Some(word.to_null(kind));
+/// A number of digits only.
+fn whole_number(what: &str, text: &str) -> Result<u32, Fault> {
+    if text.is_empty() || !text.bytes().all(|byte| byte.is_ascii_digit()) {
+        return Err(format!("{what} '{text}' is no number"));
     }
-    let (place, stride) = place.strip_suffix('>')?.split_once('<')?;
-    let (register, subregister) = register(place, kind)?;
-    Some(word.to_register(register, subregister, stride.parse().ok()?, kind))
+    text.parse().map_err(|_| format!("{what} {text} does not fit"))
 }
 
-fn source(word: LongWord, which: usize, text: &str) -> Option<LongWord> {
-    let (place, kind) = text.split_once(':')?;
-    let kind = element(kind)?;
-    if let Ok(number) = place.parse::<i64>() {
-        return Some(word.immediate_source(which, kind, number as u32));
+/// A number that must be one of those that have a code.
+fn listed(what: &str, text: &str, numbers: &[u32]) -> Result<u32, Fault> {
+    let number = whole_number(what, text)?;
+    if numbers.contains(&number) {
+        return Ok(number);
     }
-    let bare = place.trim_start_matches(['-', '|']);
-    let modifier = match &place[..place.len() - bare.len()] {
-        "" => 0,
-        "|" => 1,
-        "-" => 2,
-        "-|" => 3,
-        _ => return None,
-    };
-    let (place, codes) = bare.strip_suffix('>')?.split_once('<')?;
-    let (vertical, codes) = codes.split_once(';')?;
-    let (width, horizontal) = codes.split_once(',')?;
-    let codes = region(vertical.parse().ok()?, width.parse().ok()?, horizontal.parse().ok()?);
-    let (register, subregister) = register(place, kind)?;
-    Some(word.register_source(which, register, subregister, codes, kind).modified(which, modifier))
-}
-
-/// A register and its subregister in bytes.
-fn register(place: &str, kind: ElementType) -> Option<(u32, u32)> {
-    let place = place.strip_prefix('r')?;
-    let (register, element) = place.split_once('.').unwrap_or((place, "0"));
-    Some((register.parse().ok()?, element.parse::<u32>().ok()? * kind.size() as u32))
+    let numbers: Vec<String> = numbers.iter().map(u32::to_string).collect();
+    Err(format!("{what} {text} has no code: there are {}", numbers.join(", ")))
 }
 
 #[cfg(test)]
@@ -191,5 +287,17 @@ mod tests {
     fn faults_name_their_line() {
         let fault = assemble("nop(1)\n\nadd(8) r4:d").expect_err("no stride");
         assert!(fault.starts_with("line 3:"), "{fault}");
+    }
+
+    /// The farthest jumps that fit, and the next ones. A place is half an instruction.
+    #[test]
+    fn distances_fit_their_fields() {
+        let fits = |operation, at, target| jump(LongWord(0), operation, at, target).is_ok();
+        let near = 1 << 14;
+        assert!(fits(Operation::While, near, 0) && fits(Operation::If, 0, near - 1));
+        assert!(!fits(Operation::While, near + 1, 0) && !fits(Operation::If, 0, near));
+        let far = 1 << 30;
+        assert!(fits(Operation::Jmpi, far - 1, 0) && fits(Operation::Jmpi, 0, far));
+        assert!(!fits(Operation::Jmpi, far, 0) && !fits(Operation::Jmpi, 0, far + 1));
     }
 }
