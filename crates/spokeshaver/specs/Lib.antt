@@ -2,12 +2,13 @@
 -- every call's answer fits.
 pub mod Contracts
 pub mod Numbers
+pub mod Promises
 pub mod Small
 pub mod Judging
 pub mod Kernels
 pub mod Calls
 pub mod Results
 pub mod Stepping
-pub mod Promises
-pub mod PackingPromises
-pub mod RunningPromises
+pub mod OutcomesHold
+pub mod PackingHolds
+pub mod RunningHolds

@@ -1,122 +1,78 @@
--- What the exported calls promise, for all that can be lent to them. A hypothesis such as `PackPromise dictionary kernel out r out′` says: spokeshaver_pack,
--- lent these, answered r and left out′ in its output; src/lib.rt proves it of the call. `numberIn`, `offsetIn` and `countIn` take an answer apart as
--- the header's macros do. Here: one outcome, its numbers, and what a refusal leaves; PackingPromises and RunningPromises go on, and ask besides that what
--- is lent is bytes (`areBytes`) and 16-bit numbers, as the types in C say. Assumes nothing.
+-- The promises of the exported calls, for all that can be lent to them. Read this file first. It states and proves nothing: `demand-1` of OutcomesHold,
+-- `demand-2` of PackingHolds and `demand-3` of RunningHolds are the theorems. A hypothesis such as `PackPromise dictionary kernel out r out′` says:
+-- spokeshaver_pack, lent these, answered r and left out′ in its output; src/lib.rt proves it of the call. `numberIn`, `offsetIn` and `countIn` take an answer
+-- apart as the header's macros do. Demands 2 and 3 ask besides that what is lent is bytes (`areBytes`) and 16-bit numbers, as the types in C say.
 use mathlib.Core.Bool.{Bool, true}
-use mathlib.Core.List.{List}
+use mathlib.Core.List.{List, _++_, map}
 use mathlib.Core.Logic.{_⊎_}
-use mathlib.Core.Path.{_≡_, sym, ap, _∙_}
-use Prim.Native.Nat.{ℕ, _+_, _*_, _≤_}
-use lib.ListN.{length, drop}
-use Rattle.paper.specs.Calls.{Answer, asNumber, Written, Changed, checkCall, packCall, unpackCall, shortenCall, expandCall, decodeCall, startCall, stepCall, runCall}
-use Rattle.laws.specs.Calls.{Confined, pack-confined, unpack-confined, shorten-confined, expand-confined, start-confined, step-unchanged, run-unchanged}
-use Rattle.spokeshaver.specs.Contracts.{numberIn, offsetIn, countIn, Wrote, Left, CheckPromise, PackPromise, UnpackPromise, ShortenPromise, ExpandPromise}
-use Rattle.spokeshaver.specs.Contracts.{DecodePromise, StartPromise, StepPromise, RunPromise}
+use mathlib.Core.Path.{_≡_}
+use Prim.Native.Nat.{ℕ, suc, _+_, _*_, _^_, _<_, _≤_}
+use lib.ListN.{length, take, drop}
+use lib.Pow.{areBytes}
+use Rattle.paper.specs.Limits.{registerBytes, budgetLimit}
+use Rattle.paper.specs.Bits.{numberAt}
+use Rattle.paper.specs.Dictionary.{dictionaryOf}
+use Rattle.paper.specs.Shorten.{Shortens, Least}
+use Rattle.paper.specs.Kernel.{Instr, longAndShort, longOnly, good}
+use Rattle.paper.specs.State.{half, channelsIn, stateLegal}
+use Rattle.paper.specs.Packing.{index}
+use Rattle.paper.specs.Calls.{Answer, accepted, checkCall, packCall, unpackCall, shortenCall, expandCall, decodeCall, startCall, stepCall, runCall}
+use Rattle.laws.specs.Names.{renameC, program}
+use Rattle.laws.specs.Items.{Item, allBytes, instrsFrom}
+use Rattle.laws.specs.Packing.{AllShortest}
+use Rattle.spokeshaver.specs.Contracts.{numberIn, offsetIn, countIn, CheckPromise, PackPromise, UnpackPromise, ShortenPromise, ExpandPromise}
+use Rattle.spokeshaver.specs.Contracts.{DecodePromise, StartPromise, StepPromise, RunPromise, Steps}
 use Rattle.spokeshaver.specs.Numbers.{checkNumbers, packNumbers, shortenNumbers, expandNumbers, decodeNumbers, startNumbers, stepNumbers, runNumbers}
-use Rattle.spokeshaver.specs.Small.{number-back, offset-back, count-back}
-use Rattle.spokeshaver.specs.Results.{decode-inside}
-use Rattle.spokeshaver.specs.Calls.{Fine, check-fine, pack-fine, unpack-fine, shorten-fine, expand-fine, decode-fine, start-fine, step-fine, run-fine}
 
--- ==== demand 1: one outcome
-
--- Two outcomes that both are what a call promises are one.
-one-written : (w : Written) (r s : ℕ) (out′ out″ : List ℕ) → Wrote w r out′ → Wrote w s out″ → (r ≡ s) × (out′ ≡ out″)
-one-written w r s out′ out″ p q = (p .0 ∙ sym (q .0), p .1 ∙ sym (q .1))
-
-one-changed : (c : Changed) (r s : ℕ) (registers′ registers″ state′ state″ : List ℕ) → Left c r registers′ state′ → Left c s registers″ state″
-    → (r ≡ s) × (registers′ ≡ registers″) × (state′ ≡ state″)
-one-changed c r s registers′ registers″ state′ state″ p q = (p .0 ∙ sym (q .0), p .1 ∙ sym (q .1), p .2 ∙ sym (q .2))
+-- ==== demand 1: one outcome, from the paper's list, and a refusal changes nothing
 
 -- The contract of each call admits one outcome only: one answer, and one final content of each buffer that is lent for writing.
-pub check-one-outcome : (dictionary kernel : List ℕ) (r s : ℕ) → CheckPromise dictionary kernel r → CheckPromise dictionary kernel s → r ≡ s
-check-one-outcome dictionary kernel r s p q = p ∙ sym q
+pub record OneOutcome : Type 0 where
+  pub check : (dictionary kernel : List ℕ) (r s : ℕ) → CheckPromise dictionary kernel r → CheckPromise dictionary kernel s → r ≡ s
+  pub pack : (dictionary kernel out : List ℕ) (r s : ℕ) (out′ out″ : List ℕ)
+      → PackPromise dictionary kernel out r out′ → PackPromise dictionary kernel out s out″ → (r ≡ s) × (out′ ≡ out″)
+  pub unpack : (dictionary kernel out : List ℕ) (r s : ℕ) (out′ out″ : List ℕ)
+      → UnpackPromise dictionary kernel out r out′ → UnpackPromise dictionary kernel out s out″ → (r ≡ s) × (out′ ≡ out″)
+  pub shorten : (dictionary word out : List ℕ) (r s : ℕ) (out′ out″ : List ℕ)
+      → ShortenPromise dictionary word out r out′ → ShortenPromise dictionary word out s out″ → (r ≡ s) × (out′ ≡ out″)
+  pub expand : (dictionary word out : List ℕ) (r s : ℕ) (out′ out″ : List ℕ)
+      → ExpandPromise dictionary word out r out′ → ExpandPromise dictionary word out s out″ → (r ≡ s) × (out′ ≡ out″)
+  pub decode : (dictionary kernel : List ℕ) (place r s : ℕ) → DecodePromise dictionary kernel place r → DecodePromise dictionary kernel place s → r ≡ s
+  pub start : (mask flag0 flag1 : ℕ) (state : List ℕ) (r s : ℕ) (state′ state″ : List ℕ)
+      → StartPromise mask flag0 flag1 state r state′ → StartPromise mask flag0 flag1 state s state″ → (r ≡ s) × (state′ ≡ state″)
+  pub step : (dictionary kernel registers state : List ℕ) (r s : ℕ) (registers′ registers″ state′ state″ : List ℕ)
+      → StepPromise dictionary kernel registers state r registers′ state′ → StepPromise dictionary kernel registers state s registers″ state″
+      → (r ≡ s) × (registers′ ≡ registers″) × (state′ ≡ state″)
+  pub run : (dictionary kernel : List ℕ) (budget : ℕ) (registers state : List ℕ) (r s : ℕ) (registers′ registers″ state′ state″ : List ℕ)
+      → RunPromise dictionary kernel budget registers state r registers′ state′ → RunPromise dictionary kernel budget registers state s registers″ state″
+      → (r ≡ s) × (registers′ ≡ registers″) × (state′ ≡ state″)
 
-pub pack-one-outcome : (dictionary kernel out : List ℕ) (r s : ℕ) (out′ out″ : List ℕ)
-    → PackPromise dictionary kernel out r out′ → PackPromise dictionary kernel out s out″ → (r ≡ s) × (out′ ≡ out″)
-pack-one-outcome dictionary kernel out = one-written (packCall dictionary kernel out)
-
-pub unpack-one-outcome : (dictionary kernel out : List ℕ) (r s : ℕ) (out′ out″ : List ℕ)
-    → UnpackPromise dictionary kernel out r out′ → UnpackPromise dictionary kernel out s out″ → (r ≡ s) × (out′ ≡ out″)
-unpack-one-outcome dictionary kernel out = one-written (unpackCall dictionary kernel out)
-
-pub shorten-one-outcome : (dictionary word out : List ℕ) (r s : ℕ) (out′ out″ : List ℕ)
-    → ShortenPromise dictionary word out r out′ → ShortenPromise dictionary word out s out″ → (r ≡ s) × (out′ ≡ out″)
-shorten-one-outcome dictionary word out = one-written (shortenCall dictionary word out)
-
-pub expand-one-outcome : (dictionary word out : List ℕ) (r s : ℕ) (out′ out″ : List ℕ)
-    → ExpandPromise dictionary word out r out′ → ExpandPromise dictionary word out s out″ → (r ≡ s) × (out′ ≡ out″)
-expand-one-outcome dictionary word out = one-written (expandCall dictionary word out)
-
-pub decode-one-outcome : (dictionary kernel : List ℕ) (place : ℕ) (r s : ℕ) → DecodePromise dictionary kernel place r → DecodePromise dictionary kernel place s → r ≡ s
-decode-one-outcome dictionary kernel place r s p q = p ∙ sym q
-
-pub start-one-outcome : (mask flag0 flag1 : ℕ) (state : List ℕ) (r s : ℕ) (state′ state″ : List ℕ)
-    → StartPromise mask flag0 flag1 state r state′ → StartPromise mask flag0 flag1 state s state″ → (r ≡ s) × (state′ ≡ state″)
-start-one-outcome mask flag0 flag1 state = one-written (startCall mask flag0 flag1 state)
-
-pub step-one-outcome : (dictionary kernel registers state : List ℕ) (r s : ℕ) (registers′ registers″ state′ state″ : List ℕ)
-    → StepPromise dictionary kernel registers state r registers′ state′ → StepPromise dictionary kernel registers state s registers″ state″ → (r ≡ s) × (registers′ ≡ registers″) × (state′ ≡ state″)
-step-one-outcome dictionary kernel registers state = one-changed (stepCall dictionary kernel registers state)
-
-pub run-one-outcome : (dictionary kernel : List ℕ) (budget : ℕ) (registers state : List ℕ) (r s : ℕ) (registers′ registers″ state′ state″ : List ℕ)
-    → RunPromise dictionary kernel budget registers state r registers′ state′ → RunPromise dictionary kernel budget registers state s registers″ state″ → (r ≡ s) × (registers′ ≡ registers″) × (state′ ≡ state″)
-run-one-outcome dictionary kernel budget registers state = one-changed (runCall dictionary kernel budget registers state)
-
--- ==== demand 1: every answer is one of the paper's
-
--- The three parts of an answer that fits in the one number.
+-- An answer says what the paper's answer says: the number is one of a list, and number, offset and count are the paper's, none spoilt by another.
 pub record Told (numbers : ℕ → Bool) (a : Answer) (r : ℕ) : Type 0 where
   pub listed : numbers (numberIn r) ≡ true
   pub number : numberIn r ≡ a .number
   pub offset : offsetIn r ≡ a .offset
   pub count : countIn r ≡ a .count
 
-told : (numbers : ℕ → Bool) (a : Answer) (r : ℕ) → Fine numbers a → r ≡ asNumber a → Told numbers a r
-told numbers a r f e =
-    let n : numberIn r ≡ a .number = ap numberIn e ∙ number-back a (f .small) in
-    record {
-      listed = ap numbers n ∙ f .listed;
-      number = n;
-      offset = ap offsetIn e ∙ offset-back a (f .small);
-      count = ap countIn e ∙ count-back a (f .small);
-    }
-
--- Each call's number is one of that call's own list (Numbers), and number, offset and count are those of the paper's answer: none spoils another.
-pub check-told : (dictionary kernel : List ℕ) (r : ℕ) → CheckPromise dictionary kernel r → Told checkNumbers (checkCall dictionary kernel) r
-check-told dictionary kernel r p = told checkNumbers (checkCall dictionary kernel) r (check-fine dictionary kernel) p
-
-pub pack-told : (dictionary kernel out : List ℕ) (r : ℕ) (out′ : List ℕ) → PackPromise dictionary kernel out r out′
-    → Told packNumbers (packCall dictionary kernel out .answer) r
-pack-told dictionary kernel out r out′ p = told packNumbers (packCall dictionary kernel out .answer) r (pack-fine dictionary kernel out) (p .0)
-
-pub unpack-told : (dictionary kernel out : List ℕ) (r : ℕ) (out′ : List ℕ) → UnpackPromise dictionary kernel out r out′
-    → Told packNumbers (unpackCall dictionary kernel out .answer) r
-unpack-told dictionary kernel out r out′ p = told packNumbers (unpackCall dictionary kernel out .answer) r (unpack-fine dictionary kernel out) (p .0)
-
-pub shorten-told : (dictionary word out : List ℕ) (r : ℕ) (out′ : List ℕ) → ShortenPromise dictionary word out r out′
-    → Told shortenNumbers (shortenCall dictionary word out .answer) r
-shorten-told dictionary word out r out′ p = told shortenNumbers (shortenCall dictionary word out .answer) r (shorten-fine dictionary word out) (p .0)
-
-pub expand-told : (dictionary word out : List ℕ) (r : ℕ) (out′ : List ℕ) → ExpandPromise dictionary word out r out′
-    → Told expandNumbers (expandCall dictionary word out .answer) r
-expand-told dictionary word out r out′ p = told expandNumbers (expandCall dictionary word out .answer) r (expand-fine dictionary word out) (p .0)
-
-pub decode-told : (dictionary kernel : List ℕ) (place : ℕ) (r : ℕ) → DecodePromise dictionary kernel place r → Told decodeNumbers (decodeCall dictionary kernel place) r
-decode-told dictionary kernel place r p = told decodeNumbers (decodeCall dictionary kernel place) r (decode-fine dictionary kernel place) p
-
-pub start-told : (mask flag0 flag1 : ℕ) (state : List ℕ) (r : ℕ) (state′ : List ℕ) → StartPromise mask flag0 flag1 state r state′
-    → Told startNumbers (startCall mask flag0 flag1 state .answer) r
-start-told mask flag0 flag1 state r state′ p = told startNumbers (startCall mask flag0 flag1 state .answer) r (start-fine mask flag0 flag1 state) (p .0)
-
-pub step-told : (dictionary kernel registers state : List ℕ) (r : ℕ) (registers′ state′ : List ℕ) → StepPromise dictionary kernel registers state r registers′ state′
-    → Told stepNumbers (stepCall dictionary kernel registers state .answer) r
-step-told dictionary kernel registers state r registers′ state′ p = told stepNumbers (stepCall dictionary kernel registers state .answer) r (step-fine dictionary kernel registers state) (p .0)
-
-pub run-told : (dictionary kernel : List ℕ) (budget : ℕ) (registers state : List ℕ) (r : ℕ) (registers′ state′ : List ℕ) → RunPromise dictionary kernel budget registers state r registers′ state′
-    → Told runNumbers (runCall dictionary kernel budget registers state .answer) r
-run-told dictionary kernel budget registers state r registers′ state′ p = told runNumbers (runCall dictionary kernel budget registers state .answer) r (run-fine dictionary kernel budget registers state) (p .0)
-
--- ==== demand 1: a refusal changes nothing
+-- Each call's answer is so, with the call's own list (Numbers).
+pub record Answers : Type 0 where
+  pub check : (dictionary kernel : List ℕ) (r : ℕ) → CheckPromise dictionary kernel r → Told checkNumbers (checkCall dictionary kernel) r
+  pub pack : (dictionary kernel out : List ℕ) (r : ℕ) (out′ : List ℕ) → PackPromise dictionary kernel out r out′
+      → Told packNumbers (packCall dictionary kernel out .answer) r
+  pub unpack : (dictionary kernel out : List ℕ) (r : ℕ) (out′ : List ℕ) → UnpackPromise dictionary kernel out r out′
+      → Told packNumbers (unpackCall dictionary kernel out .answer) r
+  pub shorten : (dictionary word out : List ℕ) (r : ℕ) (out′ : List ℕ) → ShortenPromise dictionary word out r out′
+      → Told shortenNumbers (shortenCall dictionary word out .answer) r
+  pub expand : (dictionary word out : List ℕ) (r : ℕ) (out′ : List ℕ) → ExpandPromise dictionary word out r out′
+      → Told expandNumbers (expandCall dictionary word out .answer) r
+  pub decode : (dictionary kernel : List ℕ) (place r : ℕ) → DecodePromise dictionary kernel place r
+      → Told decodeNumbers (decodeCall dictionary kernel place) r
+  pub start : (mask flag0 flag1 : ℕ) (state : List ℕ) (r : ℕ) (state′ : List ℕ) → StartPromise mask flag0 flag1 state r state′
+      → Told startNumbers (startCall mask flag0 flag1 state .answer) r
+  pub step : (dictionary kernel registers state : List ℕ) (r : ℕ) (registers′ state′ : List ℕ)
+      → StepPromise dictionary kernel registers state r registers′ state′ → Told stepNumbers (stepCall dictionary kernel registers state .answer) r
+  pub run : (dictionary kernel : List ℕ) (budget : ℕ) (registers state : List ℕ) (r : ℕ) (registers′ state′ : List ℕ)
+      → RunPromise dictionary kernel budget registers state r registers′ state′ → Told runNumbers (runCall dictionary kernel budget registers state .answer) r
 
 -- What a call leaves of the output that it was lent: all of it unless the answer's number is 0; what lies past the count's bytes, and the length, always.
 pub record Kept (out : List ℕ) (r : ℕ) (out′ : List ℕ) : Type 0 where
@@ -125,58 +81,150 @@ pub record Kept (out : List ℕ) (r : ℕ) (out′ : List ℕ) : Type 0 where
   pub rest : drop (countIn r) out′ ≡ drop (countIn r) out
   pub same : length out′ ≡ length out
 
-kept : (numbers : ℕ → Bool) (w : Written) (out : List ℕ) (r : ℕ) (out′ : List ℕ) → Fine numbers (w .answer) → Confined out w → Wrote w r out′ → Kept out r out′
-kept numbers w out r out′ f c p =
-    let t = told numbers (w .answer) r f (p .0) in
-    record {
-      refused = λ n. p .1 ∙ c .refused (λ e. n (t .number ∙ e));
-      fits = rw (t .count) (c .fits);
-      rest = (λ i. drop (t .count i) (p .1 i)) ∙ c .rest ∙ ap (λ (n : ℕ). drop n out) (sym (t .count));
-      same = ap length (p .1) ∙ c .same;
-    }
+-- A refusal changes nothing. A step changes nothing at the end (20) either; a run's verdicts are 20 and 21.
+pub record Refusals : Type 0 where
+  pub pack : (dictionary kernel out : List ℕ) (r : ℕ) (out′ : List ℕ) → PackPromise dictionary kernel out r out′ → Kept out r out′
+  pub unpack : (dictionary kernel out : List ℕ) (r : ℕ) (out′ : List ℕ) → UnpackPromise dictionary kernel out r out′ → Kept out r out′
+  pub shorten : (dictionary word out : List ℕ) (r : ℕ) (out′ : List ℕ) → ShortenPromise dictionary word out r out′ → Kept out r out′
+  pub expand : (dictionary word out : List ℕ) (r : ℕ) (out′ : List ℕ) → ExpandPromise dictionary word out r out′ → Kept out r out′
+  pub start : (mask flag0 flag1 : ℕ) (state : List ℕ) (r : ℕ) (state′ : List ℕ) → StartPromise mask flag0 flag1 state r state′
+      → (numberIn r ≡ 0 → ⊥) → state′ ≡ state
+  pub step : (dictionary kernel registers state : List ℕ) (r : ℕ) (registers′ state′ : List ℕ)
+      → StepPromise dictionary kernel registers state r registers′ state′ → (numberIn r ≡ 0 → ⊥) → (registers′ ≡ registers) × (state′ ≡ state)
+  pub run : (dictionary kernel : List ℕ) (budget : ℕ) (registers state : List ℕ) (r : ℕ) (registers′ state′ : List ℕ)
+      → RunPromise dictionary kernel budget registers state r registers′ state′ → (numberIn r ≡ 20 → ⊥) → (numberIn r ≡ 21 → ⊥)
+      → (registers′ ≡ registers) × (state′ ≡ state)
 
-pub pack-kept : (dictionary kernel out : List ℕ) (r : ℕ) (out′ : List ℕ) → PackPromise dictionary kernel out r out′ → Kept out r out′
-pack-kept dictionary kernel out r out′ = kept packNumbers (packCall dictionary kernel out) out r out′ (pack-fine dictionary kernel out) (pack-confined dictionary kernel out)
+pub record Demand1 : Type 0 where
+  pub oneOutcome : OneOutcome
+  pub answers : Answers
+  pub refusals : Refusals
+  -- A decoded instruction has 8 or 16 bytes, and they lie inside the kernel from the place on.
+  pub decodesInside : (dictionary kernel : List ℕ) (place r : ℕ) → DecodePromise dictionary kernel place r → numberIn r ≡ 0
+      → ((countIn r ≡ 8) ⊎ (countIn r ≡ 16)) × (8 * place + countIn r ≤ length kernel)
 
-pub unpack-kept : (dictionary kernel out : List ℕ) (r : ℕ) (out′ : List ℕ) → UnpackPromise dictionary kernel out r out′ → Kept out r out′
-unpack-kept dictionary kernel out r out′ = kept packNumbers (unpackCall dictionary kernel out) out r out′ (unpack-fine dictionary kernel out) (unpack-confined dictionary kernel out)
+-- ==== demand 2: the smallest short word; packing and unpacking
 
-pub shorten-kept : (dictionary word out : List ℕ) (r : ℕ) (out′ : List ℕ) → ShortenPromise dictionary word out r out′ → Kept out r out′
-shorten-kept dictionary word out r out′ = kept shortenNumbers (shortenCall dictionary word out) out r out′ (shorten-fine dictionary word out) (shorten-confined dictionary word out)
+-- What pack or unpack wrote: the first bytes of the output, as many as it counts.
+abbrev pub result : ℕ → List ℕ → List ℕ
+result r out′ = take (countIn r) out′
 
-pub expand-kept : (dictionary word out : List ℕ) (r : ℕ) (out′ : List ℕ) → ExpandPromise dictionary word out r out′ → Kept out r out′
-expand-kept dictionary word out r out′ = kept expandNumbers (expandCall dictionary word out) out r out′ (expand-fine dictionary word out) (expand-confined dictionary word out)
+-- The bytes are items one after the other without gaps, each the smallest short word of its instruction, or the long word where no short word expands
+-- to it; check takes them for these instructions; and they are the kernel's instructions in their order, each jump reaching the same one.
+pub record Packed (dictionary kernel bytes : List ℕ) : Type 0 where
+  pub instrs : List Instr
+  pub given : accepted longOnly dictionary kernel ≡ good instrs
+  pub items : List Item
+  pub laid : bytes ≡ allBytes items
+  pub shortest : AllShortest (dictionaryOf dictionary) items
+  pub taken : accepted longAndShort dictionary bytes ≡ good (instrsFrom 0 items)
+  pub same : program (instrsFrom 0 items) ≡ program instrs
 
--- A refused start leaves the state's bytes as they were.
-pub start-kept : (mask flag0 flag1 : ℕ) (state : List ℕ) (r : ℕ) (state′ : List ℕ) → StartPromise mask flag0 flag1 state r state′
-    → (numberIn r ≡ 0 → ⊥) → state′ ≡ state
-start-kept mask flag0 flag1 state r state′ p n =
-    let t = start-told mask flag0 flag1 state r state′ p in
-    p .1 ∙ start-confined mask flag0 flag1 state .refused (λ e. n (t .number ∙ e))
+-- The bytes are long words only, so that packing takes them; and they are the kernel's instructions in their order, each jump reaching the same one.
+pub record Unpacked (dictionary kernel bytes : List ℕ) : Type 0 where
+  pub instrs : List Instr
+  pub given : accepted longAndShort dictionary kernel ≡ good instrs
+  pub longer : List Instr
+  pub taken : accepted longOnly dictionary bytes ≡ good longer
+  pub same : program longer ≡ program instrs
 
--- A step that does not answer 0 leaves registers and state as they were: a refusal, and also 20, the end.
-pub step-kept : (dictionary kernel registers state : List ℕ) (r : ℕ) (registers′ state′ : List ℕ)
-    → StepPromise dictionary kernel registers state r registers′ state′ → (numberIn r ≡ 0 → ⊥) → (registers′ ≡ registers) × (state′ ≡ state)
-step-kept dictionary kernel registers state r registers′ state′ p n =
-    let t = step-told dictionary kernel registers state r registers′ state′ p in
-    let u = step-unchanged dictionary kernel registers state (λ e. n (t .number ∙ e)) in
-    (p .1 ∙ u .sameRegisters, p .2 ∙ u .sameState)
+pub record Demand2 : Type 0 where
+  -- If shorten answers 0, then the first eight bytes of the output are the smallest short word that expands to the word: a number of 64 bits with bit 29
+  -- set whose opcode is no branch, and at most every other such number that expands to it.
+  pub least : (dictionary word out : List ℕ) → areBytes word ≡ true → (r : ℕ) (out′ : List ℕ) → ShortenPromise dictionary word out r out′
+      → numberIn r ≡ 0 → Least (dictionaryOf dictionary) (numberAt word 0 16) (numberAt out′ 0 8)
+  -- If it answers 13, then no short word expands to the word.
+  pub never : (dictionary word out : List ℕ) → areBytes word ≡ true → (r : ℕ) (out′ : List ℕ) → ShortenPromise dictionary word out r out′
+      → numberIn r ≡ 13 → (t : ℕ) → Shortens (dictionaryOf dictionary) (numberAt word 0 16) t → ⊥
+  -- Pack answers 0 to every accepted kernel of long words if the output is as long as the kernel.
+  pub packs : (dictionary kernel out : List ℕ) → areBytes kernel ≡ true → (k : List Instr) → accepted longOnly dictionary kernel ≡ good k
+      → length kernel ≤ length out → (r : ℕ) (out′ : List ℕ) → PackPromise dictionary kernel out r out′ → numberIn r ≡ 0
+  -- With such an output it never answers 14, whatever the kernel.
+  pub packRoom : (dictionary kernel out : List ℕ) → areBytes kernel ≡ true → length kernel ≤ length out → (r : ℕ) (out′ : List ℕ)
+      → PackPromise dictionary kernel out r out′ → numberIn r ≡ 14 → ⊥
+  -- If pack answers 0, then every instruction that can be shortened is, to its smallest short word, in order and without gaps.
+  pub packed : (dictionary kernel out : List ℕ) → areBytes kernel ≡ true → (r : ℕ) (out′ : List ℕ) → PackPromise dictionary kernel out r out′
+      → numberIn r ≡ 0 → Packed dictionary kernel (result r out′)
+  -- Check accepts what was packed, with the same answer as the kernel itself.
+  pub checked : (dictionary kernel out : List ℕ) → areBytes kernel ≡ true → (r : ℕ) (out′ : List ℕ) → PackPromise dictionary kernel out r out′
+      → numberIn r ≡ 0 → (a b : ℕ) → CheckPromise dictionary kernel a → CheckPromise dictionary (result r out′) b → (numberIn b ≡ 0) × (a ≡ b)
+  -- Unpack of what was packed gives the kernel's bytes back, if they have room; what lies behind them stays.
+  pub unpacksBack : (dictionary kernel out : List ℕ) → areBytes kernel ≡ true → (r : ℕ) (out′ : List ℕ) → PackPromise dictionary kernel out r out′
+      → numberIn r ≡ 0 → (back : List ℕ) → length kernel ≤ length back
+      → (u : ℕ) (back′ : List ℕ) → UnpackPromise dictionary (result r out′) back u back′
+      → (numberIn u ≡ 0) × (countIn u ≡ length kernel) × (back′ ≡ kernel ++ drop (length kernel) back)
+  -- Unpack answers 0 to every accepted kernel if the output is twice as long as the kernel.
+  pub unpacks : (dictionary kernel out : List ℕ) → areBytes kernel ≡ true → (k : List Instr) → accepted longAndShort dictionary kernel ≡ good k
+      → 2 * length kernel ≤ length out → (r : ℕ) (out′ : List ℕ) → UnpackPromise dictionary kernel out r out′ → numberIn r ≡ 0
+  -- With such an output it never answers 14, whatever the kernel.
+  pub unpackRoom : (dictionary kernel out : List ℕ) → areBytes kernel ≡ true → 2 * length kernel ≤ length out → (r : ℕ) (out′ : List ℕ)
+      → UnpackPromise dictionary kernel out r out′ → numberIn r ≡ 14 → ⊥
+  -- If unpack answers 0, then every word is long, in order and without gaps.
+  pub unpacked : (dictionary kernel out : List ℕ) → areBytes kernel ≡ true → (r : ℕ) (out′ : List ℕ) → UnpackPromise dictionary kernel out r out′
+      → numberIn r ≡ 0 → Unpacked dictionary kernel (result r out′)
 
--- A run that answers neither 20 nor 21 leaves registers and state as they were.
-pub run-kept : (dictionary kernel : List ℕ) (budget : ℕ) (registers state : List ℕ) (r : ℕ) (registers′ state′ : List ℕ)
-    → RunPromise dictionary kernel budget registers state r registers′ state′ → (numberIn r ≡ 20 → ⊥) → (numberIn r ≡ 21 → ⊥)
-    → (registers′ ≡ registers) × (state′ ≡ state)
-run-kept dictionary kernel budget registers state r registers′ state′ p n m =
-    let t = run-told dictionary kernel budget registers state r registers′ state′ p in
-    let u = run-unchanged dictionary kernel budget registers state (λ e. n (t .number ∙ e)) (λ e. m (t .number ∙ e)) in
-    (p .1 ∙ u .sameRegisters, p .2 ∙ u .sameState)
+-- ==== demand 3: a run is its steps, and long and packed run alike
 
--- ==== what decoding points at
+-- What an answered run was: as many steps as it counts, each made by spokeshaver_step and answered with 0, so none of them at the end, and no more than
+-- the budget; where the run says 20 a further step says 20, the end; where it says 21 the whole budget is spent, and a further step would be made.
+pub record WasSteps (dictionary kernel : List ℕ) (budget : ℕ) (registers state : List ℕ) (r : ℕ) (registers′ state′ : List ℕ) : Type 0 where
+  pub steps : Steps dictionary kernel (countIn r) registers state registers′ state′
+  pub within : countIn r ≤ budget
+  pub ended : numberIn r ≡ 20 → (a : ℕ) (registers″ state″ : List ℕ) → StepPromise dictionary kernel registers′ state′ a registers″ state″ → numberIn a ≡ 20
+  pub spent : numberIn r ≡ 21 → countIn r ≡ budget
+  pub short : numberIn r ≡ 21 → (a : ℕ) (registers″ state″ : List ℕ) → StepPromise dictionary kernel registers′ state′ a registers″ state″ → numberIn a ≡ 0
 
--- A decoded instruction has 8 or 16 bytes, and they lie inside the kernel from the place on.
-pub decode-points-inside : (dictionary kernel : List ℕ) (place r : ℕ) → DecodePromise dictionary kernel place r → numberIn r ≡ 0
-    → ((countIn r ≡ 8) ⊎ (countIn r ≡ 16)) × (8 * place + countIn r ≤ length kernel)
-decode-points-inside dictionary kernel place r p zero =
-    let t = decode-told dictionary kernel place r p in
-    let i = decode-inside dictionary kernel place (sym (t .number) ∙ zero) in
-    rw (t .count) (i .size, i .ends)
+-- What start left, with any mask and flags, in whatever it was lent; and registers of the right size.
+pub record Begun (state registers : List ℕ) : Type 0 where
+  pub mask : ℕ
+  pub flag0 : ℕ
+  pub flag1 : ℕ
+  pub small0 : flag0 < 2 ^ 16
+  pub small1 : flag1 < 2 ^ 16
+  pub lent : List ℕ
+  pub answer : ℕ
+  pub begin : StartPromise mask flag0 flag1 lent answer state
+  pub zero : numberIn answer ≡ 0
+  pub whole : length registers ≡ registerBytes
+
+-- How two runs are alike, of a kernel with the instructions k and one with the instructions l: the same answer, that is verdict and steps; the same
+-- registers and flags; and the place, and each channel's waiting place, name the same instruction by its number, the end being one past the last. In
+-- both every place is an instruction's start or the end.
+pub record Alike (k l : List Instr) (r : ℕ) (registers state : List ℕ) (r′ : ℕ) (registers′ state′ : List ℕ) : Type 0 where
+  pub sameAnswer : r ≡ r′
+  pub sameRegisters : registers ≡ registers′
+  pub sameFlag0 : half state 0 ≡ half state′ 0
+  pub sameFlag1 : half state 2 ≡ half state′ 2
+  pub samePlace : index k (half state 4) ≡ index l (half state′ 4)
+  pub sameChannels : map (renameC (index k)) (channelsIn state 0 16) ≡ map (renameC (index l)) (channelsIn state′ 0 16)
+  pub legal : stateLegal k registers state ≡ true
+  pub legal′ : stateLegal l registers′ state′ ≡ true
+
+pub record Demand3 : Type 0 where
+  -- Every run is the steps that it counts, from any registers and state, for every budget up to 1,000,000; a refused one is no step.
+  pub wasSteps : (dictionary kernel registers state : List ℕ) → areBytes kernel ≡ true → areBytes state ≡ true → (budget : ℕ) → budget ≤ budgetLimit
+      → (r : ℕ) (registers′ state′ : List ℕ) → RunPromise dictionary kernel budget registers state r registers′ state′
+      → WasSteps dictionary kernel budget registers state r registers′ state′
+  -- Where a step answers 0, a run of n + 1 steps is that step and then the run of n from what the step left.
+  pub oneMore : (dictionary kernel registers state : List ℕ) → areBytes kernel ≡ true → areBytes state ≡ true
+      → (a : ℕ) (registers₁ state₁ : List ℕ) → StepPromise dictionary kernel registers state a registers₁ state₁ → numberIn a ≡ 0
+      → (n : ℕ) → suc n ≤ budgetLimit → (b : ℕ) (registers₂ state₂ : List ℕ) → RunPromise dictionary kernel n registers₁ state₁ b registers₂ state₂
+      → (c : ℕ) (registers₃ state₃ : List ℕ) → RunPromise dictionary kernel (suc n) registers state c registers₃ state₃
+      → (numberIn c ≡ numberIn b) × (countIn c ≡ suc (countIn b)) × (registers₃ ≡ registers₂) × (state₃ ≡ state₂)
+  -- Where a step answers anything else, 20 at the end or a refusal, a run with any budget up to 1,000,000 answers the same and changes nothing.
+  pub noMore : (dictionary kernel registers state : List ℕ) → areBytes kernel ≡ true → areBytes state ≡ true
+      → (a : ℕ) (registers₁ state₁ : List ℕ) → StepPromise dictionary kernel registers state a registers₁ state₁ → (numberIn a ≡ 0 → ⊥)
+      → (budget : ℕ) → budget ≤ budgetLimit → (r : ℕ) (registers′ state′ : List ℕ) → RunPromise dictionary kernel budget registers state r registers′ state′
+      → (r ≡ a) × (registers′ ≡ registers) × (state′ ≡ state)
+  -- What check accepts, runs: from a start, with any budget up to 1,000,000, the answer is 20 or 21, no refusal.
+  pub runs : (state registers : List ℕ) → Begun state registers → (dictionary kernel : List ℕ) → areBytes kernel ≡ true
+      → (c : ℕ) → CheckPromise dictionary kernel c → numberIn c ≡ 0 → (budget : ℕ) → budget ≤ budgetLimit
+      → (r : ℕ) (registers′ state′ : List ℕ) → RunPromise dictionary kernel budget registers state r registers′ state′ → (numberIn r ≡ 20) ⊎ (numberIn r ≡ 21)
+  -- A kernel that pack answered with 0, and the bytes that it wrote, run alike: from a start, with every budget up to 1,000,000. The instructions k and l are
+  -- those for which the bench takes the two.
+  pub alike : (dictionary kernel out : List ℕ) → areBytes kernel ≡ true → (p : ℕ) (out′ : List ℕ) → PackPromise dictionary kernel out p out′ → numberIn p ≡ 0
+      → (state registers : List ℕ) → Begun state registers → (budget : ℕ) → budget ≤ budgetLimit
+      → (r : ℕ) (registers′ state′ : List ℕ) → RunPromise dictionary kernel budget registers state r registers′ state′
+      → (q : ℕ) (registers″ state″ : List ℕ) → RunPromise dictionary (result p out′) budget registers state q registers″ state″
+      → (k l : List Instr) → accepted longAndShort dictionary kernel ≡ good k → accepted longAndShort dictionary (result p out′) ≡ good l
+      → Alike k l r registers′ state′ q registers″ state″

@@ -73,6 +73,15 @@ deliver-fits result out = go (ltb (length out) (length result))
     go true e = absurd (omega arith)
     go false e = refl
 
+-- Where there is room, the answer is 0.
+deliver-room : (result out : List ℕ) → length result ≤ length out → deliver result out .answer .number ≡ 0
+unfolding deliver
+deliver-room result out room = go (ltb (length out) (length result)) refl
+  where
+    go : (b : Bool) → ltb (length out) (length result) ≡ b → cond b (kept (refusal 14 0) out) (wrote result out) .answer .number ≡ 0
+    go true h = let less = ltb-true (length out) (length result) h in absurd (omega arith)
+    go false h = refl
+
 -- 14 says that the output is shorter.
 deliver-full : (result out : List ℕ) → deliver result out .answer .number ≡ 14 → length out < length result
 unfolding deliver
@@ -114,6 +123,21 @@ pub unpack-writes : (dictionary kernel out : List ℕ) → unpackCall dictionary
 unfolding unpackCall
 unpack-writes dictionary kernel out =
     relaid-writes longForm out (accepted longAndShort dictionary kernel) (accepted-near longAndShort dictionary kernel)
+
+-- An accepted kernel whose result has room is answered with 0.
+relaid-room : (form : Form) (out : List ℕ) (q : Parsed) (k : List Instr) → q ≡ good k → length (relay form k) ≤ length out
+    → relaid form out q .answer .number ≡ 0
+relaid-room form out q k given room = ap (λ (x : Parsed). relaid form out x .answer .number) given ∙ deliver-room (relay form k) out room
+
+pub pack-fits : (dictionary kernel out : List ℕ) (k : List Instr) → accepted longOnly dictionary kernel ≡ good k
+    → length (relay (shorten (dictionaryOf dictionary)) k) ≤ length out → packCall dictionary kernel out .answer .number ≡ 0
+unfolding packCall
+pack-fits dictionary kernel out = relaid-room (shorten (dictionaryOf dictionary)) out (accepted longOnly dictionary kernel)
+
+pub unpack-fits : (dictionary kernel out : List ℕ) (k : List Instr) → accepted longAndShort dictionary kernel ≡ good k
+    → length (relay longForm k) ≤ length out → unpackCall dictionary kernel out .answer .number ≡ 0
+unfolding unpackCall
+unpack-fits dictionary kernel out = relaid-room longForm out (accepted longAndShort dictionary kernel)
 
 -- 14 is answered only where a result is longer than the output.
 relaid-full : (form : Form) (out : List ℕ) (q : Parsed) → Near kernelBytes instructionLimit q → relaid form out q .answer .number ≡ 14

@@ -1,4 +1,4 @@
--- What the exported calls promise, further: the smallest short word, and packing and unpacking (demand 2). Promises says how to read it. Assumes nothing.
+-- Demand 2 holds: the smallest short word, packing and unpacking.
 use mathlib.Core.Bool.{true}
 use mathlib.Core.List.{List, [], _∷_, _++_, map}
 use mathlib.Core.Option.{Option, none, some}
@@ -27,10 +27,11 @@ use Rattle.laws.specs.Walk.{Each}
 use Rattle.laws.specs.Parse.{WordAt}
 use Rattle.laws.specs.Demands.{unpack-delivers}
 use Rattle.spokeshaver.specs.Contracts.{numberIn, countIn, CheckPromise, PackPromise, UnpackPromise, ShortenPromise}
-use Rattle.spokeshaver.specs.Results.{accepted-checks, Writes, pack-writes, unpack-writes, pack-full, unpack-full, shorten-says}
-use Rattle.spokeshaver.specs.Promises.{check-told, pack-told, unpack-told, shorten-told}
+use Rattle.spokeshaver.specs.Results.{accepted-checks, Writes, pack-writes, unpack-writes, pack-fits, unpack-fits, pack-full, unpack-full, shorten-says}
+use Rattle.spokeshaver.specs.Promises.{result, Packed, Unpacked, Demand2}
+use Rattle.spokeshaver.specs.OutcomesHold.{answers}
 
--- ==== one word
+-- ---- one word
 
 -- The number of 16 bytes is a word, and eight bytes that were written are read as the number that they were written from.
 word-fits : (word : List ℕ) → areBytes word ≡ true → numberAt word 0 16 < 2 ^ 128
@@ -46,7 +47,7 @@ module _ (dictionary word out : List ℕ) (bytes : areBytes word ≡ true) (r : 
   -- with bit 29 set whose opcode is no branch, and at most every other such number that expands to it.
   pub shorten-least : numberIn r ≡ 0 → Least (dictionaryOf dictionary) (numberAt word 0 16) (numberAt out′ 0 8)
   shorten-least zero =
-      let s = shorten-says dictionary word out .fine (sym (shorten-told dictionary word out r out′ p .number) ∙ zero) in
+      let s = shorten-says dictionary word out .fine (sym (answers .shorten dictionary word out r out′ p .number) ∙ zero) in
       let l = shorten-some (dictionaryOf dictionary) (numberAt word 0 16) (s .word) (word-fits word bytes) (s .is) in
       rw (p .1 ∙ s .output, read-back (s .word) (drop 8 out) (l .is .fits)) l
 
@@ -54,24 +55,9 @@ module _ (dictionary word out : List ℕ) (bytes : areBytes word ≡ true) (r : 
   pub shorten-never : numberIn r ≡ 13 → (t : ℕ) → Shortens (dictionaryOf dictionary) (numberAt word 0 16) t → ⊥
   shorten-never thirteen =
       shorten-none (dictionaryOf dictionary) (numberAt word 0 16) (word-fits word bytes)
-      (shorten-says dictionary word out .thirteen (sym (shorten-told dictionary word out r out′ p .number) ∙ thirteen))
+      (shorten-says dictionary word out .thirteen (sym (answers .shorten dictionary word out r out′ p .number) ∙ thirteen))
 
--- ==== a kernel
-
--- What spokeshaver_pack wrote: the first bytes of the output, as many as it counts.
-abbrev pub result : ℕ → List ℕ → List ℕ
-result r out′ = take (countIn r) out′
-
--- The bytes are items one after the other without gaps, each the smallest short word of its instruction, or the long word where no short word expands
--- to it; check takes them for these instructions; and they are the kernel's instructions in their order, each jump reaching the same one.
-pub record Packed (dictionary kernel bytes : List ℕ) : Type 0 where
-  pub instrs : List Instr
-  pub given : accepted longOnly dictionary kernel ≡ good instrs
-  pub items : List Item
-  pub laid : bytes ≡ allBytes items
-  pub shortest : AllShortest (dictionaryOf dictionary) items
-  pub taken : accepted longAndShort dictionary bytes ≡ good (instrsFrom 0 items)
-  pub same : program (instrsFrom 0 items) ≡ program instrs
+-- ---- a kernel
 
 -- The instructions of a kernel, and the bytes that a relayout by `form` makes of them.
 pub record Relaid (forms : Forms) (form : Form) (dictionary kernel bytes : List ℕ) : Type 0 where
@@ -108,7 +94,7 @@ module _ (dictionary kernel out : List ℕ) (right : areBytes kernel ≡ true) (
 
   pub pack-wrote : Relaid longOnly (shorten D) dictionary kernel (result r out′)
   pack-wrote =
-      let t = pack-told dictionary kernel out r out′ p in
+      let t = answers .pack dictionary kernel out r out′ p in
       relaid-of longOnly (shorten D) dictionary kernel out (packCall dictionary kernel out)
       (pack-writes dictionary kernel out (sym (t .number) ∙ zero)) r out′ (t .count) (p .1)
 
@@ -144,7 +130,7 @@ module _ (dictionary kernel out : List ℕ) (right : areBytes kernel ≡ true) (
       let short = accepted-checks dictionary (result r out′) (instrsFrom 0 (g .items)) (g .taken) in
       let many : length (instrsFrom 0 (g .items)) ≡ length (g .instrs) =
       sym (length-map (instrsFrom 0 (g .items)) (lineOf (instrsFrom 0 (g .items)))) ∙ ap length (g .same) ∙ length-map (g .instrs) (lineOf (g .instrs)) in (
-        check-told dictionary (result r out′) b d .number ∙ ap (λ (x : Answer). x .number) short,
+        answers .check dictionary (result r out′) b d .number ∙ ap (λ (x : Answer). x .number) short,
         c ∙ ap asNumber (long ∙ ap (verdict 0) (sym many) ∙ sym short) ∙ sym d,
       )
 
@@ -153,25 +139,17 @@ module _ (dictionary kernel out : List ℕ) (right : areBytes kernel ≡ true) (
       → (numberIn u ≡ 0) × (countIn u ≡ length kernel) × (back′ ≡ kernel ++ drop (length kernel) back)
   unpack-back back room u back′ q =
       let w = pack-wrote in
-      let t = unpack-told dictionary (result r out′) back u back′ q in
+      let t = answers .unpack dictionary (result r out′) back u back′ q in
       let d = ap (λ (x : List ℕ). unpackCall dictionary x back) (w .are) ∙ unpack-delivers dictionary kernel right (w .instrs) (w .given) back room in
       (t .number ∙ ap (λ (x : Written). x .answer .number) d, t .count ∙ ap (λ (x : Written). x .answer .count) d, q .1 ∙ ap (λ (x : Written). x .output) d)
 
--- ==== unpacking
-
--- The bytes are long words only, so that packing takes them; and they are the kernel's instructions in their order, each jump reaching the same one.
-pub record Unpacked (dictionary kernel bytes : List ℕ) : Type 0 where
-  pub instrs : List Instr
-  pub given : accepted longAndShort dictionary kernel ≡ good instrs
-  pub longer : List Instr
-  pub taken : accepted longOnly dictionary bytes ≡ good longer
-  pub same : program longer ≡ program instrs
+-- ---- unpacking
 
 -- If spokeshaver_unpack answers 0, then every word is long, in order and without gaps.
 pub unpack-right : (dictionary kernel out : List ℕ) → areBytes kernel ≡ true → (r : ℕ) (out′ : List ℕ) → UnpackPromise dictionary kernel out r out′
     → numberIn r ≡ 0 → Unpacked dictionary kernel (result r out′)
 unpack-right dictionary kernel out right r out′ p zero =
-    let t = unpack-told dictionary kernel out r out′ p in
+    let t = answers .unpack dictionary kernel out r out′ p in
     let w = relaid-of longAndShort longForm dictionary kernel out (unpackCall dictionary kernel out)
     (unpack-writes dictionary kernel out (sym (t .number) ∙ zero)) r out′ (t .count) (p .1) in
     record {
@@ -182,7 +160,7 @@ unpack-right dictionary kernel out right r out′ p zero =
       same = unpacked-program dictionary kernel right (w .instrs) (w .given);
     }
 
--- ==== room
+-- ---- room
 
 -- Long words only take two places each, and any take at least one.
 two-each : (kernel : List ℕ) (a : ℕ) (k : List Instr) → Laid a k → Each (WordAt longOnly kernel) k → endFrom a k ≡ a + 2 * length k
@@ -211,22 +189,47 @@ relay-most form k =
     let m = length-map k (piece form) in
     omega arith
 
--- An output as long as the kernel is long enough for packing,
-pub pack-room : (dictionary kernel out : List ℕ) → areBytes kernel ≡ true → length kernel ≤ length out → (r : ℕ) (out′ : List ℕ)
-    → PackPromise dictionary kernel out r out′ → numberIn r ≡ 14 → ⊥
-pack-room dictionary kernel out right room r out′ p full =
-    let f = pack-full dictionary kernel out (sym (pack-told dictionary kernel out r out′ p .number) ∙ full) in
-    let h = kernel-of longOnly dictionary kernel right (f .0) (f .1) in
-    let most = relay-most (shorten (dictionaryOf dictionary)) (f .0) in
-    let ends = two-each kernel 0 (f .0) (h .sound .laid) (h .words) in
-    omega (arith, f .2, h .ends)
+-- What packing makes of an accepted kernel of long words is at most as long as the kernel,
+pack-most : (dictionary kernel : List ℕ) → areBytes kernel ≡ true → (k : List Instr) → accepted longOnly dictionary kernel ≡ good k
+    → length (relay (shorten (dictionaryOf dictionary)) k) ≤ length kernel
+pack-most dictionary kernel right k given =
+    let h = kernel-of longOnly dictionary kernel right k given in
+    let most = relay-most (shorten (dictionaryOf dictionary)) k in
+    let ends = two-each kernel 0 k (h .sound .laid) (h .words) in
+    omega (arith, h .ends)
 
--- and one of twice its length for unpacking.
-pub unpack-room : (dictionary kernel out : List ℕ) → areBytes kernel ≡ true → 2 * length kernel ≤ length out → (r : ℕ) (out′ : List ℕ)
-    → UnpackPromise dictionary kernel out r out′ → numberIn r ≡ 14 → ⊥
-unpack-room dictionary kernel out right room r out′ p full =
-    let f = unpack-full dictionary kernel out (sym (unpack-told dictionary kernel out r out′ p .number) ∙ full) in
-    let h = kernel-of longAndShort dictionary kernel right (f .0) (f .1) in
-    let most = relay-most longForm (f .0) in
-    let ends = one-each 0 (f .0) (h .sound .laid) in
-    omega (arith, f .2, h .ends)
+-- and what unpacking makes of any accepted kernel at most twice as long.
+unpack-most : (dictionary kernel : List ℕ) → areBytes kernel ≡ true → (k : List Instr) → accepted longAndShort dictionary kernel ≡ good k
+    → length (relay longForm k) ≤ 2 * length kernel
+unpack-most dictionary kernel right k given =
+    let h = kernel-of longAndShort dictionary kernel right k given in
+    let most = relay-most longForm k in
+    let ends = one-each 0 k (h .sound .laid) in
+    omega (arith, h .ends)
+
+-- ---- the demand
+
+pub demand-2 : Demand2
+demand-2 =
+    record {
+      least = λ dictionary word out bytes r out′ p. shorten-least dictionary word out bytes r out′ p;
+      never = λ dictionary word out bytes r out′ p. shorten-never dictionary word out bytes r out′ p;
+      packs = λ dictionary kernel out right k given room r out′ p.
+          let most = pack-most dictionary kernel right k given in
+          answers .pack dictionary kernel out r out′ p .number ∙ pack-fits dictionary kernel out k given (omega arith);
+      packRoom = λ dictionary kernel out right room r out′ p full.
+          let f = pack-full dictionary kernel out (sym (answers .pack dictionary kernel out r out′ p .number) ∙ full) in
+          let most = pack-most dictionary kernel right (f .0) (f .1) in
+          omega (arith, f .2);
+      packed = λ dictionary kernel out right r out′ p zero. pack-right dictionary kernel out right r out′ p zero;
+      checked = λ dictionary kernel out right r out′ p zero. pack-checked dictionary kernel out right r out′ p zero;
+      unpacksBack = λ dictionary kernel out right r out′ p zero. unpack-back dictionary kernel out right r out′ p zero;
+      unpacks = λ dictionary kernel out right k given room r out′ p.
+          let most = unpack-most dictionary kernel right k given in
+          answers .unpack dictionary kernel out r out′ p .number ∙ unpack-fits dictionary kernel out k given (omega arith);
+      unpackRoom = λ dictionary kernel out right room r out′ p full.
+          let f = unpack-full dictionary kernel out (sym (answers .unpack dictionary kernel out r out′ p .number) ∙ full) in
+          let most = unpack-most dictionary kernel right (f .0) (f .1) in
+          omega (arith, f .2);
+      unpacked = λ dictionary kernel out right r out′ p zero. unpack-right dictionary kernel out right r out′ p zero;
+    }
