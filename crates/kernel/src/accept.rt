@@ -4,7 +4,7 @@ use crate::jumps::first_astray;
 use crate::walk::Scan;
 use crate::walk::refuse;
 use crate::walk::walk;
-use words::dictionary::in_range;
+use short::dictionary::in_range;
 ghost use mathlib.Core.Bool.{true};
 ghost use mathlib.Core.Path.{_≡_};
 ghost use Rattle.paper.specs.Calls.{sized, accepted};

@@ -2,8 +2,8 @@
 use crate::accept::is_sized;
 use crate::instruction::Judged;
 use crate::instruction::judge_at;
+use short::dictionary::in_range;
 use words::bytes::Word;
-use words::dictionary::in_range;
 ghost use mathlib.Core.Path.{_≡_};
 ghost use Prim.Native.Nat.{_*_, _≤_};
 ghost use lib.Dec.{ltb};

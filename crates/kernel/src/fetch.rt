@@ -1,8 +1,8 @@
 // An instruction that has passed, read again without being judged.
+use short::expand::expand;
 use words::bytes::Word;
 use words::bytes::read8;
 use words::bytes::read16;
-use words::expand::expand;
 use words::fields::is_short;
 ghost use mathlib.Core.Path.{_≡_};
 ghost use lib.ListN.{length};

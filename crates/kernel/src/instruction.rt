@@ -1,10 +1,10 @@
 // One instruction of a kernel: 3, then 4, 5, then 6 to 11.
 use judge::refusal::judge;
 use judge::refusal::number_of;
+use short::expand::expand;
 use words::bytes::Word;
 use words::bytes::read8;
 use words::bytes::read16;
-use words::expand::expand;
 use words::fields::is_short;
 use words::fields::operation;
 use words::fields::operation_in;

@@ -3,7 +3,7 @@ use crate::channels::Channels;
 use crate::state::State;
 use crate::state::write_state;
 use execute::flags::Flags;
-use words::calls::Wrote;
+use words::wrote::Wrote;
 ghost use mathlib.Core.Path.{_≡_};
 ghost use mathlib.Core.List.{List};
 ghost use Prim.Native.Nat.{ℕ};

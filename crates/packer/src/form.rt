@@ -1,13 +1,13 @@
 // Which form each word gets.
+use short::shorten::Shorter;
+use short::shorten::shorten;
 use words::bytes::Word;
-use words::shorten::Shorter;
-use words::shorten::shorten;
 ghost use mathlib.Core.Path.{_≡_};
 ghost use Prim.Native.Nat.{_<_, _≤_};
 ghost use lib.ListN.{length};
 ghost use Rattle.paper.specs.Dictionary.{dictionaryOf};
 ghost use Rattle.paper.specs.Packing.{placesTaken};
-ghost use Rattle.words.specs.Shorter.{shorterIs};
+ghost use Rattle.short.specs.Shorter.{shorterIs};
 ghost use Rattle.words.specs.Words.{toWord};
 ghost use Rattle.packer.specs.Forms.{formOf};
 

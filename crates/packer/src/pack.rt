@@ -2,7 +2,7 @@
 use crate::place::place_all;
 use crate::write::write_all;
 use kernel::accept::accept;
-use words::calls::Wrote;
+use words::wrote::Wrote;
 ghost use mathlib.Core.Path.{_≡_};
 ghost use Rattle.paper.specs.Dictionary.{dictionaryOf};
 ghost use Rattle.paper.specs.Calls.{accepted, relaid, packCall, unpackCall};

@@ -2,7 +2,7 @@
 use kernel::check::Checked;
 use kernel::decode::Decoded;
 use run::calls::Ran;
-use words::calls::Wrote;
+use words::wrote::Wrote;
 ghost use mathlib.Core.Path.{_≡_};
 ghost use Prim.Native.Nat.{_^_, _<_};
 ghost use Rattle.paper.specs.Calls.{asNumber, refusal, verdict, decodedAs};

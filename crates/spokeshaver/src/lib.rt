@@ -14,8 +14,8 @@ use packer::pack::pack;
 use packer::pack::unpack;
 use run::calls::run;
 use run::calls::step;
-use words::calls::expand_word;
-use words::calls::shorten_word;
+use short::calls::expand_word;
+use short::calls::shorten_word;
 ghost use Rattle.spokeshaver.specs.Contracts.{CheckPromise, PackPromise, UnpackPromise, ShortenPromise, ExpandPromise};
 ghost use Rattle.spokeshaver.specs.Contracts.{DecodePromise, StartPromise, StepPromise, RunPromise};
 

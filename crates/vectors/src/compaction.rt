@@ -1,8 +1,8 @@
 // Shortening and expanding one word, held against what is listed.
+use short::calls::expand_word;
+use short::calls::shorten_word;
 use words::bytes::read8;
-use words::calls::Wrote;
-use words::calls::expand_word;
-use words::calls::shorten_word;
+use words::wrote::Wrote;
 ghost use mathlib.Core.Path.{_≡_};
 ghost use Rattle.words.specs.Wrote.{wroteAs};
 ghost use Rattle.vectors.specs.Cases.{shortensAs, expandsAs};

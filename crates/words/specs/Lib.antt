@@ -3,7 +3,5 @@ pub mod Operations
 pub mod Words
 pub mod Bytes
 pub mod Fields
-pub mod Ranges
-pub mod Shorter
 pub mod Wrote
 pub mod Meaning

@@ -1,9 +1,6 @@
-// Words: operations, fields, bytes, the dictionary, expansion and shortening.
+// Long words: their bytes, fields and operations.
 pub mod bytes;
-pub mod calls;
 pub mod decoded;
-pub mod dictionary;
-pub mod expand;
 pub mod fields;
 pub mod operation;
-pub mod shorten;
+pub mod wrote;

@@ -4,8 +4,8 @@ use native.Mathlib.Omega.{arith}
 use borrow.Author.Needs.{needs}
 use Rattle.paper.specs.Packing.{placesTaken}
 use Rattle.words.specs.Bytes.{inside-put}
-use Rattle.words.specs.Shorter.{shorterIs}
-use Rattle.words.specs.declared.shorten.Shorter.{Shorter}
+use Rattle.short.specs.Shorter.{shorterIs}
+use Rattle.short.specs.declared.shorten.Shorter.{Shorter}
 use Rattle.packer.proofs.write.write_word.Statement.{statement}
 use Rattle.packer.proofs.write.write_word.Tie as tie
 

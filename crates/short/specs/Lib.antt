@@ -1,0 +1,3 @@
+-- What the crate's types mean in the paper's terms, and laws of the dictionary.
+pub mod Ranges
+pub mod Shorter

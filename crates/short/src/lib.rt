@@ -1,0 +1,5 @@
+// Short words: the dictionary, expanding and shortening.
+pub mod calls;
+pub mod dictionary;
+pub mod expand;
+pub mod shorten;

@@ -1,0 +1,198 @@
+// The smallest short word that expands to a word.
+use crate::dictionary::number;
+use words::bytes::Word;
+use words::fields::form_of;
+use words::fields::operation_in;
+use words::fields::part;
+use words::operation::is_branch;
+ghost use mathlib.Core.Path.{_≡_};
+ghost use Prim.Native.Nat.{ℕ, _+_, _<_, _≤_, _^_};
+ghost use mathlib.Core.Bool.{true, false};
+ghost use lib.ListN.{length};
+ghost use Rattle.paper.specs.Rows.{assemble};
+ghost use Rattle.paper.specs.Dictionary.{dictionaryOf};
+ghost use Rattle.paper.specs.Shorten.{controlKey, datatypeKey, subregisterKey, indexOf, headRows, tailRows, shortWord};
+ghost use Rattle.paper.specs.Shorten.{shortenImmediate, shortenRegister, shortenHalves, shorten};
+ghost use Rattle.words.specs.Words.{toWord};
+ghost use Rattle.short.specs.Shorter.{shorterIs, allowed};
+
+// A short word, or none.
+pub enum Shorter {
+    Short(u64),
+    NoShort,
+}
+
+// ---- the tables
+
+// The smallest index into the table from number `base` on at which the number is `key` modulo `modulus`, or 32 where none is.
+fn index_of(dictionary: &[u8], base: usize, modulus: u64, key: u64) -> u64
+    requires { ⌜ (length (now dictionary) ≡ 512) × (base ≤ 96) × (0 < modulus) ⌝ }
+    ensures { λ r. ⌜ r ≡ indexOf (λ (i : ℕ). dictionaryOf (now (dictionary .entry)) (base + i)) modulus key ⌝ }
+{
+    let mut i: usize = 0;
+    while i < 32 {
+        if number(dictionary, base + i) % modulus == key {
+            return i as u64;
+        }
+        i += 1;
+    }
+    32
+}
+
+// The number that a word asks of the control table.
+fn control_key(lo: u64) -> u64
+    ensures { λ r. ⌜ r ≡ assemble (controlKey lo) ⌝ }
+{
+    lo / 0x100 % 0x1_0000 + lo / 0x8000_0000 % 2 * 0x1_0000
+}
+
+// The number that it asks of the datatype table.
+fn datatype_key(lo: u64) -> u64
+    ensures { λ r. ⌜ r ≡ assemble (datatypeKey lo) ⌝ }
+{
+    lo / 0x1_0000_0000 % 0x8000 + lo / 0x2000_0000_0000_0000 % 8 * 0x8000
+}
+
+// The low ten bits that it asks of the subregister table in immediate form.
+fn narrow_key(lo: u64, hi: u64) -> u64
+    ensures { λ r. ⌜ r ≡ assemble (subregisterKey true lo hi) ⌝ }
+{
+    lo / 0x1_0000_0000_0000 % 32 + hi % 32 * 32
+}
+
+// The number that it asks of the subregister table otherwise.
+fn wide_key(lo: u64, hi: u64) -> u64
+    ensures { λ r. ⌜ r ≡ assemble (subregisterKey false lo hi) ⌝ }
+{
+    lo / 0x1_0000_0000_0000 % 32 + hi % 32 * 32 + hi / 0x1_0000_0000 % 32 * 1024
+}
+
+// ---- the short word
+
+// Bits 29:0: c, t and b are the control, datatype and subregister index.
+fn head_bits(lo: u64, hi: u64, c: u64, t: u64, b: u64) -> u64
+    ensures { λ r. ⌜ (r ≡ assemble (headRows lo hi c t b)) × (r < 2 ^ 30) ⌝ }
+{
+    lo % 0x80
+        + lo / 0x4000_0000 % 2 * 0x80
+        + c % 32 * 0x100
+        + t % 32 * 0x2000
+        + b % 32 * 0x4_0000
+        + lo / 0x1000_0000 % 2 * 0x80_0000
+        + lo / 0x100_0000 % 16 * 0x100_0000
+        + hi / 0x200_0000 % 2 * 0x1000_0000
+        + 0x2000_0000
+}
+
+// Bits 63:30: x and y are the source indices, r has src1's register in its low byte.
+fn tail_bits(lo: u64, hi: u64, x: u64, y: u64, r: u64) -> u64
+    ensures { λ t. ⌜ (t ≡ assemble (tailRows lo hi x y r)) × (t < 2 ^ 34) ⌝ }
+{
+    x % 32
+        + y % 32 * 0x20
+        + lo / 0x20_0000_0000_0000 % 256 * 0x400
+        + hi / 32 % 256 * 0x4_0000
+        + r % 256 * 0x400_0000
+}
+
+// The short word of a word's halves and its indices.
+fn short_word(lo: u64, hi: u64, c: u64, t: u64, b: u64, x: u64, y: u64, r: u64) -> u64
+    ensures { λ s. ⌜ s ≡ shortWord lo hi c t b x y r ⌝ }
+{
+    head_bits(lo, hi, c, t, b) + tail_bits(lo, hi, x, y, r) * 0x4000_0000
+}
+
+// ---- the two forms
+
+// In immediate form: c, t and x are the control, datatype and first source index.
+fn shorten_immediate(dictionary: &[u8], lo: u64, hi: u64, c: u64, t: u64, x: u64) -> Shorter
+    requires { ⌜ length (now dictionary) ≡ 512 ⌝ }
+    ensures { λ r. ⌜ shorterIs r ≡ shortenImmediate (dictionaryOf (now (dictionary .entry))) lo hi c t x ⌝ }
+{
+    let top = hi / 0x1_0000_0000;
+    if 8192 <= (top + 4096) % 0x1_0000_0000 {
+        return Shorter::NoShort;
+    }
+    let key = narrow_key(lo, hi);
+    let b = index_of(dictionary, 64, 0x400, key);
+    if 32 <= b {
+        return Shorter::NoShort;
+    }
+    Shorter::Short(short_word(lo, hi, c, t, b, x, top / 256 % 32, top))
+}
+
+// With src1 in a register.
+fn shorten_register(dictionary: &[u8], lo: u64, hi: u64, c: u64, t: u64, x: u64) -> Shorter
+    requires { ⌜ length (now dictionary) ≡ 512 ⌝ }
+    ensures { λ r. ⌜ shorterIs r ≡ shortenRegister (dictionaryOf (now (dictionary .entry))) lo hi c t x ⌝ }
+{
+    if part(hi, 57, 7) != 0 {
+        return Shorter::NoShort;
+    }
+    let key = wide_key(lo, hi);
+    let b = index_of(dictionary, 64, 0x8000, key);
+    if 32 <= b {
+        return Shorter::NoShort;
+    }
+    let source = part(hi, 45, 12);
+    let y = index_of(dictionary, 96, 0x1000, source);
+    if 32 <= y {
+        return Shorter::NoShort;
+    }
+    Shorter::Short(short_word(lo, hi, c, t, b, x, y, hi / 0x20_0000_0000))
+}
+
+// ---- any word
+
+// No branch, and the bits that expansion leaves 0 are 0.
+fn may_shorten(lo: u64, hi: u64) -> bool
+    ensures { λ r. ⌜ r ≡ allowed lo hi ⌝ }
+{
+    if is_branch(operation_in(lo)) {
+        return false;
+    }
+    if part(lo, 7, 1) != 0 {
+        return false;
+    }
+    if part(lo, 29, 1) != 0 {
+        return false;
+    }
+    if part(lo, 47, 1) != 0 {
+        return false;
+    }
+    part(hi, 26, 6) == 0
+}
+
+// From the low and the high 64 bits of a word.
+fn shorten_halves(dictionary: &[u8], lo: u64, hi: u64) -> Shorter
+    requires { ⌜ length (now dictionary) ≡ 512 ⌝ }
+    ensures { λ r. ⌜ shorterIs r ≡ shortenHalves (dictionaryOf (now (dictionary .entry))) lo hi ⌝ }
+{
+    if !may_shorten(lo, hi) {
+        return Shorter::NoShort;
+    }
+    let c = index_of(dictionary, 0, 0x2_0000, control_key(lo));
+    if 32 <= c {
+        return Shorter::NoShort;
+    }
+    let t = index_of(dictionary, 32, 0x4_0000, datatype_key(lo));
+    if 32 <= t {
+        return Shorter::NoShort;
+    }
+    let x = index_of(dictionary, 96, 0x1000, part(hi, 13, 12));
+    if 32 <= x {
+        return Shorter::NoShort;
+    }
+    if form_of(lo) {
+        return shorten_immediate(dictionary, lo, hi, c, t, x);
+    }
+    shorten_register(dictionary, lo, hi, c, t, x)
+}
+
+// The smallest short word that expands to w, or none.
+pub fn shorten(dictionary: &[u8], w: Word) -> Shorter
+    requires { ⌜ length (now dictionary) ≡ 512 ⌝ }
+    ensures { λ r. ⌜ shorterIs r ≡ shorten (dictionaryOf (now (dictionary .entry))) (toWord w) ⌝ }
+{
+    shorten_halves(dictionary, w.lo, w.hi)
+}
