@@ -7,3 +7,5 @@ pub mod expand;
 pub mod fields;
 pub mod operation;
 pub mod shorten;
+pub mod traits;
+pub mod types;
