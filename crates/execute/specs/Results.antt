@@ -1,7 +1,7 @@
 -- What an instruction's channels make of their operands, and that its low bits are the pattern that the paper stores. Assumes nothing.
 use mathlib.Core.Path.{_≡_, refl, sym, ap, _∙_, subst}
 use mathlib.Core.Bool.{Bool, true, false, cond, true≢false}
-use mathlib.Core.List.{List, [], _∷_}
+use mathlib.Core.List.{List}
 use Prim.Native.Nat.{ℕ, zero, suc, _+_, _%_, _^_, _≤_, _<_}
 use native.Mathlib.Omega.{arith}
 use lib.Dec.{eqb, lit<}
@@ -17,6 +17,7 @@ use Rattle.paper.specs.Enable.{Store, channelOf}
 use Rattle.paper.specs.Effect.{operand, channelResult, channelStores}
 use Rattle.laws.specs.Regions.{LegalPlain}
 use Rattle.words.specs.Operations.{plainIs}
+use Rattle.words.specs.Traits.{readsTwo, one-source}
 use Rattle.words.specs.declared.operation.Plain.{Plain}
 use Rattle.element.specs.Biased.{ex, Near, near-mono}
 use Rattle.element.specs.Base.{ex-mod}
@@ -28,26 +29,6 @@ use Rattle.operands.specs.Sources.{OperandRead}
 use Rattle.execute.specs.Readable.{legal-factors}
 
 -- ---- the second source, where there is one
-
--- An operation reads two sources.
-abbrev pub readsTwo : paper.Plain → Bool
-readsTwo p = eqb (length (paper.sources p)) 2
-
--- An operation that does not read two sources reads src0 alone.
-one-source : (p : paper.Plain) → readsTwo p ≡ false → paper.sources p ≡ src0 ∷ []
-one-source paper.mov e = refl
-one-source paper.sel e = absurd (true≢false e)
-one-source paper.not e = refl
-one-source paper.and e = absurd (true≢false e)
-one-source paper.or e = absurd (true≢false e)
-one-source paper.xor e = absurd (true≢false e)
-one-source paper.shr e = absurd (true≢false e)
-one-source paper.shl e = absurd (true≢false e)
-one-source paper.asr e = absurd (true≢false e)
-one-source paper.cmp e = absurd (true≢false e)
-one-source paper.add e = absurd (true≢false e)
-one-source paper.mul e = absurd (true≢false e)
-one-source paper.avg e = absurd (true≢false e)
 
 -- The type as near to 0 as whose values the second numbers lie: src1's, or one of bytes.
 abbrev pub secondType : paper.Plain → ℕ → ℕ

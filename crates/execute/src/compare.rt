@@ -2,7 +2,6 @@
 ghost use mathlib.Core.List.{[]};
 ghost use mathlib.Core.Path.{_≡_};
 ghost use Prim.Native.Nat.{_≤_, _<_};
-ghost use Rattle.paper.specs.Operation.{traits};
 ghost use Rattle.paper.specs.Enable.{chosenFlag};
 ghost use Rattle.laws.specs.Regions.{LegalPlain};
 ghost use Rattle.words.specs.Words.{toWord};
@@ -19,27 +18,7 @@ use lanes::mask::raised_mask;
 use words::bytes::Word;
 use words::fields::qtr_ctrl;
 use words::operation::Plain;
-
-// The operation is cmp, which sets flags.
-fn compares(p: Plain) -> bool
-    ensures { λ r. ⌜ r ≡ traits (plainIs p) .compares ⌝ }
-{
-    match p {
-        Plain::Mov => false,
-        Plain::Sel => false,
-        Plain::Not => false,
-        Plain::And => false,
-        Plain::Or => false,
-        Plain::Xor => false,
-        Plain::Shr => false,
-        Plain::Shl => false,
-        Plain::Asr => false,
-        Plain::Cmp => true,
-        Plain::Add => false,
-        Plain::Mul => false,
-        Plain::Avg => false,
-    }
-}
+use words::traits::compares;
 
 // The lowest bits of the n first results as a mask: bit k is result k's.
 fn lowest_bits(results: &[u64; 16], n: usize) -> u64

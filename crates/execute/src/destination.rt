@@ -7,7 +7,6 @@ ghost use Rattle.words.specs.Words.{toWord};
 ghost use Rattle.execute.specs.Readable.{Writable};
 ghost use Rattle.execute.specs.Effects.{written};
 use crate::counts::channels;
-use crate::counts::size_of;
 use lanes::region::stride_of;
 use lanes::scatter::scatter;
 use words::bytes::Word;
@@ -16,6 +15,7 @@ use words::fields::dst_register;
 use words::fields::dst_stride;
 use words::fields::dst_subregister;
 use words::fields::dst_type;
+use words::types::size_of;
 
 // The destination is null.
 fn is_null(w: Word) -> bool
@@ -37,7 +37,7 @@ pub fn write(w: Word, enable: u64, registers: &mut [u8], results: &[u64; 16])
     }
     let origin = (dst_register(w) * 32 + dst_subregister(w)) as usize;
     let stride = stride_of(dst_stride(w) as usize);
-    let size = size_of(dst_type(w));
+    let size = size_of(dst_type(w)) as usize;
     scatter(
         registers,
         origin,

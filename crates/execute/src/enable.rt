@@ -17,27 +17,7 @@ use words::fields::pred_ctrl;
 use words::fields::pred_inv;
 use words::fields::we_ctrl;
 use words::operation::Plain;
-
-// The operation's predicate masks its channels: sel's chooses a source instead.
-fn masks(p: Plain) -> bool
-    ensures { λ r. ⌜ r ≡ masks (plainIs p) ⌝ }
-{
-    match p {
-        Plain::Mov => true,
-        Plain::Sel => false,
-        Plain::Not => true,
-        Plain::And => true,
-        Plain::Or => true,
-        Plain::Xor => true,
-        Plain::Shr => true,
-        Plain::Shl => true,
-        Plain::Asr => true,
-        Plain::Cmp => true,
-        Plain::Add => true,
-        Plain::Mul => true,
-        Plain::Avg => true,
-    }
-}
+use words::traits::masks;
 
 // The channels whose predicate holds.
 pub fn predicate_of(w: Word, flags: Flags) -> u64

@@ -10,6 +10,7 @@ use words::fields::cond_modifier;
 use words::fields::dst_type;
 use words::fields::saturate;
 use words::operation::Plain;
+use words::traits::reads_two;
 ghost use mathlib.Core.Path.{_≡_};
 ghost use Prim.Native.Nat.{ℕ, _<_};
 ghost use lib.ListN.{length, getD};
@@ -19,28 +20,7 @@ ghost use Rattle.laws.specs.Regions.{LegalPlain};
 ghost use Rattle.element.specs.Biased.{Near};
 ghost use Rattle.words.specs.Words.{toWord};
 ghost use Rattle.words.specs.Operations.{plainIs};
-ghost use Rattle.execute.specs.Results.{readsTwo, SecondRead, Makes};
-
-// The operation reads two sources.
-fn reads_two(p: Plain) -> bool
-    ensures { λ r. ⌜ r ≡ readsTwo (plainIs p) ⌝ }
-{
-    match p {
-        Plain::Mov => false,
-        Plain::Sel => true,
-        Plain::Not => false,
-        Plain::And => true,
-        Plain::Or => true,
-        Plain::Xor => true,
-        Plain::Shr => true,
-        Plain::Shl => true,
-        Plain::Asr => true,
-        Plain::Cmp => true,
-        Plain::Add => true,
-        Plain::Mul => true,
-        Plain::Avg => true,
-    }
-}
+ghost use Rattle.execute.specs.Results.{SecondRead, Makes};
 
 // The second operands, where the operation reads them; else the zeros that were there.
 fn second(p: Plain, w: Word, n: usize, registers: &[u8], values: &mut [u64; 16])

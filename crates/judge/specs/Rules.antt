@@ -10,7 +10,8 @@ use Rattle.paper.specs.Legal.{anyOf, controlServed, dstServed, srcServed, plain
 use Rattle.paper.specs.Legal.{misplaced, unequalHalves, badModifier, ownRuleBroken, operandRuleBroken}
 use Rattle.paper.specs.Legal.{someOperand, srcShapeBroken, shapeBroken, unaligned, alignmentBroken, tooFar, lastChannel, reachBroken}
 use Rattle.paper.specs.Legal.{reservedSet, branchServed, later, refusalOf}
-use Rattle.judge.specs.Sources.{readsTwo, reads-two, anySource, any-source}
+use Rattle.words.specs.Traits.{readsTwo, two-counted}
+use Rattle.judge.specs.Sources.{anySource, any-source}
 
 -- 7
 pub plain-served : (p : Plain) (w : ℕ)
@@ -30,7 +31,7 @@ pub operand-rule : (p : Plain) (w : ℕ)
     || ownRuleBroken p w)))
 unfolding operandRuleBroken
 operand-rule p w =
-    ap₂ _||_ (ap (λ (b : Bool). b && isImmediate src0 w) (reads-two p))
+    ap₂ _||_ (ap (λ (b : Bool). b && isImmediate src0 w) (two-counted p))
     (ap₂ _||_ (any-source p (unequalHalves w)) (ap (λ (b : Bool). b || ownRuleBroken p w) (any-source p (badModifier p w))))
 
 -- A rule over the register operands: the destination's test, and each source's.

@@ -4,4 +4,4 @@ pub mod operands;
 pub mod refusal;
 pub mod regions;
 pub mod served;
-pub mod traits;
+pub mod sources;

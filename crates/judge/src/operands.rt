@@ -2,9 +2,7 @@
 use crate::logic::both;
 use crate::logic::either;
 use crate::logic::negated;
-use crate::traits::any_source;
-use crate::traits::reads_two;
-use crate::traits::takes_modifiers;
+use crate::sources::any_source;
 use words::bytes::Word;
 use words::fields::Source;
 use words::fields::high_half;
@@ -14,13 +12,16 @@ use words::fields::pred_ctrl;
 use words::fields::src_modifier;
 use words::fields::src_type;
 use words::operation::Plain;
+use words::traits::reads_two;
+use words::traits::takes_modifiers;
 ghost use mathlib.Core.Path.{_≡_};
 ghost use mathlib.Core.Bool.{_&&_};
 ghost use Rattle.paper.specs.Word.{src0, src1, isImmediate};
 ghost use Rattle.paper.specs.Operation.{mul, shr, sel};
 ghost use Rattle.paper.specs.Legal.{unequalHalves, badModifier, ownRuleBroken, operandRuleBroken};
-ghost use Rattle.judge.specs.Sources.{readsTwo, anySource};
+ghost use Rattle.judge.specs.Sources.{anySource};
 ghost use Rattle.words.specs.Operations.{plainIs};
+ghost use Rattle.words.specs.Traits.{readsTwo};
 ghost use Rattle.words.specs.Words.{toWord, sourceIs};
 
 // A word immediate's two halves differ.

@@ -3,7 +3,7 @@ use crate::logic::both;
 use crate::logic::either;
 use crate::logic::negated;
 use crate::served::is_null;
-use crate::traits::any_source;
+use crate::sources::any_source;
 use words::bytes::Word;
 use words::fields::Source;
 use words::fields::dst_register;
@@ -19,9 +19,9 @@ use words::fields::src_type;
 use words::fields::src_vert_stride;
 use words::fields::src_width;
 use words::operation::Plain;
+use words::types::size_of;
 ghost use mathlib.Core.Path.{_≡_};
 ghost use Prim.Native.Nat.{_<_, _≤_, _+_, _*_, _/_, _%_};
-ghost use Rattle.paper.specs.Value.{sizeOf};
 ghost use Rattle.paper.specs.Word.{dstSubregister, srcSubregister};
 ghost use Rattle.paper.specs.Region.{countOf, strideOf, dstSize, srcOrigin, srcSize};
 ghost use Rattle.paper.specs.Legal.{srcShapeBroken, shapeBroken, unaligned, alignmentBroken, tooFar, lastChannel, reachBroken};
@@ -60,19 +60,6 @@ pub fn shape_broken(p: Plain, w: Word) -> bool
 }
 
 // ---- 10
-
-// The element size of a type.
-pub fn size_of(kind: u64) -> u64
-    ensures { λ r. ⌜ (r ≡ sizeOf kind) × (0 < r) × (r ≤ 4) ⌝ }
-{
-    if kind < 2 {
-        return 4;
-    }
-    if kind < 4 {
-        return 2;
-    }
-    1
-}
 
 // A subregister is no multiple of the element size.
 pub fn is_unaligned(subregister: u64, size: u64) -> bool

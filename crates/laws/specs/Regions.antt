@@ -6,11 +6,10 @@ use Prim.Native.Nat.{ℕ, zero, suc, _+_, _-_, _*_, _/_, _%_, _^_, _≤_, _<_}
 use native.Mathlib.Omega.{arith}
 use native.Mathlib.Nat.{mul-le-mul-right, mod-lt, sub-add-cancel, suc-mul, add-mul, pow-suc}
 use lib.Dec.{ltb}
-use lib.ListN.{length}
 use lib.Pow.{pow-pos, shr-mono, ones-split, low, ones-lt}
 use borrow.Author.Tests.{ltb-false, leb-false, eqb-false, not-false}
 use Rattle.paper.specs.Limits.{registerBytes}
-use Rattle.paper.specs.Word.{Source, src0, src1, execSize, srcType, srcWidth, srcHorzStride, srcVertStride, dstType, dstStride, isImmediate}
+use Rattle.paper.specs.Word.{Source, execSize, srcType, srcWidth, srcHorzStride, srcVertStride, dstType, dstStride, isImmediate}
 use Rattle.paper.specs.Operation.{Plain, plain, operation, sources}
 use Rattle.paper.specs.Region.{strideOf, channels, elementAt, srcOrigin, srcSize, srcElement, dstOrigin, dstSize, dstElement}
 use Rattle.paper.specs.Legal.{anyOf, someOperand, reservedSet, plainServed, isNull, operandRuleBroken, shapeBroken, srcShapeBroken, alignmentBroken}
@@ -64,38 +63,6 @@ or-false false b e = (refl, e)
 and-false : (a b : Bool) → (a && b) ≡ false → a ≡ true → b ≡ false
 and-false true b e h = e
 and-false false b e h = absurd (false≢true h)
-
--- Every plain operation reads src0,
-pub first-source : (p : Plain) → List·Memᴰ src0 (sources p)
-first-source Plain.mov = List·Memᴰ·head refl
-first-source Plain.sel = List·Memᴰ·head refl
-first-source Plain.not = List·Memᴰ·head refl
-first-source Plain.and = List·Memᴰ·head refl
-first-source Plain.or = List·Memᴰ·head refl
-first-source Plain.xor = List·Memᴰ·head refl
-first-source Plain.shr = List·Memᴰ·head refl
-first-source Plain.shl = List·Memᴰ·head refl
-first-source Plain.asr = List·Memᴰ·head refl
-first-source Plain.cmp = List·Memᴰ·head refl
-first-source Plain.add = List·Memᴰ·head refl
-first-source Plain.mul = List·Memᴰ·head refl
-first-source Plain.avg = List·Memᴰ·head refl
-
--- and one of two sources reads src1.
-pub second-source : (p : Plain) → length (sources p) ≡ 2 → List·Memᴰ src1 (sources p)
-second-source Plain.mov e = absurd (omega arith)
-second-source Plain.sel e = List·Memᴰ·tail (List·Memᴰ·head refl)
-second-source Plain.not e = absurd (omega arith)
-second-source Plain.and e = List·Memᴰ·tail (List·Memᴰ·head refl)
-second-source Plain.or e = List·Memᴰ·tail (List·Memᴰ·head refl)
-second-source Plain.xor e = List·Memᴰ·tail (List·Memᴰ·head refl)
-second-source Plain.shr e = List·Memᴰ·tail (List·Memᴰ·head refl)
-second-source Plain.shl e = List·Memᴰ·tail (List·Memᴰ·head refl)
-second-source Plain.asr e = List·Memᴰ·tail (List·Memᴰ·head refl)
-second-source Plain.cmp e = List·Memᴰ·tail (List·Memᴰ·head refl)
-second-source Plain.add e = List·Memᴰ·tail (List·Memᴰ·head refl)
-second-source Plain.mul e = List·Memᴰ·tail (List·Memᴰ·head refl)
-second-source Plain.avg e = List·Memᴰ·tail (List·Memᴰ·head refl)
 
 -- What no source of a list passes, each of them fails.
 pub none-of : (test : Source → Bool) {x : Source} {xs : List Source} → anyOf test xs ≡ false → List·Memᴰ x xs → test x ≡ false

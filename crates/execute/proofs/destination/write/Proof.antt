@@ -50,7 +50,7 @@ scatter-requires c κs =
     let s = c .before .before .before .before .before .before .before .before .before .before .before in
     let w = toWord (s .args .w) in
     let kept : isNull w ≡ false = rw (← (c .before .before .before .before .before .before .before .before .before .is-null .ensures)) (c .before .before .before .before .before .before .before .before .if1 .left) in
-    rw (c .channels .ensures .0, c .before .before .size-of .ensures, c .before .before .before .dst-type .ensures .0, c .before .before .before .before .stride-of .ensures .0, c .before .before .before .before .before .dst-stride .ensures .0, c .before .before .before .before .before .before .dst-subregister .ensures .0, c .before .before .before .before .before .before .before .dst-register .ensures .0)
+    rw (c .channels .ensures .0, c .before .before .size-of .ensures .0, c .before .before .before .dst-type .ensures .0, c .before .before .before .before .stride-of .ensures .0, c .before .before .before .before .before .dst-stride .ensures .0, c .before .before .before .before .before .before .dst-subregister .ensures .0, c .before .before .before .before .before .before .before .dst-register .ensures .0)
     ((type-size (dstType w), count-channels w (s .pre .0 .count)), λ k h. rw (s .pre .1) (s .pre .0 .inside kept k h))
 
 same-length : tie.Need-same-length
@@ -59,7 +59,7 @@ same-length c = search needs
 returns-2 : tie.Need-returns-2
 unfolding written
 returns-2 c =
-    rw (← (c .before .before .before .before .before .before .before .before .before .before .before .before .is-null .ensures), c .before .before .before .before .before .before .before .before .before .before .before .if1 .left, c .before .before .scatter .ensures, c .before .before .before .channels .ensures .0, c .before .before .before .before .before .size-of .ensures, c .before .before .before .before .before .before .dst-type .ensures .0, c .before .before .before .before .before .before .before .stride-of .ensures .0, c .before .before .before .before .before .before .before .before .dst-stride .ensures .0, c .before .before .before .before .before .before .before .before .before .dst-subregister .ensures .0, c .before .before .before .before .before .before .before .before .before .before .dst-register .ensures .0)
+    rw (← (c .before .before .before .before .before .before .before .before .before .before .before .before .is-null .ensures), c .before .before .before .before .before .before .before .before .before .before .before .if1 .left, c .before .before .scatter .ensures, c .before .before .before .channels .ensures .0, c .before .before .before .before .before .size-of .ensures .0, c .before .before .before .before .before .before .dst-type .ensures .0, c .before .before .before .before .before .before .before .stride-of .ensures .0, c .before .before .before .before .before .before .before .before .dst-stride .ensures .0, c .before .before .before .before .before .before .before .before .before .dst-subregister .ensures .0, c .before .before .before .before .before .before .before .before .before .before .dst-register .ensures .0)
 
 pub write-spec : {M : Type 1} → statement M
 write-spec =

@@ -1,9 +1,8 @@
 -- Where src1 is not read, the zeros that were there are near. Assumes nothing.
 use mathlib.Core.Path.{sym, _∙_}
-use borrow.Author.Tests.{eqb-true}
 use Rattle.paper.specs.Word.{src1}
-use Rattle.laws.specs.Regions.{second-source}
 use Rattle.words.specs.Operations.{plainIs}
+use Rattle.words.specs.Traits.{second-source}
 use Rattle.words.specs.Words.{toWord}
 use Rattle.execute.specs.Readable.{legal-readable}
 use Rattle.execute.specs.Results.{second-read, second-none}
@@ -18,7 +17,7 @@ second-operand-requires : tie.Need-second-operand-requires
 second-operand-requires c κs =
     let s = c .before .before .before .before in
     let p = plainIs (s .args .p) in
-    let two = eqb-true _ _ (sym (c .before .before .reads-two .ensures) ∙ c .before .if1 .taken) in
+    let two = sym (c .before .before .reads-two .ensures) ∙ c .before .if1 .taken in
     (legal-readable p (toWord (s .args .w)) (s .pre .0 .0) src1 (second-source p two), s .pre .0 .1, s .pre .0 .2, s .pre .0 .3)
 
 returns : tie.Need-returns

@@ -1,7 +1,7 @@
 -- The parts are the definition's parts, in its order. Assumes nothing.
 use borrow.Author.Needs.{needs}
-use Rattle.judge.proofs.traits.any_source.Statement.{statement}
-use Rattle.judge.proofs.traits.any_source.Tie as tie
+use Rattle.judge.proofs.sources.any_source.Statement.{statement}
+use Rattle.judge.proofs.sources.any_source.Tie as tie
 
 reads-two-requires : tie.Need-reads-two-requires
 reads-two-requires c κs = search needs

@@ -1,8 +1,8 @@
--- The parts are the definition's parts, in its order. Assumes nothing.
+-- The tests are those of the definition. Assumes nothing.
 use borrow.Author.Tests.{lt-ltb, le-ltb}
 use native.Mathlib.Omega.{arith}
-use Rattle.judge.proofs.regions.size_of.Statement.{statement}
-use Rattle.judge.proofs.regions.size_of.Tie as tie
+use Rattle.words.proofs.types.size_of.Statement.{statement}
+use Rattle.words.proofs.types.size_of.Tie as tie
 
 returns : tie.Need-returns
 returns c = (simp (lt-ltb _ _ (c .if1 .taken)), omega arith, omega arith)

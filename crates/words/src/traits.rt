@@ -1,11 +1,10 @@
-// What the rules ask of an operation.
-use crate::logic::both;
-use crate::logic::either;
-use words::operation::Plain;
+// What is asked of an operation that makes a result, by the rules and by whoever carries it out.
+use crate::operation::Plain;
 ghost use mathlib.Core.Path.{_≡_};
 ghost use Rattle.paper.specs.Operation.{traits};
-ghost use Rattle.judge.specs.Sources.{readsTwo, anySource};
+ghost use Rattle.paper.specs.Enable.{masks};
 ghost use Rattle.words.specs.Operations.{plainIs};
+ghost use Rattle.words.specs.Traits.{readsTwo};
 
 // It reads two sources, and else one.
 pub fn reads_two(p: Plain) -> bool
@@ -70,7 +69,7 @@ pub fn takes_modifiers(p: Plain) -> bool
     }
 }
 
-// It is cmp.
+// It is cmp, which sets flags.
 pub fn compares(p: Plain) -> bool
     ensures { λ r. ⌜ r ≡ traits (plainIs p) .compares ⌝ }
 {
@@ -91,9 +90,23 @@ pub fn compares(p: Plain) -> bool
     }
 }
 
-// The first source's test holds, or the second's where it is read.
-pub fn any_source(p: Plain, first: bool, second: bool) -> bool
-    ensures { λ r. ⌜ r ≡ anySource (plainIs p) first second ⌝ }
+// Its predicate masks its channels: sel's chooses a source instead.
+pub fn masks(p: Plain) -> bool
+    ensures { λ r. ⌜ r ≡ masks (plainIs p) ⌝ }
 {
-    either(first, both(reads_two(p), second))
+    match p {
+        Plain::Mov => true,
+        Plain::Sel => false, // it chooses a source
+        Plain::Not => true,
+        Plain::And => true,
+        Plain::Or => true,
+        Plain::Xor => true,
+        Plain::Shr => true,
+        Plain::Shl => true,
+        Plain::Asr => true,
+        Plain::Cmp => true,
+        Plain::Add => true,
+        Plain::Mul => true,
+        Plain::Avg => true,
+    }
 }

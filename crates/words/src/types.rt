@@ -1,0 +1,17 @@
+// What the code of a type says.
+ghost use mathlib.Core.Path.{_≡_};
+ghost use Prim.Native.Nat.{_<_, _≤_};
+ghost use Rattle.paper.specs.Value.{sizeOf};
+
+// The bytes of its elements.
+pub fn size_of(kind: u64) -> u64
+    ensures { λ r. ⌜ (r ≡ sizeOf kind) × (0 < r) × (r ≤ 4) ⌝ }
+{
+    if kind < 2 {
+        return 4;
+    }
+    if kind < 4 {
+        return 2;
+    }
+    1
+}
