@@ -50,7 +50,7 @@ extern "C" {
 
 /* An answer is one number; these take it apart.
  *   NUMBER  a verdict or a refusal, below
- *   OFFSET  of a refused instruction, in bytes from the kernel's start; 0 for 1, 2, 13 to 16 and every verdict
+ *   OFFSET  of a refused instruction, in bytes from the kernel's start; 0 for 1, 2, 13 to 16, decode's 3 at or past the end, and every verdict
  *   COUNT   instructions (check); bytes of the result (pack, unpack, shorten, expand) or of the instruction (decode); steps made (run);
  *           0 for start, step and every refusal */
 #define SPOKESHAVER_NUMBER(answer) ((unsigned)((uint64_t)(answer) & 0xFF))
@@ -63,7 +63,7 @@ extern "C" {
 #define SPOKESHAVER_SPENT 21   /* run: the budget is spent short of the end */
 
 /* Refusals. Where more than one would do, the first of this list is given: 3 to 11 and 17 instruction by instruction, 12 after all have passed. */
-#define SPOKESHAVER_WRONG_SIZE 1        /* registers, state or dictionary of another size, a kernel over 16,384 bytes, a word not 8 or 16 bytes */
+#define SPOKESHAVER_WRONG_SIZE 1        /* registers, state or dictionary of another size, a kernel over 16,384 bytes, a word not of 16 (shorten) or 8 (expand) */
 #define SPOKESHAVER_BUDGET_OVER 16      /* a budget over 1,000,000 */
 #define SPOKESHAVER_WIDE_DICTIONARY 2   /* a dictionary number is wider than its table */
 #define SPOKESHAVER_TOO_MANY 17         /* this would be the 1,025th instruction */
@@ -85,7 +85,8 @@ extern "C" {
 uint64_t spokeshaver_check(const uint8_t *dictionary, size_t dictionary_len, const uint8_t *kernel, size_t kernel_len);
 
 /* Packs a kernel of long words: each that can be is shortened, each jump still reaches the same instruction. The result stands at the front of `out`;
- * kernel_len bytes are always enough for it. ACCEPTED with the result's bytes as count; or what check refuses, 5 for a short word, 14. */
+ * kernel_len bytes are always enough for it. ACCEPTED with the result's bytes as count; or what check refuses (but 1 for 1,025 long words, which are too many
+ * bytes), 5 for a short word, 14. */
 uint64_t spokeshaver_pack(const uint8_t *dictionary, size_t dictionary_len, const uint8_t *kernel, size_t kernel_len, uint8_t *out, size_t out_len);
 
 /* Unpacks a kernel: every word becomes long. 16 bytes for each instruction are enough, and so 2 * kernel_len bytes are.
@@ -102,7 +103,8 @@ uint64_t spokeshaver_expand(const uint8_t *dictionary, size_t dictionary_len, co
  * kernel + 8 * place on. ACCEPTED with count 8 or 16; or 1, 2, 3 to 11. */
 uint64_t spokeshaver_decode(const uint8_t *dictionary, size_t dictionary_len, const uint8_t *kernel, size_t kernel_len, uint64_t place);
 
-/* Writes the state before the first step: place 0, channel n awake if bit n of the mask is 1 and off for good if it is 0. ACCEPTED, or 1. */
+/* Writes the state before the first step: place 0, the flags f0.0 and f0.1 as given, channel n awake if bit n of the mask is 1 and off for good if it
+ * is 0. ACCEPTED, or 1. */
 uint64_t spokeshaver_start(uint16_t mask, uint16_t flag0, uint16_t flag1, uint8_t *state, size_t state_len);
 
 /* Judges the kernel and the state, then makes one step. ACCEPTED; ENDED, where nothing changes; or what check refuses, 15. */

@@ -1,4 +1,4 @@
-//! The nine calls of the C boundary, on slices (DESIGN: "The C boundary" and "Answers").
+//! The nine calls of the C boundary, on slices (include/spokeshaver.h tells them for C).
 //! Every call judges in the table's order, writes only when nothing refuses, and gives the
 //! packed answer.
 

@@ -1,4 +1,4 @@
-//! The state of a run and its 42 bytes (DESIGN: "The C boundary").
+//! The state of a run and its 42 bytes (include/spokeshaver.h tells them for C).
 
 use crate::answers::{require, Refusal};
 use crate::rules::Program;

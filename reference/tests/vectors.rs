@@ -3,7 +3,7 @@
 //!
 //! In immediate form there are two readings of the subregister table. The paper overwrites
 //! the entry's top five bits, so any entry with the right low ten bits serves and the least
-//! index wins (DESIGN, point 12); this reference does that. A compactor may instead insist on
+//! index wins (docs/DECISIONS.md, 12); this reference does that. A compactor may instead insist on
 //! an entry whose top five bits are 0. No vector tells the two apart, as the last test shows:
 //! every listed word and every absence is met exactly, and both readings pick the same entry.
 //! So these vectors are no evidence for either reading.

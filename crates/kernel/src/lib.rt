@@ -1,4 +1,4 @@
-// A kernel: one instruction's judgement, the walk, the jumps, the check, and decoding at a place.
+// A kernel: fetching an instruction, its judgement, the walk, where branches lead, the jumps, the check, and decoding at a place.
 pub mod accept;
 pub mod check;
 pub mod decode;

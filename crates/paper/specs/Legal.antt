@@ -143,7 +143,8 @@ unaligned subregister size = not (eqb (subregister % size) 0)
 unfoldable pub alignmentBroken : Plain → ℕ → Bool
 alignmentBroken p w = someOperand p w (unaligned (dstSubregister w) (dstSize w)) (λ x. unaligned (srcSubregister x w) (srcSize x w))
 
--- 11: the first and the last byte lie in registers more than one apart, or past r127. `element` is where the last channel's element starts.
+-- 11: the first and the last byte lie in registers more than one apart, or past r127. `element` is where the last channel's element starts: no channel's lies
+-- farther, since 9 has passed and so rows are whole.
 unfoldable pub tooFar : ℕ → ℕ → ℕ → Bool
 tooFar origin element size =
     let last = element + size - 1 in ltb (origin / 32 + 1) (last / 32) || leb registerBytes last

@@ -1,4 +1,4 @@
--- Each refusal once, with the offset of its instruction. Assumes nothing.
+-- Each refusal, with the offset of its instruction, and what just passes. Assumes nothing.
 use mathlib.Core.Bool.{Bool, true, false}
 use mathlib.Core.List.{List, [], _∷_, _++_, map}
 use Prim.Native.Nat.{ℕ, zero, suc, _+_, _-_, _*_, _^_}

@@ -1,4 +1,4 @@
--- Demand 1 holds: one outcome for each call, an answer of the paper's list, and a refusal that changes nothing.
+-- Demand 1 holds: one outcome for each call, an answer of the paper's list, and a refusal that changes nothing. Assumes nothing.
 use mathlib.Core.Bool.{Bool}
 use mathlib.Core.List.{List}
 use mathlib.Core.Path.{_≡_, sym, ap, _∙_}

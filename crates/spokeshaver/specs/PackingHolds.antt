@@ -1,4 +1,4 @@
--- Demand 2 holds: the smallest short word, packing and unpacking.
+-- Demand 2 holds: the smallest short word, packing and unpacking. Assumes nothing.
 use mathlib.Core.Bool.{true}
 use mathlib.Core.List.{List, [], _∷_, _++_, map}
 use mathlib.Core.Option.{Option, none, some}

@@ -1,5 +1,5 @@
--- The promises of the exported calls, for all that can be lent to them. Read this file first. It states and proves nothing: `demand-1` of OutcomesHold,
--- `demand-2` of PackingHolds and `demand-3` of RunningHolds are the theorems. A hypothesis such as `PackPromise dictionary kernel out r out′` says:
+-- The promises of the exported calls, for all that can be lent to them. Read this file first. It states them and proves none: `demand-1` of
+-- OutcomesHold, `demand-2` of PackingHolds and `demand-3` of RunningHolds are the theorems. A hypothesis such as `PackPromise dictionary kernel out r out′` says:
 -- spokeshaver_pack, lent these, answered r and left out′ in its output; src/lib.rt proves it of the call. `numberIn`, `offsetIn` and `countIn` take an answer
 -- apart as the header's macros do. Demands 2 and 3 ask besides that what is lent is bytes (`areBytes`) and 16-bit numbers, as the types in C say.
 use mathlib.Core.Bool.{Bool, true}

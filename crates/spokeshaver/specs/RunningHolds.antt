@@ -1,4 +1,4 @@
--- Demand 3 holds: a run is the steps that it counts, and a long kernel and its packed form run alike.
+-- Demand 3 holds: a run is the steps that it counts, and a long kernel and its packed form run alike. Assumes nothing.
 use mathlib.Core.Bool.{true}
 use mathlib.Core.List.{List, map}
 use mathlib.Core.Logic.{_⊎_, inl, inr}

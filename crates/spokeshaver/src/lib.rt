@@ -1,5 +1,5 @@
 // The calls of the C boundary (include/spokeshaver.h): numbers and byte slices only. Each answers one number, by `asNumber`, and leaves in what it is
-// lent what the paper's definition of the call says, for all inputs; nothing is asked of the caller. What each promises stands in specs/Contracts.antt,
+// lent what the paper's definition of the call says, for all inputs; nothing is required of bytes and numbers. What each promises stands in specs/Contracts.antt,
 // what follows from it in specs/Promises.antt.
 mod answers;
 

@@ -25,7 +25,7 @@ both-requires : tie.Need-both-requires
 both-requires c κs = search needs
 
 returns : tie.Need-returns
-returns c = cc
+returns c = rw (c .both .ensures, c .before .either .ensures, c .before .before .negated2 .ensures, c .before .before .before .takes-modifiers .ensures, c .before .before .before .before .is-immediate .ensures, c .before .before .before .before .before .negated .ensures, c .before .before .before .before .before .before .src-modifier .ensures .0)
 
 pub bad-first-modifier-spec : {M : Type 1} → statement M
 bad-first-modifier-spec =

@@ -28,7 +28,7 @@ both-requires-2 : tie.Need-both-requires-2
 both-requires-2 c κs = search needs
 
 returns : tie.Need-returns
-returns c = cc
+returns c = rw (c .both2 .ensures, c .before .both .ensures, c .before .before .negated3 .ensures, c .before .before .before .takes-modifiers .ensures, c .before .before .before .before .negated2 .ensures, c .before .before .before .before .before .is-immediate .ensures, c .before .before .before .before .before .before .negated .ensures, c .before .before .before .before .before .before .before .src-modifier .ensures .0)
 
 pub bad-second-modifier-spec : {M : Type 1} → statement M
 bad-second-modifier-spec =

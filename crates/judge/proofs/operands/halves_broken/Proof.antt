@@ -13,7 +13,7 @@ any-source-requires : tie.Need-any-source-requires
 any-source-requires c κs = search needs
 
 returns : tie.Need-returns
-returns c = cc
+returns c = rw (c .any-source .ensures, c .before .unequal-halves2 .ensures, c .before .before .unequal-halves .ensures)
 
 pub halves-broken-spec : {M : Type 1} → statement M
 halves-broken-spec =

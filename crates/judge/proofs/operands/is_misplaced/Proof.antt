@@ -13,7 +13,7 @@ both-requires : tie.Need-both-requires
 both-requires c κs = search needs
 
 returns : tie.Need-returns
-returns c = cc
+returns c = rw (c .both .ensures, c .before .is-immediate .ensures, c .before .before .reads-two .ensures)
 
 pub is-misplaced-spec : {M : Type 1} → statement M
 is-misplaced-spec =

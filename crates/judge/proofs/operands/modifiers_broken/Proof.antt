@@ -13,7 +13,7 @@ any-source-requires : tie.Need-any-source-requires
 any-source-requires c κs = search needs
 
 returns : tie.Need-returns
-returns c = cc
+returns c = rw (c .any-source .ensures, c .before .bad-second-modifier .ensures, c .before .before .bad-first-modifier .ensures)
 
 pub modifiers-broken-spec : {M : Type 1} → statement M
 modifiers-broken-spec =

@@ -26,7 +26,7 @@ either-requires-3 : tie.Need-either-requires-3
 either-requires-3 c κs = search needs
 
 returns : tie.Need-returns
-returns c = rw operand-rule (cc)
+returns c = rw (operand-rule, c .either3 .ensures, c .before .either2 .ensures, c .before .before .either .ensures, c .before .before .before .modifiers-broken .ensures, c .before .before .before .before .halves-broken .ensures, c .before .before .before .before .before .is-misplaced .ensures, c .before .before .before .before .before .before .own-rule-broken .ensures)
 
 pub operand-rule-broken-spec : {M : Type 1} → statement M
 operand-rule-broken-spec =

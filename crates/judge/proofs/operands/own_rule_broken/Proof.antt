@@ -61,7 +61,7 @@ returns : tie.Need-returns
 returns c = search needs
 
 returns-2 : tie.Need-returns-2
-returns-2 c = cc
+returns-2 c = rw (c .unpredicated .ensures, c .before .enum-told2 .given .1)
 
 returns-3 : tie.Need-returns-3
 returns-3 c = search needs
@@ -76,13 +76,13 @@ returns-6 : tie.Need-returns-6
 returns-6 c = search needs
 
 returns-7 : tie.Need-returns-7
-returns-7 c = cc
+returns-7 c = rw (c .takes-signed .ensures, c .before .enum-told7 .given .1)
 
 returns-8 : tie.Need-returns-8
 returns-8 c = search needs
 
 returns-9 : tie.Need-returns-9
-returns-9 c = cc
+returns-9 c = rw (c .negated .ensures, c .before .takes-signed2 .ensures, c .before .before .enum-told9 .given .1)
 
 returns-10 : tie.Need-returns-10
 returns-10 c = search needs
@@ -91,7 +91,7 @@ returns-11 : tie.Need-returns-11
 returns-11 c = search needs
 
 returns-12 : tie.Need-returns-12
-returns-12 c = cc
+returns-12 c = rw (c .takes-dwords .ensures, c .before .enum-told12 .given .1)
 
 returns-13 : tie.Need-returns-13
 returns-13 c = search needs

@@ -13,7 +13,7 @@ either-requires : tie.Need-either-requires
 either-requires c κs = search needs
 
 returns : tie.Need-returns
-returns c = cc
+returns c = rw (c .either .ensures, c .before .src-type2 .ensures .0, c .before .before .src-type .ensures .0)
 
 pub takes-dwords-spec : {M : Type 1} → statement M
 takes-dwords-spec =

@@ -7,7 +7,7 @@ src-type-requires : tie.Need-src-type-requires
 src-type-requires c κs = search needs
 
 returns : tie.Need-returns
-returns c = cc
+returns c = rw (c .src-type .ensures .0)
 
 pub takes-signed-spec : {M : Type 1} → statement M
 takes-signed-spec = tie.close (tie.spec src-type-requires returns)

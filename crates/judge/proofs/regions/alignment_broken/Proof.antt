@@ -17,7 +17,7 @@ some-operand-requires : tie.Need-some-operand-requires
 some-operand-requires c κs = search needs
 
 returns : tie.Need-returns
-returns c = rw alignment-rule (cc)
+returns c = rw (alignment-rule, c .some-operand .ensures, c .before .dst-unaligned .ensures, c .before .before .src-unaligned2 .ensures, c .before .before .before .src-unaligned .ensures)
 
 pub alignment-broken-spec : {M : Type 1} → statement M
 alignment-broken-spec =

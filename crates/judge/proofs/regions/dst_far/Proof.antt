@@ -45,7 +45,7 @@ too-far-requires : tie.Need-too-far-requires
 too-far-requires c κs = omega (arith, bytes-le (c .before .before .last-channel .result) (c .stride-of .result) (c .before .before .before .size-of .result) (omega arith) (omega arith) (omega arith))
 
 returns : tie.Need-returns
-returns c = cc
+returns c = rw (c .too-far .ensures, c .before .stride-of .ensures .0, c .before .before .dst-stride .ensures .0, c .before .before .before .last-channel .ensures .0, c .before .before .before .before .size-of .ensures .0, c .before .before .before .before .before .dst-type .ensures .0, c .before .before .before .before .before .before .dst-subregister .ensures .0, c .before .before .before .before .before .before .before .dst-register .ensures .0)
 
 pub dst-far-spec : {M : Type 1} → statement M
 dst-far-spec =

@@ -17,7 +17,7 @@ some-operand-requires : tie.Need-some-operand-requires
 some-operand-requires c κs = search needs
 
 returns : tie.Need-returns
-returns c = rw reach-rule (cc)
+returns c = rw (reach-rule, c .some-operand .ensures, c .before .src-far2 .ensures, c .before .before .src-far .ensures, c .before .before .before .dst-far .ensures)
 
 pub reach-broken-spec : {M : Type 1} → statement M
 reach-broken-spec =

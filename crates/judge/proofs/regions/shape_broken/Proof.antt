@@ -17,7 +17,7 @@ some-operand-requires : tie.Need-some-operand-requires
 some-operand-requires c κs = search needs
 
 returns : tie.Need-returns
-returns c = rw shape-rule (cc)
+returns c = rw (shape-rule, c .some-operand .ensures, c .before .dst-stride .ensures .0, c .before .before .src-shape-broken2 .ensures, c .before .before .before .src-shape-broken .ensures)
 
 pub shape-broken-spec : {M : Type 1} → statement M
 shape-broken-spec =

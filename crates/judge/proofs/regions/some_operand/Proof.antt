@@ -37,7 +37,7 @@ either-requires : tie.Need-either-requires
 either-requires c κs = search needs
 
 returns : tie.Need-returns
-returns c = cc
+returns c = rw (c .either .ensures, c .before .any-source .ensures, c .before .before .both3 .ensures, c .before .before .before .negated3 .ensures, c .before .before .before .before .is-null .ensures, c .before .before .before .before .before .both2 .ensures, c .before .before .before .before .before .before .negated2 .ensures, c .before .before .before .before .before .before .before .is-immediate2 .ensures, c .before .before .before .before .before .before .before .before .both .ensures, c .before .before .before .before .before .before .before .before .before .negated .ensures, c .before .before .before .before .before .before .before .before .before .before .is-immediate .ensures)
 
 pub some-operand-spec : {M : Type 1} → statement M
 some-operand-spec =

@@ -20,7 +20,7 @@ too-far-requires : tie.Need-too-far-requires
 too-far-requires c κs = search needs
 
 returns : tie.Need-returns
-returns c = rw src-element (cc)
+returns c = rw (src-element, c .too-far .ensures, c .before .src-size .ensures .0, c .before .before .src-offset .ensures .0, c .before .before .before .src-origin .ensures .0)
 
 pub src-far-spec : {M : Type 1} → statement M
 src-far-spec =

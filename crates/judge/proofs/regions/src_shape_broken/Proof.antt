@@ -19,7 +19,7 @@ either-requires-2 : tie.Need-either-requires-2
 either-requires-2 c κs = search needs
 
 returns : tie.Need-returns
-returns c = cc
+returns c = rw (c .either2 .ensures, c .before .either .ensures, c .before .before .exec-size .ensures .0, c .before .before .before .src-vert-stride .ensures .0, c .before .before .before .before .src-width .ensures .0)
 
 pub src-shape-broken-spec : {M : Type 1} → statement M
 src-shape-broken-spec =

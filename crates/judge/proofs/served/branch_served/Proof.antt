@@ -15,7 +15,7 @@ both-requires c κs = search needs
 
 returns : tie.Need-returns
 unfolding branchServed
-returns c = cc
+returns c = rw (c .both .ensures, c .before .own-needs .ensures, c .before .before .control-served .ensures)
 
 pub branch-served-spec : {M : Type 1} → statement M
 branch-served-spec =

@@ -51,7 +51,7 @@ both-requires-6 c κs = search needs
 
 returns : tie.Need-returns
 unfolding controlServed
-returns c = cc
+returns c = rw (c .both6 .ensures, c .before .both5 .ensures, c .before .before .acc-wr-ctrl .ensures .0, c .before .before .before .access-mode .ensures .0, c .before .before .before .before .both4 .ensures, c .before .before .before .before .before .both3 .ensures, c .before .before .before .before .before .before .quarter-served .ensures, c .before .before .before .before .before .before .before .exec-size .ensures .0, c .before .before .before .before .before .before .before .before .both2 .ensures, c .before .before .before .before .before .before .before .before .before .pred-ctrl .ensures .0, c .before .before .before .before .before .before .before .before .before .before .both .ensures, c .before .before .before .before .before .before .before .before .before .before .before .condition-served .ensures, c .before .before .before .before .before .before .before .before .before .before .before .before .cond-modifier .ensures .0, c .before .before .before .before .before .before .before .before .before .before .before .before .before .either .ensures, c .before .before .before .before .before .before .before .before .before .before .before .before .before .before .saturate .ensures .0)
 
 pub control-served-spec : {M : Type 1} → statement M
 control-served-spec =

@@ -27,7 +27,7 @@ both-requires-2 c κs = search needs
 
 returns : tie.Need-returns
 unfolding dstServed
-returns c = cc
+returns c = rw (c .both2 .ensures, c .before .either .ensures, c .before .before .is-null .ensures, c .before .before .before .dst-file .ensures .0, c .before .before .before .before .both .ensures, c .before .before .before .before .before .dst-type .ensures .0, c .before .before .before .before .before .before .dst-addr-mode .ensures .0)
 
 pub dst-served-spec : {M : Type 1} → statement M
 dst-served-spec =

@@ -19,7 +19,7 @@ both-requires-2 : tie.Need-both-requires-2
 both-requires-2 c κs = search needs
 
 returns : tie.Need-returns
-returns c = cc
+returns c = rw (c .both2 .ensures, c .before .both .ensures, c .before .before .src-type .ensures .0, c .before .before .before .is-immediate .ensures, c .before .before .before .before .exec-size .ensures .0)
 
 pub jumping-spec : {M : Type 1} → statement M
 jumping-spec =

@@ -41,7 +41,7 @@ both-requires-2 : tie.Need-both-requires-2
 both-requires-2 c κs = search needs
 
 returns : tie.Need-returns
-returns c = rw plain-served (cc)
+returns c = rw (plain-served, c .both2 .ensures, c .before .control-served .ensures, c .before .before .saturates .ensures, c .before .before .before .compares .ensures, c .before .before .before .before .both .ensures, c .before .before .before .before .before .negated3 .ensures, c .before .before .before .before .before .before .any-source .ensures, c .before .before .before .before .before .before .before .dst-served .ensures, c .before .before .before .before .before .before .before .before .negated2 .ensures, c .before .before .before .before .before .before .before .before .before .src-served2 .ensures, c .before .before .before .before .before .before .before .before .before .before .negated .ensures, c .before .before .before .before .before .before .before .before .before .before .before .src-served .ensures)
 
 pub plain-served-spec : {M : Type 1} → statement M
 plain-served-spec =

@@ -16,7 +16,7 @@ either-requires : tie.Need-either-requires
 either-requires c κs = search needs
 
 returns : tie.Need-returns
-returns c = cc
+returns c = rw (c .either .ensures, c .before .both .ensures, c .before .before .exec-size .ensures .0, c .before .before .before .qtr-ctrl .ensures .0)
 
 pub quarter-served-spec : {M : Type 1} → statement M
 quarter-served-spec =

@@ -54,7 +54,7 @@ either-requires-3 c κs = search needs
 
 returns : tie.Need-returns
 unfolding reservedSet
-returns c = cc
+returns c = rw (c .either3 .ensures, c .before .both2 .ensures, c .before .before .negated4 .ensures, c .before .before .before .bit-7 .ensures .0, c .before .before .before .before .either2 .ensures, c .before .before .before .before .before .either .ensures, c .before .before .before .before .before .before .negated3 .ensures, c .before .before .before .before .before .before .before .bits-90 .ensures .0, c .before .before .before .before .before .before .before .before .bit-47 .ensures .0, c .before .before .before .before .before .before .before .before .before .both .ensures, c .before .before .before .before .before .before .before .before .before .before .negated2 .ensures, c .before .before .before .before .before .before .before .before .before .before .before .bits-121 .ensures .0, c .before .before .before .before .before .before .before .before .before .before .before .before .negated .ensures, c .before .before .before .before .before .before .before .before .before .before .before .before .before .immediate-form .ensures, c .before .before .before .before .before .before .before .before .before .before .before .before .before .before .is-branch .ensures, c .before .before .before .before .before .before .before .before .before .before .before .before .before .before .before .operation .ensures)
 
 pub reserved-set-spec : {M : Type 1} → statement M
 reserved-set-spec =

@@ -27,7 +27,7 @@ chosen-requires c κs = search needs
 
 returns : tie.Need-returns
 unfolding srcServed
-returns c = cc
+returns c = rw (c .chosen .ensures, c .before .is-immediate .ensures, c .before .before .both2 .ensures, c .before .before .before .both .ensures, c .before .before .before .before .src-addr-mode .ensures .0, c .before .before .before .before .before .src-file .ensures .0, c .before .before .before .before .before .before .src-type .ensures .0)
 
 pub src-served-spec : {M : Type 1} → statement M
 src-served-spec =

@@ -19,7 +19,7 @@ both-requires-2 : tie.Need-both-requires-2
 both-requires-2 c κs = search needs
 
 returns : tie.Need-returns
-returns c = cc
+returns c = rw (c .both2 .ensures, c .before .both .ensures, c .before .before .we-ctrl .ensures .0, c .before .before .before .qtr-ctrl .ensures .0, c .before .before .before .before .exec-size .ensures .0)
 
 pub structured-spec : {M : Type 1} → statement M
 structured-spec =
