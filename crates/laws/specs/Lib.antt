@@ -31,4 +31,3 @@ pub mod StateBytes
 pub mod Calls
 pub mod Lasting
 pub mod Demands
-pub mod ComputeHundred

@@ -155,6 +155,9 @@ rowsBranch =
     -- else: channels that wait next are woken there, though no channel is awake
     ∷ (ranOver ((structuredTo 0x22 4 + 1 at 16) ∷ structuredTo 0x24 4 ∷ nopWord ∷ []) 3 (begin 0xFFFF 0x00FF 0)
     gives 20 ∷ 0 ∷ 3 ∷ stateIs 0x00FF 0 6 0xFF00 0x00FF 6 0)
+    -- endif: jumps if no channel is awake and none waits next; goes on if one waits there
+    ∷ (ranOver (structuredTo 0x25 4 ∷ nopWord ∷ nopWord ∷ []) 1 (begin 0 0 0) gives 21 ∷ 0 ∷ 1 ∷ stateIs 0 0 4 0 0 0 0)
+    ∷ (ranOver (structuredTo 0x25 4 ∷ nopWord ∷ nopWord ∷ []) 1 (stateIs 0 0 0 0 0xFF00 0 2) gives 21 ∷ 0 ∷ 1 ∷ stateIs 0 0 2 0 0xFF00 0 2)
     -- jmpi: by flag bit 0, inverted or not, whatever the mask
     ∷ (ranOver ((jmpiTo 2 + 1 at 16) ∷ nopWord ∷ []) 1 (begin 0 1 0) gives 20 ∷ 0 ∷ 1 ∷ stateIs 1 0 4 0 0 0 0)
     ∷ (ranOver ((jmpiTo 2 + 1 at 16) ∷ nopWord ∷ []) 1 (begin 0 2 0) gives 21 ∷ 0 ∷ 1 ∷ stateIs 2 0 2 0 0 0 0)

@@ -1,4 +1,4 @@
--- Each refusal, with the offset of its instruction, and what just passes. Assumes nothing.
+-- Each refusal of a kernel, with the offset of its instruction, and what just passes. Assumes nothing.
 use mathlib.Core.Bool.{Bool, true, false}
 use mathlib.Core.List.{List, [], _∷_, _++_, map}
 use Prim.Native.Nat.{ℕ, zero, suc, _+_, _-_, _*_, _^_}
@@ -54,6 +54,11 @@ rowsWord =
     ∷ (secondWord (movWith (1 at 47)) gives 6 ∷ 16 ∷ 0 ∷ [])
     ∷ (secondWord (movWith (1 at 95)) gives 6 ∷ 16 ∷ 0 ∷ [])
     ∷ (secondWord (movWith (1 at 121)) gives 6 ∷ 16 ∷ 0 ∷ [])
+    -- a second source's file of 11 makes immediate form, and frees 127:121, though mov does not read it
+    ∷ (secondWord (movWith (3 at 42 + 127 at 121)) gives 0 ∷ 0 ∷ 2 ∷ [])
+    -- in branches all of them but bit 7 are free
+    ∷ (secondWord (structuredTo 0x25 2 + 1 at 47 + 63 at 90 + 127 at 121) gives 0 ∷ 0 ∷ 2 ∷ [])
+    ∷ (secondWord (structuredTo 0x25 2 + 1 at 7) gives 6 ∷ 16 ∷ 0 ∷ [])
     ∷ (secondWord (op 0x01 3 + to 1 4 0 + immediate0 1 0xFFFFFFFF) gives 0 ∷ 0 ∷ 2 ∷ [])
     -- 7: AccessMode, AccWrCtrl, ExecSize, QtrCtrl, PredCtrl, CondModifier, Saturate; file, AddrMode, type; a branch's own needs
     ∷ (secondWord (movWith (1 at 8)) gives 7 ∷ 16 ∷ 0 ∷ [])
@@ -68,11 +73,22 @@ rowsWord =
     ∷ (secondWord (movWith (1 at 63)) gives 7 ∷ 16 ∷ 0 ∷ [])
     ∷ (secondWord (movWith (1 at 79)) gives 7 ∷ 16 ∷ 0 ∷ [])
     ∷ (secondWord (movWith (5 at 39)) gives 7 ∷ 16 ∷ 0 ∷ [])
+    -- the second quarter, with eight channels and with another size
+    ∷ (secondWord (movWith (1 at 12)) gives 0 ∷ 0 ∷ 2 ∷ [])
+    ∷ (secondWord (op 0x01 4 + to 1 4 0 + from0 1 2 0 4 3 1 + 1 at 12) gives 7 ∷ 16 ∷ 0 ∷ [])
+    ∷ (secondWord (op 0x01 2 + to 1 4 0 + from0 1 2 0 3 2 1 + 1 at 12) gives 7 ∷ 16 ∷ 0 ∷ [])
+    -- nop skips 7: AccessMode, QtrCtrl, PredCtrl, ExecSize, CondModifier, AccWrCtrl, Saturate and the files are not looked at
+    ∷ (secondWord (nopWord + 1 at 8 + 3 at 12 + 15 at 16 + 7 at 21 + 15 at 24 + 1 at 28 + 1 at 31 + 2 at 32 + 2 at 37) gives 0 ∷ 0 ∷ 2 ∷ [])
+    -- else and endif take a predicate, and ignore it
+    ∷ (secondWord (structuredTo 0x24 2 + 1 at 16) gives 0 ∷ 0 ∷ 2 ∷ [])
+    ∷ (secondWord (structuredTo 0x25 2 + 1 at 16) gives 0 ∷ 0 ∷ 2 ∷ [])
     ∷ (secondWord (structuredTo 0x25 2 + 1 at 9) gives 7 ∷ 16 ∷ 0 ∷ [])
     ∷ (secondWord (op 0x20 0 + immediate1 0 0) gives 7 ∷ 16 ∷ 0 ∷ [])
     -- 8: mul with dwords; an immediate that is not last; unequal halves; a modifier on a src0 immediate, on logic; signs of shifts; sel
     ∷ (secondWord (op 0x41 3 + to 1 4 0 + from0 1 2 0 4 3 1 + from1 3 3 0 4 3 1) gives 8 ∷ 16 ∷ 0 ∷ [])
     ∷ (secondWord (op 0x40 3 + to 1 4 0 + immediate0 1 5 + 1 at 42 + 1 at 44) gives 8 ∷ 16 ∷ 0 ∷ [])
+    -- bit 111 of such an immediate is the second source's AddrMode: 7 comes first
+    ∷ (secondWord (op 0x40 3 + to 1 4 0 + immediate0 1 (5 + 1 at 15) + 1 at 42 + 1 at 44) gives 7 ∷ 16 ∷ 0 ∷ [])
     ∷ (secondWord (op 0x01 3 + to 1 4 0 + immediate0 3 5) gives 8 ∷ 16 ∷ 0 ∷ [])
     ∷ (secondWord (op 0x01 3 + to 1 4 0 + immediate0 3 0x00050005) gives 0 ∷ 0 ∷ 2 ∷ [])
     ∷ (secondWord (op 0x01 3 + to 1 4 0 + immediate0 1 5 + 1 at 77) gives 8 ∷ 16 ∷ 0 ∷ [])
@@ -99,45 +115,4 @@ rowsWord =
     ∷ (secondWord (jmpiTo 2) gives 12 ∷ 16 ∷ 0 ∷ [])
     ∷ (secondWord (jmpiTo 0) gives 0 ∷ 0 ∷ 2 ∷ [])
     ∷ (secondWord (jmpiTo (2 ^ 32 - 4)) gives 0 ∷ 0 ∷ 2 ∷ [])
-    ∷ []
-
--- A run of no steps over a nop, from the given state.
-unfoldable pub from : List ℕ → List ℕ
-from state = shown (runCall blankDictionary (long (nopWord ∷ [])) 0 clear state .answer)
-
-unfoldable pub rowsCall : List Row
-rowsCall =
-    -- 1, 16, 15
-    (shown (runCall blankDictionary [] 0 (take 4095 clear) (begin 0 0 0) .answer) gives 1 ∷ 0 ∷ 0 ∷ [])
-    ∷ (shown (runCall blankDictionary [] 0 clear (take 41 (begin 0 0 0)) .answer) gives 1 ∷ 0 ∷ 0 ∷ [])
-    ∷ (shown (runCall blankDictionary [] 1000001 clear (begin 0 0 0) .answer) gives 16 ∷ 0 ∷ 0 ∷ [])
-    ∷ (from (stateIs 0 0 2 0 0xFFFF 0 2) gives 20 ∷ 0 ∷ 0 ∷ [])
-    ∷ (from (stateIs 0 0 1 0 0 0 0) gives 15 ∷ 0 ∷ 0 ∷ [])
-    ∷ (from (stateIs 0 0 0 0 0xFF00 0 1) gives 15 ∷ 0 ∷ 0 ∷ [])
-    ∷ (from (stateIs 0 0 0 0x8000 0xFF00 0 0) gives 15 ∷ 0 ∷ 0 ∷ [])
-    ∷ (from (stateIs 0 0 0 0 0xFF00 2 0) gives 15 ∷ 0 ∷ 0 ∷ [])
-    -- a step at the end is 20
-    ∷ (shown (stepCall blankDictionary [] clear (begin 1 0 0) .answer) gives 20 ∷ 0 ∷ 0 ∷ [])
-    -- one word: 1, 2, 4, 5, 14
-    ∷ (written (shortenCall dictionaryA (bytesOf 15 longA) (room 8)) gives 1 ∷ 0 ∷ 0 ∷ room 8)
-    ∷ (written (expandCall dictionaryA (bytesOf 16 shortA) (room 16)) gives 1 ∷ 0 ∷ 0 ∷ room 16)
-    ∷ (written (shortenCall (numbers (set zeros 127 (2 ^ 12))) (bytesOf 16 longA) (room 8)) gives 2 ∷ 0 ∷ 0 ∷ room 8)
-    ∷ (written (shortenCall dictionaryA (bytesOf 16 0x03) (room 8)) gives 4 ∷ 0 ∷ 0 ∷ room 8)
-    ∷ (written (shortenCall dictionaryA (bytesOf 16 (0x7E + 1 at 29)) (room 8)) gives 5 ∷ 0 ∷ 0 ∷ room 8)
-    ∷ (written (expandCall dictionaryA (bytesOf 8 0x7E) (room 16)) gives 5 ∷ 0 ∷ 0 ∷ room 16)
-    ∷ (written (expandCall dictionaryA (bytesOf 8 (0x24 + 1 at 29)) (room 16)) gives 5 ∷ 0 ∷ 0 ∷ room 16)
-    ∷ (written (shortenCall dictionaryA (bytesOf 16 (jmpiTo 0)) (room 8)) gives 13 ∷ 0 ∷ 0 ∷ room 8)
-    ∷ (written (shortenCall dictionaryA (bytesOf 16 longA) (room 7)) gives 14 ∷ 0 ∷ 0 ∷ room 7)
-    ∷ (written (packCall dictionaryA (bytesOf 16 longA) (room 7)) gives 14 ∷ 0 ∷ 0 ∷ room 7)
-    -- packing takes long words only
-    ∷ (written (packCall dictionaryA (bytesOf 8 shortA) (room 16)) gives 5 ∷ 0 ∷ 0 ∷ room 16)
-    -- decoding: any place, 3 with offset 0 at or past the end
-    ∷ (shown (decodeCall dictionaryA (bytesOf 16 longA ++ bytesOf 8 shortA) 2) gives 0 ∷ 0 ∷ 8 ∷ [])
-    ∷ (decodePart dictionaryA (bytesOf 16 longA ++ bytesOf 8 shortA) 2 gives bytesOf 8 shortA)
-    ∷ (shown (decodeCall dictionaryA (bytesOf 16 longA) 2) gives 3 ∷ 0 ∷ 0 ∷ [])
-    ∷ (shown (decodeCall dictionaryA (bytesOf 16 longA) (2 ^ 64 - 1)) gives 3 ∷ 0 ∷ 0 ∷ [])
-    ∷ (shown (decodeCall dictionaryA (bytesOf 12 longA) 1) gives 3 ∷ 8 ∷ 0 ∷ [])
-    -- the start
-    ∷ (written (startCall 0xA5A5 0x1234 0x5678 (room 42)) gives 0 ∷ 0 ∷ 0 ∷ stateIs 0x1234 0x5678 0 0xA5A5 0 0 0)
-    ∷ (written (startCall 0xA5A5 0 0 (room 41)) gives 1 ∷ 0 ∷ 0 ∷ room 41)
     ∷ []

@@ -1,0 +1,1 @@
+// Worked rows that take long to compute, in specs/. Nothing here runs.
