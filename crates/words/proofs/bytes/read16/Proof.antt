@@ -1,4 +1,5 @@
 -- A long word's two halves are the numbers of its first and of its last eight bytes. Assumes nothing.
+use mathlib.Core.Path.{sym}
 use borrow.Author.Needs.{needs}
 use Rattle.laws.specs.Bytes.{numberAt-halves}
 use Rattle.words.proofs.bytes.read16.Statement.{statement}
@@ -14,7 +15,9 @@ read8-requires-2 : tie.Need-read8-requires-2
 read8-requires-2 c κs = search needs
 
 returns : tie.Need-returns
-returns c = let e = numberAt-halves (c .before .before .before .args .bytes .now) (c .before .before .before .args .from) (search needs) in cc
+returns c =
+    let a = c .before .before .before .args in
+    rw (c .before .read8 .ensures, c .read82 .ensures) (sym (numberAt-halves (a .bytes .now) (a .from) (search needs)))
 
 pub read16-spec : {M : Type 1} → statement M
 read16-spec = tie.close (tie.spec add-middle read8-requires read8-requires-2 returns)

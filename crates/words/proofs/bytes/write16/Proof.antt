@@ -18,7 +18,10 @@ same-length : tie.Need-same-length
 same-length c = search needs
 
 returns : tie.Need-returns
-returns c = let a = c .before .before .before .before .before .before .before .before .before .args in cc (halves-put (now (a .out)) (a .from) (a .w .lo) (a .w .hi) (search needs))
+returns c =
+    let a = c .before .before .before .before .before .before .before .before .before .args in
+    rw (c .before .before .write82 .ensures, c .before .before .before .before .before .before .write8 .ensures)
+    (halves-put (now (a .out)) (a .from) (a .w .lo) (a .w .hi) (search needs))
 
 pub write16-spec : {M : Type 1} → statement M
 write16-spec =

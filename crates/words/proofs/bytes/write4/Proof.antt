@@ -18,7 +18,9 @@ same-length : tie.Need-same-length
 same-length c = search needs
 
 returns : tie.Need-returns
-returns c = let a = c .before .before .before .before .before .before .before .before .before .args in cc (parts-put (now (a .out)) (a .from) 2 2 (a .v))
+returns c =
+    let a = c .before .before .before .before .before .before .before .before .before .args in
+    rw (c .before .before .write22 .ensures, c .before .before .before .before .before .before .write2 .ensures) (parts-put (now (a .out)) (a .from) 2 2 (a .v))
 
 pub write4-spec : {M : Type 1} → statement M
 write4-spec = tie.close (tie.spec add-middle write2-requires write2-requires-2 same-length returns)

@@ -18,7 +18,9 @@ same-length : tie.Need-same-length
 same-length c = search needs
 
 returns : tie.Need-returns
-returns c = let a = c .before .before .before .before .before .before .before .before .before .args in cc (parts-put (now (a .out)) (a .from) 4 4 (a .v))
+returns c =
+    let a = c .before .before .before .before .before .before .before .before .before .args in
+    rw (c .before .before .write42 .ensures, c .before .before .before .before .before .before .write4 .ensures) (parts-put (now (a .out)) (a .from) 4 4 (a .v))
 
 pub write8-spec : {M : Type 1} → statement M
 write8-spec = tie.close (tie.spec add-middle write4-requires write4-requires-2 same-length returns)
