@@ -1,5 +1,5 @@
 //! Kernels written as text, for what the generator seldom makes: counted loops, blocks in
-//! blocks, a region by columns, flags that a cmp clears.
+//! blocks, a region by columns, equal values for every condition, flags that a cmp clears.
 
 use crate::candidate::Candidate;
 use spokeshaver_reference::assemble::DictionaryBuilder;
@@ -17,7 +17,7 @@ const ANY: u64 = 3;
 /// A seed of registers that hold bytes at the edges of the types.
 const EDGES: u64 = 1;
 
-const TEXTS: [Text; 13] = [
+const TEXTS: [Text; 15] = [
     ("empty", "", [0xFFFF, 0x1234, 0], ANY),
     ("place-tile", include_str!("../../../../examples/place-tile.txt"), [0xFFFF, 0, 0], SMALL),
     ("jump-to-itself", "here:\njmpi(1) here", [0xFFFF, 0, 0], ANY),
@@ -25,6 +25,8 @@ const TEXTS: [Text; 13] = [
     ("if-else-none", IF_ELSE, [0xFFFF, 0, 0xFFFF], ANY),
     ("no-channel", NO_CHANNEL, [0, 0x0F0F, 0xFFFF], ANY),
     ("columns", COLUMNS, [0xFFFF, 0, 0], ANY),
+    ("conditions-on-words", CONDITIONS_ON_WORDS, [0xFFFF, 0, 0], SMALL),
+    ("conditions-on-bytes", CONDITIONS_ON_BYTES, [0xFFFF, 0, 0], EDGES),
     ("loop-in-loop", LOOP_IN_LOOP, [0xFFFF, 0, 0], SMALL),
     ("blocks-in-blocks", BLOCKS, [0x7FFE, 0xA5A5, 0x0FF0], SMALL),
     ("counted-jump", COUNTED_JUMP, [0x0001, 0, 0], ANY),
@@ -57,6 +59,22 @@ mov(16) r11<1>:w r2<4;4,1>:w
 add(16) r12<1>:d r2<1;4,4>:w -r3<0;4,1>:w
 mov(8) r14<2>:uw r2<2;2,1>:uw
 mov(4) r15<4>:ub r2<8;2,4>:ub";
+
+const CONDITIONS_ON_WORDS: &str = "
+cmp.z(16) f0.0 r10<1>:w r2<16;16,1>:w r3<16;16,1>:w
+cmp.nz(16) f0.1 r11<1>:w r3<16;16,1>:w r4<16;16,1>:w
+cmp.g(16) f0.0 r12<1>:w r4<16;16,1>:w r5<16;16,1>:w
+cmp.ge(16) f0.1 r13<1>:w r5<16;16,1>:w r6<16;16,1>:w
+cmp.l(16) f0.0 r14<1>:w r6<16;16,1>:w 3:w
+cmp.le(16) f0.1 r15<1>:w r7<16;16,1>:w 3:w";
+
+const CONDITIONS_ON_BYTES: &str = "
+cmp.z(16) f0.0 r10<1>:w r2<16;16,1>:b r3<16;16,1>:ub
+cmp.nz(16) f0.1 r11<1>:w r3<16;16,1>:ub r4<16;16,1>:b
+cmp.g(16) f0.0 r12<1>:w r4<16;16,1>:b -r5<16;16,1>:b
+cmp.ge(16) f0.1 r13<1>:w |r5<16;16,1>:b r6<16;16,1>:ub
+cmp.l(16) f0.0 r14<1>:w -|r6<16;16,1>:b r7<16;16,1>:b
+cmp.le(16) f0.1 r15<1>:w r7<16;16,1>:ub r8<16;16,1>:ub";
 
 const LOOP_IN_LOOP: &str = "
 mov(16) r10<1>:w 0:w
