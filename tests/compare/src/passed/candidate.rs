@@ -72,6 +72,7 @@ fn budgets(trace: &Trace) -> Vec<u64> {
     all.into_iter().collect()
 }
 
+/// The tags of a kernel, the one of its regions first.
 fn tags(trace: &Trace, plain: bool) -> Vec<String> {
     let regions = if plain { "plain" } else { "odd-region" };
     let mut tags = vec![regions.to_string()];
@@ -125,6 +126,7 @@ fn of_kernel(program: &Program, dictionary: &Dictionary) -> BTreeSet<Feature> {
     shown.map(|(group, member, _)| (group, member.to_string())).collect()
 }
 
+/// Which channels start awake.
 fn of_mask(mask: u16) -> Feature {
     let name = match mask {
         0 => "none",

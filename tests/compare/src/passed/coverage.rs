@@ -21,6 +21,7 @@ const PAIRS: [&str; 6] = [
 /// A group with all the members that must come up.
 type Wanted = (&'static str, Vec<String>);
 
+/// A group by the names of its members.
 fn named(group: &'static str, members: &[&str]) -> Wanted {
     (group, members.iter().map(|member| member.to_string()).collect())
 }
@@ -109,6 +110,7 @@ impl Coverage {
         features.iter().map(one).sum()
     }
 
+    /// How many kernels show a feature.
     fn counts(&self, feature: &Feature) -> [usize; 2] {
         self.0.get(feature).copied().unwrap_or_default()
     }

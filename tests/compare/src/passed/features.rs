@@ -146,6 +146,7 @@ pub fn of_instruction(instruction: &Instruction) -> Vec<Feature> {
     found
 }
 
+/// What the destination shows.
 fn of_destination(word: LongWord, name: &str) -> Vec<Feature> {
     let destination = word.destination();
     if destination.file != FILE_REGISTER {
@@ -162,6 +163,7 @@ fn of_destination(word: LongWord, name: &str) -> Vec<Feature> {
     found
 }
 
+/// What the sources show.
 fn of_sources(instruction: &Instruction, name: &str) -> Vec<Feature> {
     let Instruction { word, operation, .. } = *instruction;
     let mut found = Vec::new();
@@ -191,6 +193,7 @@ fn of_sources(instruction: &Instruction, name: &str) -> Vec<Feature> {
     found
 }
 
+/// The name of a type by its code.
 fn type_name(code: u32) -> String {
     lower(ElementType::from_code(code).expect("judged"))
 }

@@ -17,6 +17,7 @@ const ANY: u64 = 3;
 /// A seed of registers that hold bytes at the edges of the types.
 const EDGES: u64 = 1;
 
+/// The kernels.
 const TEXTS: [Text; 15] = [
     ("empty", "", [0xFFFF, 0x1234, 0], ANY),
     ("place-tile", include_str!("../../../../examples/place-tile.txt"), [0xFFFF, 0, 0], SMALL),
@@ -35,6 +36,7 @@ const TEXTS: [Text; 15] = [
     ("cleared-while-waiting", CLEARED_WHILE_WAITING, [0xFFFF, 0x5555, 0xFFFF], SMALL),
 ];
 
+/// Two arms, as in row H of the bench sheet.
 const IF_ELSE: &str = "
 (+f0.0) if(16) other
 add(16) r4<1>:w r4<16;16,1>:w 1:w
@@ -45,6 +47,7 @@ joined:
 endif(16) out
 out:";
 
+/// Only off channels: endif jumps, cmp clears, nothing is written.
 const NO_CHANNEL: &str = "
 endif(16) out
 mov(16) r4<1>:w 1:w
@@ -53,6 +56,7 @@ cmp.nz(8) f0.1 r5<1>:d r6<8;8,1>:d 0:d
 (-f0.0) jmpi(1) out
 add(8) r7<1>:d r7<8;8,1>:d 1:d";
 
+/// Rows and columns, exchanged and not.
 const COLUMNS: &str = "
 mov(16) r10<1>:w r2<1;4,4>:w
 mov(16) r11<1>:w r2<4;4,1>:w
@@ -60,6 +64,7 @@ add(16) r12<1>:d r2<1;4,4>:w -r3<0;4,1>:w
 mov(8) r14<2>:uw r2<2;2,1>:uw
 mov(4) r15<4>:ub r2<8;2,4>:ub";
 
+/// Each condition on words that are often equal.
 const CONDITIONS_ON_WORDS: &str = "
 cmp.z(16) f0.0 r10<1>:w r2<16;16,1>:w r3<16;16,1>:w
 cmp.nz(16) f0.1 r11<1>:w r3<16;16,1>:w r4<16;16,1>:w
@@ -68,6 +73,7 @@ cmp.ge(16) f0.1 r13<1>:w r5<16;16,1>:w r6<16;16,1>:w
 cmp.l(16) f0.0 r14<1>:w r6<16;16,1>:w 3:w
 cmp.le(16) f0.1 r15<1>:w r7<16;16,1>:w 3:w";
 
+/// Each condition on signed and unsigned bytes at the edges.
 const CONDITIONS_ON_BYTES: &str = "
 cmp.z(16) f0.0 r10<1>:w r2<16;16,1>:b r3<16;16,1>:ub
 cmp.nz(16) f0.1 r11<1>:w r3<16;16,1>:ub r4<16;16,1>:b
@@ -76,6 +82,7 @@ cmp.ge(16) f0.1 r13<1>:w |r5<16;16,1>:b r6<16;16,1>:ub
 cmp.l(16) f0.0 r14<1>:w -|r6<16;16,1>:b r7<16;16,1>:b
 cmp.le(16) f0.1 r15<1>:w r7<16;16,1>:ub r8<16;16,1>:ub";
 
+/// Two counted loops, one in the other, each channel with its own counts.
 const LOOP_IN_LOOP: &str = "
 mov(16) r10<1>:w 0:w
 outer:
@@ -89,6 +96,7 @@ add(16) r10<1>:w r10<16;16,1>:w 1:w
 cmp.le(16) f0.0 null:w r10<16;16,1>:w r3<16;16,1>:w
 (+f0.0) while(16) outer";
 
+/// An if and a loop in an if in a loop.
 const BLOCKS: &str = "
 mov(16) r10<1>:w 3:w
 again:
@@ -116,6 +124,7 @@ cmp.nz(16) f0.0 null:w r10<16;16,1>:w 0:w
 (+f0.0) while(16) again
 avg(16) r7<1>:w r5<16;16,1>:w r6<16;16,1>:w";
 
+/// A loop by jmpi, and a jmpi forward over what must not run.
 const COUNTED_JUMP: &str = "
 mov(1) r10<1>:d 5:d
 again:
@@ -128,18 +137,21 @@ mov(8) r11<1>:ud 0:ud
 out:
 not(8) r12<1>:ud r11<8;8,1>:ud";
 
+/// cmp clears the flag bits of channels that are off.
 const CLEARED_BY_MASK: &str = "
 cmp.ge(16) f0.0 r10<1>:w r2<16;16,1>:w r3<16;16,1>:w
 (+f0.0) mov(16) r11<1>:w r2<16;16,1>:w
 cmp.l(8) f0.1 null:d r4<8;8,1>:d r5<8;8,1>:d
 (-f0.1) sel(16) r12<1>:b r6<16;16,1>:b r7<16;16,1>:b";
 
+/// cmp clears the flag bits of channels whose inverted predicate fails.
 const CLEARED_BY_PREDICATE: &str = "
 (-f0.0) cmp.nz(16) f0.0 r10<1>:ub r2<16;16,1>:ub r3<16;16,1>:ub
 (+f0.0) cmp.g(16) f0.0 r11<1>:w r4<16;16,1>:w 0:w
 (-f0.1) cmp.le(8) f0.1 null:w r5<8;8,1>:w r6<0;1,0>:w
 (+f0.1) add.sat(16) r12<1>:ub r2<16;16,1>:ub r3<16;16,1>:ub";
 
+/// cmp in an arm clears the flag bits of channels that wait for the other.
 const CLEARED_WHILE_WAITING: &str = "
 (+f0.0) if(16) other
 cmp.l(16) f0.1 r10<1>:w r2<16;16,1>:w r3<16;16,1>:w
@@ -163,6 +175,7 @@ pub fn kernels() -> Vec<Candidate> {
     found
 }
 
+/// The candidate of a text. It is a fault of this file if the text is refused.
 fn from_text((name, text, start, seed): Text) -> Candidate {
     let (long, dictionary) = assemble(text).unwrap_or_else(|fault| panic!("{name}: {fault}"));
     let found = Candidate::of(name, &dictionary, long, start, seed);
@@ -174,6 +187,7 @@ fn from_text((name, text, start, seed): Text) -> Candidate {
     }
 }
 
+/// The first block of the benchmark kernel of branches, with a dictionary for it.
 fn benchmark_block() -> Candidate {
     let long = branch_heavy().kernel[..16 * BLOCK].to_vec();
     let mut builder = DictionaryBuilder::default();

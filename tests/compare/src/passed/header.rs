@@ -3,6 +3,7 @@
 use crate::coverage::Coverage;
 use crate::text::Record;
 
+/// What the lines, fields and tags mean.
 const FIELDS: &str = "\
 Kernels that passed, and what the archive made of them. Later benches must make the same.
 tests/run holds the archive to this file; 'tests/run store' writes it anew, which is only for

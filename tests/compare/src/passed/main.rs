@@ -57,10 +57,12 @@ impl Bench for Archive {
     }
 }
 
+/// Starts the archive by its command.
 fn started(command: &[String]) -> Result<Archive, String> {
     Server::start(command).map(Archive).map_err(|error| format!("{command:?}: {error}"))
 }
 
+/// Ends the archive, which must end well.
 fn finished(archive: Archive) -> Result<(), String> {
     match archive.0.finish() {
         Ok(true) => Ok(()),

@@ -114,11 +114,13 @@ fn told(answer: u64) -> String {
     format!("number {number}, offset {at}, count {count}")
 }
 
+/// Two answers, if they differ.
 fn answers_differ(stored: u64, given: u64) -> Option<String> {
     let found = || format!("answer {} (stored: {})", told(given), told(stored));
     (stored != given).then(found)
 }
 
+/// What differs in the bytes that a call wrote.
 fn bytes_differ(call: &str, stored: &Written, given: &Written) -> Option<String> {
     let (stored, given) = match (stored, given) {
         (Ok(stored), Ok(given)) => (stored, given),
@@ -138,6 +140,7 @@ fn first_byte(stored: &[u8], given: &[u8]) -> Option<String> {
     Some(format!("byte {at} is {:02x} (stored: {:02x})", given[at], stored[at]))
 }
 
+/// What differs first in the runs with one budget.
 fn runs_differ((stored, given): (&Run, &Run)) -> Option<String> {
     let of_pair = |which: usize| {
         let (one, other) = (&stored.ran[which], &given.ran[which]);

@@ -64,6 +64,7 @@ fn words(long: &[u8], packed: &[u8]) -> Vec<String> {
     long.chunks_exact(16).map(&mut line).collect()
 }
 
+/// The line of the runs with one budget.
 fn run_line(run: &Run) -> String {
     let [long, packed] = &run.ran;
     let state = trimmed(&packed.state);
@@ -72,6 +73,7 @@ fn run_line(run: &Run) -> String {
     format!("run {} {answer:x} {digest:016x} {} {state}", run.budget, trimmed(&long.state))
 }
 
+/// Bytes as pairs of digits.
 fn hex(bytes: &[u8]) -> String {
     bytes.iter().map(|byte| format!("{byte:02x}")).collect()
 }
@@ -94,6 +96,7 @@ struct Line<'a> {
 struct Lines<'a>(Peekable<IntoIter<Line<'a>>>);
 
 impl<'a> Lines<'a> {
+    /// The lines of a text.
     fn of(text: &'a str) -> Lines<'a> {
         let told = text.lines().zip(1..).filter(|(line, _)| !line.starts_with('#'));
         let split =
@@ -119,6 +122,7 @@ impl<'a> Lines<'a> {
 }
 
 impl Line<'_> {
+    /// What is wrong, behind the number of the line.
     fn fault(&self, what: &str) -> Fault {
         format!("line {}: {what}", self.number)
     }

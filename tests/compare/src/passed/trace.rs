@@ -60,6 +60,7 @@ fn masks(instruction: &Instruction, state: &State) -> [u16; 3] {
 }
 
 impl Trace {
+    /// Notes a feature.
     fn add(&mut self, group: &'static str, member: impl Into<String>) {
         self.features.insert((group, member.into()));
     }
