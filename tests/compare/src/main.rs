@@ -7,9 +7,7 @@
 //! come up and never did is a failure too.
 #![forbid(unsafe_code)]
 
-mod server;
-
-use server::Server;
+use spokeshaver_compare::server::Server;
 use spokeshaver_reference::answers::Answer;
 use spokeshaver_reference::generate::{case, perform, possible, Case, Outcome, Reference};
 use std::collections::BTreeMap;

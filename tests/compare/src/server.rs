@@ -86,7 +86,7 @@ impl Bench for Server {
             Ok(answer) => answer,
             Err(error) => {
                 let name = case.call.name();
-                eprintln!("seed {}: {name}: the server is gone: {error}", case.seed);
+                eprintln!("case {}: {name}: the server is gone: {error}", case.seed);
                 std::process::exit(1)
             }
         }
