@@ -1,0 +1,8 @@
+-- What follows from the contracts of the exported calls. Promises states it, and the others prove it: demand 1 in OutcomesHold, demand 2 in PackingHolds,
+-- demand 3 in RunningHolds.
+pub mod Promises
+pub mod Results
+pub mod Stepping
+pub mod OutcomesHold
+pub mod PackingHolds
+pub mod RunningHolds

@@ -1,0 +1,235 @@
+-- Demand 2 holds: the smallest short word, packing and unpacking. Assumes nothing.
+use mathlib.Core.Bool.{true}
+use mathlib.Core.List.{List, [], _∷_, _++_, map}
+use mathlib.Core.Option.{Option, none, some}
+use mathlib.Core.Path.{_≡_, refl, sym, ap, _∙_}
+use Prim.Native.Nat.{ℕ, _+_, _*_, _^_, _<_, _≤_}
+use native.Mathlib.Nat.{mod-eq-of-lt}
+use native.Mathlib.Omega.{arith}
+use lib.ListN.{length, take, drop, length-map}
+use lib.Seq.{take-at}
+use lib.Pow.{areBytes}
+use Rattle.paper.specs.Bits.{numberAt, bytesOf}
+use Rattle.paper.specs.Dictionary.{Dictionary, dictionaryOf}
+use Rattle.paper.specs.Shorten.{Shortens, Least, shorten}
+use Rattle.paper.specs.Kernel.{Instr, Forms, longAndShort, longOnly, good}
+use Rattle.paper.specs.Jump.{nextOf, endFrom}
+use Rattle.paper.specs.Packing.{Form, piece, encode, relay}
+use Rattle.paper.specs.Calls.{Answer, asNumber, verdict, Written, accepted, packCall, unpackCall}
+use Rattle.laws.specs.Bytes.{number-lt, bytes-drop, bytes-append, bytes-bytesOf, number-bytesOf}
+use Rattle.laws.specs.Shorten.{shorten-some, shorten-none}
+use Rattle.laws.specs.Names.{Laid, lineOf, program, relaidBy, longForm}
+use Rattle.laws.specs.Items.{Item, itemBytes, allBytes, instrsFrom}
+use Rattle.laws.specs.Packing.{kernel-of, long-accepted, packed-accepted, packed-program, unpacked-accepted, unpacked-program, AllShortest, packed-items}
+use Rattle.laws.specs.Moved.{end-near}
+use Rattle.laws.specs.Relay.{itemsOf, relay-items, relay-length}
+use Rattle.laws.specs.Walk.{Each}
+use Rattle.laws.specs.Parse.{WordAt}
+use Rattle.laws.specs.Demands.{unpack-delivers}
+use Rattle.spokeshaver.specs.Contracts.{numberIn, countIn, CheckPromise, PackPromise, UnpackPromise, ShortenPromise}
+use Rattle.promises.specs.Results.{accepted-checks, Writes, pack-writes, unpack-writes, pack-fits, unpack-fits, pack-full, unpack-full, shorten-says}
+use Rattle.promises.specs.Promises.{result, Packed, Unpacked, Demand2}
+use Rattle.promises.specs.OutcomesHold.{answers}
+
+-- ---- one word
+
+-- The number of 16 bytes is a word, and eight bytes that were written are read as the number that they were written from.
+word-fits : (word : List ℕ) → areBytes word ≡ true → numberAt word 0 16 < 2 ^ 128
+unfolding numberAt
+word-fits word h = number-lt 16 (drop 0 word) (bytes-drop 0 word h)
+
+read-back : (s : ℕ) (rest : List ℕ) → s < 2 ^ 64 → numberAt (bytesOf 8 s ++ rest) 0 8 ≡ s
+unfolding numberAt
+read-back s rest h = number-bytesOf 8 s rest ∙ mod-eq-of-lt h
+
+module _ (dictionary word out : List ℕ) (bytes : areBytes word ≡ true) (r : ℕ) (out′ : List ℕ) (p : ShortenPromise dictionary word out r out′) where
+  -- If spokeshaver_shorten answers 0, then the first eight bytes of the output are the smallest short word that expands to the word: a number of 64 bits
+  -- with bit 29 set whose opcode is no branch, and at most every other such number that expands to it.
+  pub shorten-least : numberIn r ≡ 0 → Least (dictionaryOf dictionary) (numberAt word 0 16) (numberAt out′ 0 8)
+  shorten-least zero =
+      let s = shorten-says dictionary word out .fine (sym (answers .shorten dictionary word out r out′ p .number) ∙ zero) in
+      let l = shorten-some (dictionaryOf dictionary) (numberAt word 0 16) (s .word) (word-fits word bytes) (s .is) in
+      rw (p .1 ∙ s .output, read-back (s .word) (drop 8 out) (l .is .fits)) l
+
+  -- If it answers 13, then no short word expands to the word.
+  pub shorten-never : numberIn r ≡ 13 → (t : ℕ) → Shortens (dictionaryOf dictionary) (numberAt word 0 16) t → ⊥
+  shorten-never thirteen =
+      shorten-none (dictionaryOf dictionary) (numberAt word 0 16) (word-fits word bytes)
+      (shorten-says dictionary word out .thirteen (sym (answers .shorten dictionary word out r out′ p .number) ∙ thirteen))
+
+-- ---- a kernel
+
+-- The instructions of a kernel, and the bytes that a relayout by `form` makes of them.
+pub record Relaid (forms : Forms) (form : Form) (dictionary kernel bytes : List ℕ) : Type 0 where
+  pub instrs : List Instr
+  pub given : accepted forms dictionary kernel ≡ good instrs
+  pub are : bytes ≡ relay form instrs
+
+-- What was written, where the answer is 0.
+relaid-of : (forms : Forms) (form : Form) (dictionary kernel out : List ℕ) (w : Written) → Writes form out (accepted forms dictionary kernel) w
+    → (r : ℕ) (out′ : List ℕ) → countIn r ≡ w .answer .count → out′ ≡ w .output → Relaid forms form dictionary kernel (result r out′)
+relaid-of forms form dictionary kernel out w v r out′ c e =
+    let bytes = relay form (v .instrs) in
+    let count : countIn r ≡ length bytes = c ∙ ap (λ (x : Written). x .answer .count) (v .whole) in
+    record {
+      instrs = v .instrs;
+      given = v .are;
+      are = ap (take (countIn r)) (e ∙ ap (λ (x : Written). x .output) (v .whole)) ∙ take-at bytes (drop (length bytes) out) (countIn r) (sym count);
+    }
+
+-- Items are laid out as bytes.
+items-bytes : (items : List Item) → areBytes (allBytes items) ≡ true
+unfolding allBytes
+items-bytes [] = refl
+items-bytes (i ∷ items) = bytes-append (itemBytes i) (allBytes items) (go (i .short) (i .word)) (items-bytes items)
+  where
+    go : (short : Option ℕ) (word : ℕ) → areBytes (encode short word) ≡ true
+    go none word = bytes-bytesOf 16 word
+    go (some s) word = bytes-bytesOf 8 s
+
+module _ (dictionary kernel out : List ℕ) (right : areBytes kernel ≡ true) (r : ℕ) (out′ : List ℕ)
+    (p : PackPromise dictionary kernel out r out′) (zero : numberIn r ≡ 0) where
+  abbrev D : Dictionary
+  D = dictionaryOf dictionary
+
+  pub pack-wrote : Relaid longOnly (shorten D) dictionary kernel (result r out′)
+  pack-wrote =
+      let t = answers .pack dictionary kernel out r out′ p in
+      relaid-of longOnly (shorten D) dictionary kernel out (packCall dictionary kernel out)
+      (pack-writes dictionary kernel out (sym (t .number) ∙ zero)) r out′ (t .count) (p .1)
+
+  -- What was packed is bytes.
+  pub pack-bytes : areBytes (result r out′) ≡ true
+  pack-bytes = ap areBytes (pack-wrote .are ∙ relay-items (shorten D) (pack-wrote .instrs)) ∙ items-bytes (itemsOf (shorten D) (pack-wrote .instrs))
+
+  -- If spokeshaver_pack answers 0, then every instruction that can be shortened is, to its smallest short word, in order and without gaps.
+  pub pack-right : Packed dictionary kernel (result r out′)
+  pack-right =
+      let w = pack-wrote in
+      let h = kernel-of longOnly dictionary kernel right (w .instrs) (w .given) in
+      let i = packed-items D (w .instrs) (h .sane) in
+      record {
+        instrs = w .instrs;
+        given = w .given;
+        items = i .items;
+        laid = w .are ∙ i .bytes;
+        shortest = i .shortest;
+        taken =
+            ap (accepted longAndShort dictionary) (w .are)
+            ∙ packed-accepted dictionary kernel right (w .instrs) (w .given)
+            ∙ ap good (sym (i .instrs));
+        same = ap program (i .instrs) ∙ packed-program dictionary kernel right (w .instrs) (w .given);
+      }
+
+  -- spokeshaver_check accepts what was packed, with the same answer as the kernel itself.
+  pub pack-checked : (a b : ℕ) → CheckPromise dictionary kernel a → CheckPromise dictionary (result r out′) b → (numberIn b ≡ 0) × (a ≡ b)
+  pack-checked a b c d =
+      let g = pack-right in
+      let h = kernel-of longOnly dictionary kernel right (g .instrs) (g .given) in
+      let long = accepted-checks dictionary kernel (g .instrs) (long-accepted dictionary kernel (g .instrs) h) in
+      let short = accepted-checks dictionary (result r out′) (instrsFrom 0 (g .items)) (g .taken) in
+      let many : length (instrsFrom 0 (g .items)) ≡ length (g .instrs) =
+      sym (length-map (instrsFrom 0 (g .items)) (lineOf (instrsFrom 0 (g .items)))) ∙ ap length (g .same) ∙ length-map (g .instrs) (lineOf (g .instrs)) in (
+        answers .check dictionary (result r out′) b d .number ∙ ap (λ (x : Answer). x .number) short,
+        c ∙ ap asNumber (long ∙ ap (verdict 0) (sym many) ∙ sym short) ∙ sym d,
+      )
+
+  -- spokeshaver_unpack of what was packed gives the kernel's bytes back, if they have room; what lies behind them stays.
+  pub unpack-back : (back : List ℕ) → length kernel ≤ length back → (u : ℕ) (back′ : List ℕ) → UnpackPromise dictionary (result r out′) back u back′
+      → (numberIn u ≡ 0) × (countIn u ≡ length kernel) × (back′ ≡ kernel ++ drop (length kernel) back)
+  unpack-back back room u back′ q =
+      let w = pack-wrote in
+      let t = answers .unpack dictionary (result r out′) back u back′ q in
+      let d = ap (λ (x : List ℕ). unpackCall dictionary x back) (w .are) ∙ unpack-delivers dictionary kernel right (w .instrs) (w .given) back room in
+      (t .number ∙ ap (λ (x : Written). x .answer .number) d, t .count ∙ ap (λ (x : Written). x .answer .count) d, q .1 ∙ ap (λ (x : Written). x .output) d)
+
+-- ---- unpacking
+
+-- If spokeshaver_unpack answers 0, then every word is long, in order and without gaps.
+pub unpack-right : (dictionary kernel out : List ℕ) → areBytes kernel ≡ true → (r : ℕ) (out′ : List ℕ) → UnpackPromise dictionary kernel out r out′
+    → numberIn r ≡ 0 → Unpacked dictionary kernel (result r out′)
+unpack-right dictionary kernel out right r out′ p zero =
+    let t = answers .unpack dictionary kernel out r out′ p in
+    let w = relaid-of longAndShort longForm dictionary kernel out (unpackCall dictionary kernel out)
+    (unpack-writes dictionary kernel out (sym (t .number) ∙ zero)) r out′ (t .count) (p .1) in
+    record {
+      instrs = w .instrs;
+      given = w .given;
+      longer = relaidBy longForm (w .instrs);
+      taken = ap (accepted longOnly dictionary) (w .are) ∙ unpacked-accepted dictionary kernel right (w .instrs) (w .given);
+      same = unpacked-program dictionary kernel right (w .instrs) (w .given);
+    }
+
+-- ---- room
+
+-- Long words only take two places each, and any take at least one.
+two-each : (kernel : List ℕ) (a : ℕ) (k : List Instr) → Laid a k → Each (WordAt longOnly kernel) k → endFrom a k ≡ a + 2 * length k
+unfolding Laid Each endFrom
+two-each kernel a [] l e = omega arith
+two-each kernel a (i ∷ k) l e =
+    let rest = two-each kernel (nextOf i) k (l .2) (e .1) in
+    let here = l .0 in
+    let two = e .0 .two refl in
+    omega arith
+
+one-each : (a : ℕ) (k : List Instr) → Laid a k → a + length k ≤ endFrom a k
+unfolding Laid endFrom
+one-each a [] l = omega arith
+one-each a (i ∷ k) l =
+    let rest = one-each (nextOf i) k (l .2) in
+    let here = l .0 in
+    let nonempty = l .1 in
+    omega arith
+
+-- A relayout takes at most two places for each instruction.
+relay-most : (form : Form) (k : List Instr) → length (relay form k) ≤ 16 * length k
+relay-most form k =
+    let l = relay-length form k in
+    let n = end-near 0 (map (piece form) k) in
+    let m = length-map k (piece form) in
+    omega arith
+
+-- What packing makes of an accepted kernel of long words is at most as long as the kernel,
+pack-most : (dictionary kernel : List ℕ) → areBytes kernel ≡ true → (k : List Instr) → accepted longOnly dictionary kernel ≡ good k
+    → length (relay (shorten (dictionaryOf dictionary)) k) ≤ length kernel
+pack-most dictionary kernel right k given =
+    let h = kernel-of longOnly dictionary kernel right k given in
+    let most = relay-most (shorten (dictionaryOf dictionary)) k in
+    let ends = two-each kernel 0 k (h .sound .laid) (h .words) in
+    omega (arith, h .ends)
+
+-- and what unpacking makes of any accepted kernel at most twice as long.
+unpack-most : (dictionary kernel : List ℕ) → areBytes kernel ≡ true → (k : List Instr) → accepted longAndShort dictionary kernel ≡ good k
+    → length (relay longForm k) ≤ 2 * length kernel
+unpack-most dictionary kernel right k given =
+    let h = kernel-of longAndShort dictionary kernel right k given in
+    let most = relay-most longForm k in
+    let ends = one-each 0 k (h .sound .laid) in
+    omega (arith, h .ends)
+
+-- ---- the demand
+
+pub demand-2 : Demand2
+demand-2 =
+    record {
+      least = λ dictionary word out bytes r out′ p. shorten-least dictionary word out bytes r out′ p;
+      never = λ dictionary word out bytes r out′ p. shorten-never dictionary word out bytes r out′ p;
+      packs = λ dictionary kernel out right k given room r out′ p.
+          let most = pack-most dictionary kernel right k given in
+          answers .pack dictionary kernel out r out′ p .number ∙ pack-fits dictionary kernel out k given (omega arith);
+      packRoom = λ dictionary kernel out right room r out′ p full.
+          let f = pack-full dictionary kernel out (sym (answers .pack dictionary kernel out r out′ p .number) ∙ full) in
+          let most = pack-most dictionary kernel right (f .0) (f .1) in
+          omega (arith, f .2);
+      packed = λ dictionary kernel out right r out′ p zero. pack-right dictionary kernel out right r out′ p zero;
+      checked = λ dictionary kernel out right r out′ p zero. pack-checked dictionary kernel out right r out′ p zero;
+      unpacksBack = λ dictionary kernel out right r out′ p zero. unpack-back dictionary kernel out right r out′ p zero;
+      unpacks = λ dictionary kernel out right k given room r out′ p.
+          let most = unpack-most dictionary kernel right k given in
+          answers .unpack dictionary kernel out r out′ p .number ∙ unpack-fits dictionary kernel out k given (omega arith);
+      unpackRoom = λ dictionary kernel out right room r out′ p full.
+          let f = unpack-full dictionary kernel out (sym (answers .unpack dictionary kernel out r out′ p .number) ∙ full) in
+          let most = unpack-most dictionary kernel right (f .0) (f .1) in
+          omega (arith, f .2);
+      unpacked = λ dictionary kernel out right r out′ p zero. unpack-right dictionary kernel out right r out′ p zero;
+    }
