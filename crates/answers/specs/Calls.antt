@@ -3,7 +3,7 @@ use mathlib.Core.Bool.{Bool, true, false, not, cond, _&&_, _||_}
 use mathlib.Core.List.{List}
 use mathlib.Core.Logic.{inl, inr}
 use mathlib.Core.Option.{Option, none, some}
-use mathlib.Core.Path.{_≡_, refl}
+use mathlib.Core.Path.{_≡_, refl, subst}
 use Prim.Native.Nat.{ℕ, _*_, _≤_}
 use native.Mathlib.Omega.{arith}
 use lib.Dec.{eqb, ltb, leb}
@@ -27,10 +27,10 @@ use Rattle.laws.specs.Bytes.{length-bytesOf}
 use Rattle.laws.specs.Relay.{relay-length, newEnd-near}
 use Rattle.laws.specs.Runs.{ran}
 use Rattle.laws.specs.Calls.{run-verdict}
-use Rattle.answers.specs.Numbers.{oneTo, checkNumbers, packNumbers, shortenNumbers, expandNumbers, decodeNumbers, startNumbers, stepNumbers, runNumbers}
+use Rattle.answers.specs.Numbers.{oneTo, checkNumbers, packNumbers, unpackNumbers, shortenNumbers, expandNumbers, decodeNumbers, startNumbers, stepNumbers, runNumbers}
 use Rattle.answers.specs.Small.{Small, small-refusal, small-verdict}
 use Rattle.answers.specs.Judging.{Modest, modest-number, modest-above, modest-size, judged-modest}
-use Rattle.answers.specs.Kernels.{KernelNo, Near, near-refused, near-number, near-few, near-more, sized-most, judged-near, accepted-near}
+use Rattle.answers.specs.Kernels.{KernelNo, Near, near-refused, near-number, near-few, near-more, sized-most, judged-near, accepted-near, Few, few-number, long-few}
 
 -- ---- choices and refusals
 
@@ -52,12 +52,12 @@ fine-no numbers number offset l n o = record { listed = l; small = small-refusal
 fine-told : (numbers : ℕ → Bool) (number count : ℕ) → numbers number ≡ true → number ≤ 21 → count ≤ budgetLimit → Fine numbers (verdict number count)
 fine-told numbers number count l n c = record { listed = l; small = small-verdict number count (omega arith) (omega arith) }
 
--- A kernel's refusal, where 1 to 12 and 17 are among the numbers.
-kernel-no : (others : ℕ → Bool) (number : ℕ) → others 17 ≡ true → KernelNo number → (oneTo 12 number || others number) ≡ true
+-- A kernel's refusal, where 1 to 12 are among the numbers, and 17 if it is that.
+kernel-no : (others : ℕ → Bool) (number : ℕ) → (number ≡ 17 → others 17 ≡ true) → KernelNo number → (oneTo 12 number || others number) ≡ true
 kernel-no others number l (inl low) = rw (le-leb 1 number (low .0), le-leb number 12 (low .1))
-kernel-no others number l (inr e) = rw (e, l)
+kernel-no others number l (inr e) = rw e (l e)
 
-fine-bad : (others : ℕ → Bool) (number offset : ℕ) → others 17 ≡ true → Near kernelBytes instructionLimit (bad number offset)
+fine-bad : (others : ℕ → Bool) (number offset : ℕ) → (number ≡ 17 → others 17 ≡ true) → Near kernelBytes instructionLimit (bad number offset)
     → Fine (λ n. oneTo 12 n || others n) (refusal number offset)
 fine-bad others number offset l h =
     let b = near-refused kernelBytes instructionLimit number offset h in
@@ -79,7 +79,7 @@ unfolding checkCall
 check-fine dictionary kernel = go (accepted longAndShort dictionary kernel) (accepted-near longAndShort dictionary kernel)
   where
     go : (q : Parsed) → Near kernelBytes instructionLimit q → Fine checkNumbers (checkedAs q)
-    go (bad number offset) h = fine-bad (λ n. eqb n 0 || eqb n 17) number offset refl h
+    go (bad number offset) h = fine-bad (λ n. eqb n 0 || eqb n 17) number offset (λ _. refl) h
     go (good k) h = let f = near-few kernelBytes instructionLimit k h in fine-told checkNumbers 0 (length k) refl (omega arith) (omega arith)
 
 -- ---- results
@@ -93,23 +93,27 @@ deliver-fine numbers full fine result out h =
     (λ _. fine-no numbers 14 0 full (omega arith) (omega arith)) (λ _. fine-told numbers 0 (length result) fine (omega arith) (omega arith))
 
 -- A kernel laid out anew has at most 1,024 long words, which are 16,384 bytes.
-relaid-fine : (form : Form) (out : List ℕ) (q : Parsed) → Near kernelBytes instructionLimit q → FineWritten packNumbers (relaid form out q)
-relaid-fine form out (bad number offset) h = fine-bad (λ n. eqb n 0 || (eqb n 14 || eqb n 17)) number offset refl h
-relaid-fine form out (good k) h =
+relaid-fine : (others : ℕ → Bool) → others 14 ≡ true → others 0 ≡ true
+    → (form : Form) (out : List ℕ) (q : Parsed) → Near kernelBytes instructionLimit q → ((number offset : ℕ) → q ≡ bad number offset → number ≡ 17 → others 17 ≡ true)
+    → FineWritten (λ n. oneTo 12 n || others n) (relaid form out q)
+relaid-fine others full fine form out (bad number offset) h last = fine-bad others number offset (last number offset refl) h
+relaid-fine others full fine form out (good k) h last =
     let l = relay-length form k in
     let n = newEnd-near form k (near-few kernelBytes instructionLimit k h) in
-    deliver-fine packNumbers refl refl (relay form k) out (omega arith)
+    deliver-fine (λ m. oneTo 12 m || others m) full fine (relay form k) out (omega arith)
 
 -- So the answers of packing and unpacking are fine.
 pub pack-fine : (dictionary kernel out : List ℕ) → Fine packNumbers (packCall dictionary kernel out .answer)
 unfolding packCall
 pack-fine dictionary kernel out =
-    relaid-fine (shorten (dictionaryOf dictionary)) out (accepted longOnly dictionary kernel) (accepted-near longOnly dictionary kernel)
+    relaid-fine (λ n. eqb n 0 || eqb n 14) refl refl (shorten (dictionaryOf dictionary)) out (accepted longOnly dictionary kernel) (accepted-near longOnly dictionary kernel)
+    (λ number offset e last. absurd (few-number number offset (subst Few e (long-few dictionary kernel)) last))
 
-pub unpack-fine : (dictionary kernel out : List ℕ) → Fine packNumbers (unpackCall dictionary kernel out .answer)
+pub unpack-fine : (dictionary kernel out : List ℕ) → Fine unpackNumbers (unpackCall dictionary kernel out .answer)
 unfolding unpackCall
 unpack-fine dictionary kernel out =
-    relaid-fine (λ _. none) out (accepted longAndShort dictionary kernel) (accepted-near longAndShort dictionary kernel)
+    relaid-fine (λ n. eqb n 0 || (eqb n 14 || eqb n 17)) refl refl (λ _. none) out (accepted longAndShort dictionary kernel) (accepted-near longAndShort dictionary kernel)
+    (λ number offset e last. refl)
 
 -- ---- one word
 
@@ -185,7 +189,7 @@ start-fine mask flag0 flag1 bytes =
 state-fine : (others : ℕ → Bool) → others 17 ≡ true → others 15 ≡ true → (registers bytes : List ℕ) (go : List Instr → State → Changed)
     → ((k : List Instr) (s : State) → FineChanged (λ n. oneTo 12 n || others n) (go k s))
     → (q : Parsed) → Near kernelBytes instructionLimit q → FineChanged (λ n. oneTo 12 n || others n) (onState registers bytes go q)
-state-fine others last illegal registers bytes go h (bad number offset) n = fine-bad others number offset last n
+state-fine others last illegal registers bytes go h (bad number offset) n = fine-bad others number offset (λ _. last) n
 state-fine others last illegal registers bytes go h (good k) n =
     by-cond (FineChanged (λ m. oneTo 12 m || others m)) (stateLegal k registers bytes) _ _ (λ _. h k (stateOf registers bytes))
     (λ _. fine-no (λ m. oneTo 12 m || others m) 15 0 illegal (omega arith) (omega arith))

@@ -1,8 +1,9 @@
--- How large the numbers are that are said of a kernel: a refusal's number and offset, how many instructions there are. Assumes nothing.
+-- How large the numbers are that are said of a kernel: a refusal's number and offset, how many instructions there are; and
+-- that long words only are never too many. Assumes nothing.
 use mathlib.Core.Bool.{Bool, true, false, cond, _&&_, false≢true}
 use mathlib.Core.List.{List, [], _∷_}
 use mathlib.Core.Logic.{_⊎_, inl, inr}
-use mathlib.Core.Option.{some}
+use mathlib.Core.Option.{Option, none, some}
 use mathlib.Core.Path.{_≡_, refl}
 use Prim.Native.Nat.{ℕ, zero, suc, _+_, _*_, _/_, _<_, _≤_}
 use native.Mathlib.Omega.{arith}
@@ -10,10 +11,11 @@ use lib.Dec.{eqb, ltb}
 use lib.ListN.{length}
 use borrow.Author.Tests.{ltb-true, leb-true}
 use Rattle.paper.specs.Limits.{dictionaryBytes, kernelBytes, instructionLimit}
-use Rattle.paper.specs.Dictionary.{dictionaryOf, inRange}
-use Rattle.paper.specs.Kernel.{Instr, Forms, Judged, refused, passed, judgeAt, Parsed, bad, good, prepend, enter, walk, parse}
+use Rattle.paper.specs.Dictionary.{Dictionary, dictionaryOf, inRange}
+use Rattle.paper.specs.Kernel.{Instr, Forms, longOnly, Judged, refused, passed, judgeAt, Parsed, bad, good, prepend, enter, walk, parse}
 use Rattle.paper.specs.Jump.{targetOf, jumpLands, firstAstray, astray, withJumps}
 use Rattle.paper.specs.Calls.{sized, judgedKernel, accepted}
+use Rattle.laws.specs.Judged.{Passed, asLong, asShort, judge-passed}
 use Rattle.answers.specs.Judging.{Modest, modest-number, modest-above, judged-modest}
 
 -- Every instruction starts at a byte before `end`.
@@ -147,3 +149,79 @@ accepted-near forms dictionary kernel =
     near-cond kernelBytes instructionLimit (sized dictionary kernel) _ (bad 1 0)
     (λ e. near-more (length kernel) kernelBytes instructionLimit _ (sized-most dictionary kernel e) (judged-near forms dictionary kernel))
     (near-bad kernelBytes instructionLimit 1 0 (inl (omega arith, omega arith)) (omega arith))
+
+-- ---- a kernel of long words
+
+-- It is not refused with 17.
+unfoldable pub Few : Parsed → Type 0
+Few (bad number offset) = number ≡ 17 → ⊥
+Few (good k) = Unit {0}
+
+pub few-number : (number offset : ℕ) → Few (bad number offset) → number ≡ 17 → ⊥
+unfolding Few
+few-number number offset h = h
+
+few-bad : (number offset : ℕ) → (number ≡ 17 → ⊥) → Few (bad number offset)
+unfolding Few
+few-bad number offset h = h
+
+few-good : (k : List Instr) → Few (good k)
+unfolding Few
+few-good k = tt
+
+few-cond : (b : Bool) (x y : Parsed) → (b ≡ true → Few x) → Few y → Few (cond b x y)
+few-cond true x y h g = h refl
+few-cond false x y h g = g
+
+few-prepend : (i : Instr) (q : Parsed) → Few q → Few (prepend i q)
+few-prepend i (bad number offset) h = few-bad number offset (few-number number offset h)
+few-prepend i (good k) h = few-good (i ∷ k)
+
+-- A walk over instructions of two places each that may take as many as the bytes have room for.
+module _ (judge : ℕ → Judged) (end : ℕ) (modest : (from : ℕ) → Modest (judge from))
+    (two : (from size w : ℕ) → from < end → judge from ≡ passed size w → size ≡ 2) where
+  few-enter : (n from : ℕ) (v : Judged) → judge from ≡ v → Modest v → from < end → end ≤ from + 16 * suc n
+      → ((m : ℕ) → end ≤ m + 16 * n → Few (walk judge end n m)) → Few (enter from v (walk judge end n))
+  few-enter n from (refused number) e m h room ih = let low = modest-number number m in few-bad number from (λ z. omega arith)
+  few-enter n from (passed size w) e m h room ih =
+      let long = two from size w h e in
+      few-prepend (record { place = from / 8; size = size; word = w }) _ (ih (from + 8 * size) (omega arith))
+
+  few-walk : (n from : ℕ) → end ≤ from + 16 * n → Few (walk judge end n from)
+  unfolding walk
+  few-walk zero from room =
+      few-cond (ltb from end) (bad 17 from) (good []) (λ e. let h = ltb-true from end e in absurd (omega arith)) (few-good [])
+  few-walk (suc n) from room =
+      few-cond (ltb from end) (enter from (judge from) (walk judge end n)) (good [])
+      (λ e. few-enter n from (judge from) refl (modest from) (ltb-true from end e) room (few-walk n)) (few-good [])
+
+few-jumps : (q : Parsed) → Few q → Few (withJumps q)
+unfolding withJumps
+few-jumps (bad number offset) h = h
+few-jumps (good k) h = go (firstAstray k k)
+  where
+    go : (o : Option ℕ) → Few (astray k o)
+    go none = few-good k
+    go (some from) = few-bad 12 from (λ z. omega arith)
+
+-- A long word takes two places.
+long-two : (D : Dictionary) (kernel : List ℕ) (from size w : ℕ) → from < length kernel → judgeAt longOnly D kernel from ≡ passed size w → size ≡ 2
+long-two D kernel from size w h e = go size w (judge-passed longOnly D kernel from h size w e)
+  where
+    go : (size w : ℕ) → Passed longOnly D kernel from size w → size ≡ 2
+    go size w (asLong room form listed legal) = refl
+    go size w (asShort room form listed plain takes legal) = absurd (false≢true takes)
+
+-- 1,024 long words fill 16,384 bytes.
+pub long-few : (dictionary kernel : List ℕ) → Few (accepted longOnly dictionary kernel)
+unfolding accepted judgedKernel parse
+long-few dictionary kernel =
+    let D = dictionaryOf dictionary in
+    few-cond (sized dictionary kernel) _ (bad 1 0)
+    (λ e.
+    let most = sized-most dictionary kernel e in
+    few-cond (inRange D) _ (bad 2 0)
+    (λ _. few-jumps _
+    (few-walk (judgeAt longOnly D kernel) (length kernel) (judged-modest longOnly D kernel) (long-two D kernel) instructionLimit 0 (omega arith)))
+    (few-bad 2 0 (λ z. omega arith)))
+    (few-bad 1 0 (λ z. omega arith))

@@ -7,7 +7,7 @@ use lib.ListN.{length, drop}
 use Rattle.paper.specs.Calls.{Answer, asNumber, Written, Changed, checkCall, packCall, unpackCall, shortenCall, expandCall, decodeCall, startCall, stepCall, runCall}
 use Rattle.laws.specs.Calls.{Confined, pack-confined, unpack-confined, shorten-confined, expand-confined, start-confined, step-unchanged, run-unchanged}
 use Rattle.spokeshaver.specs.Contracts.{numberIn, offsetIn, countIn, Wrote, Left}
-use Rattle.answers.specs.Numbers.{checkNumbers, packNumbers, shortenNumbers, expandNumbers, decodeNumbers, startNumbers, stepNumbers, runNumbers}
+use Rattle.answers.specs.Numbers.{checkNumbers, packNumbers, unpackNumbers, shortenNumbers, expandNumbers, decodeNumbers, startNumbers, stepNumbers, runNumbers}
 use Rattle.spokeshaver.specs.OneOutcomeHolds.{one-outcome}
 use Rattle.promises.specs.Promises.{Told, Answers, Kept, Refusals, Demand1}
 use Rattle.answers.specs.Small.{number-back, offset-back, count-back}
@@ -32,7 +32,7 @@ answers =
     record {
       check = λ dictionary kernel r p. told checkNumbers (checkCall dictionary kernel) r (check-fine dictionary kernel) p;
       pack = λ dictionary kernel out r out′ p. told packNumbers (packCall dictionary kernel out .answer) r (pack-fine dictionary kernel out) (p .0);
-      unpack = λ dictionary kernel out r out′ p. told packNumbers (unpackCall dictionary kernel out .answer) r (unpack-fine dictionary kernel out) (p .0);
+      unpack = λ dictionary kernel out r out′ p. told unpackNumbers (unpackCall dictionary kernel out .answer) r (unpack-fine dictionary kernel out) (p .0);
       shorten = λ dictionary word out r out′ p. told shortenNumbers (shortenCall dictionary word out .answer) r (shorten-fine dictionary word out) (p .0);
       expand = λ dictionary word out r out′ p. told expandNumbers (expandCall dictionary word out .answer) r (expand-fine dictionary word out) (p .0);
       decode = λ dictionary kernel place r p. told decodeNumbers (decodeCall dictionary kernel place) r (decode-fine dictionary kernel place) p;
@@ -62,7 +62,7 @@ refusals =
       pack = λ dictionary kernel out r out′.
           kept packNumbers (packCall dictionary kernel out) out r out′ (pack-fine dictionary kernel out) (pack-confined dictionary kernel out);
       unpack = λ dictionary kernel out r out′.
-          kept packNumbers (unpackCall dictionary kernel out) out r out′ (unpack-fine dictionary kernel out) (unpack-confined dictionary kernel out);
+          kept unpackNumbers (unpackCall dictionary kernel out) out r out′ (unpack-fine dictionary kernel out) (unpack-confined dictionary kernel out);
       shorten = λ dictionary word out r out′.
           kept shortenNumbers (shortenCall dictionary word out) out r out′ (shorten-fine dictionary word out) (shorten-confined dictionary word out);
       expand = λ dictionary word out r out′.

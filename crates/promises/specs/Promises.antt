@@ -24,7 +24,7 @@ use Rattle.laws.specs.Packing.{AllShortest}
 use Rattle.spokeshaver.specs.Contracts.{numberIn, offsetIn, countIn, CheckPromise, PackPromise, UnpackPromise, ShortenPromise, ExpandPromise}
 use Rattle.spokeshaver.specs.Contracts.{DecodePromise, StartPromise, StepPromise, RunPromise}
 use Rattle.spokeshaver.specs.OneOutcome.{OneOutcome}
-use Rattle.answers.specs.Numbers.{checkNumbers, packNumbers, shortenNumbers, expandNumbers, decodeNumbers, startNumbers, stepNumbers, runNumbers}
+use Rattle.answers.specs.Numbers.{checkNumbers, packNumbers, unpackNumbers, shortenNumbers, expandNumbers, decodeNumbers, startNumbers, stepNumbers, runNumbers}
 
 -- ==== demand 1: one outcome, from the paper's list, and a refusal changes nothing
 
@@ -41,7 +41,7 @@ pub record Answers : Type 0 where
   pub pack : (dictionary kernel out : List ℕ) (r : ℕ) (out′ : List ℕ) → PackPromise dictionary kernel out r out′
       → Told packNumbers (packCall dictionary kernel out .answer) r
   pub unpack : (dictionary kernel out : List ℕ) (r : ℕ) (out′ : List ℕ) → UnpackPromise dictionary kernel out r out′
-      → Told packNumbers (unpackCall dictionary kernel out .answer) r
+      → Told unpackNumbers (unpackCall dictionary kernel out .answer) r
   pub shorten : (dictionary word out : List ℕ) (r : ℕ) (out′ : List ℕ) → ShortenPromise dictionary word out r out′
       → Told shortenNumbers (shortenCall dictionary word out .answer) r
   pub expand : (dictionary word out : List ℕ) (r : ℕ) (out′ : List ℕ) → ExpandPromise dictionary word out r out′
