@@ -1,17 +1,19 @@
 -- Demand 1 holds: one outcome for each call, an answer of the paper's list, and a refusal that changes nothing. Assumes nothing.
 use mathlib.Core.Bool.{Bool}
 use mathlib.Core.List.{List}
+use mathlib.Core.Logic.{inl, inr}
 use mathlib.Core.Path.{_≡_, sym, ap, _∙_}
 use Prim.Native.Nat.{ℕ}
+use native.Mathlib.Omega.{arith}
 use lib.ListN.{length, drop}
-use Rattle.paper.specs.Calls.{Answer, asNumber, Written, Changed, checkCall, packCall, unpackCall, shortenCall, expandCall, decodeCall, startCall, stepCall, runCall}
-use Rattle.laws.specs.Calls.{Confined, pack-confined, unpack-confined, shorten-confined, expand-confined, start-confined, step-unchanged, run-unchanged}
+use Rattle.paper.specs.Calls.{Answer, asNumber, Written, Changed, checkCall, packCall, unpackCall, shortenCall, expandCall, decodeCall, decodePart, startCall, stepCall, runCall}
+use Rattle.laws.specs.Calls.{Confined, pack-confined, unpack-confined, shorten-confined, expand-confined, start-confined, decode-refused, step-unchanged, run-unchanged}
 use Rattle.spokeshaver.specs.Contracts.{numberIn, offsetIn, countIn, Wrote, Left}
 use Rattle.answers.specs.Numbers.{checkNumbers, packNumbers, unpackNumbers, shortenNumbers, expandNumbers, decodeNumbers, startNumbers, stepNumbers, runNumbers}
 use Rattle.spokeshaver.specs.OneOutcomeHolds.{one-outcome}
 use Rattle.promises.specs.Promises.{Told, Answers, Kept, Refusals, Demand1}
 use Rattle.answers.specs.Small.{number-back, offset-back, count-back}
-use Rattle.promises.specs.Results.{decode-inside}
+use Rattle.promises.specs.Results.{decode-inside, part-are, part-length}
 use Rattle.answers.specs.Calls.{Fine, check-fine, pack-fine, unpack-fine, shorten-fine, expand-fine, decode-fine, start-fine, step-fine, run-fine}
 
 -- ---- every answer is one of the paper's
@@ -92,4 +94,16 @@ demand-1 =
           let t = answers .decode dictionary kernel place r p in
           let i = decode-inside dictionary kernel place (sym (t .number) ∙ zero) in
           rw (t .count) (i .size, i .ends);
+      decodesPart = λ dictionary kernel place r p.
+          let t = answers .decode dictionary kernel place r p in
+          let long : length (decodePart dictionary kernel place) ≡ countIn r = part-length dictionary kernel place ∙ sym (t .count) in
+          record {
+            are = rw (t .count) (part-are dictionary kernel place);
+            counted = long;
+            empty = λ n. decode-refused dictionary kernel place (λ e. n (t .number ∙ e));
+            whole = λ none zero.
+                let i = decode-inside dictionary kernel place (sym (t .number) ∙ zero) in
+                let no : length (decodePart dictionary kernel place) ≡ 0 = ap length none in
+                elim (i .size) [ inl e ↦ omega (arith, t .count) | inr e ↦ omega (arith, t .count) ];
+          };
     }

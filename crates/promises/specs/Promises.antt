@@ -4,7 +4,7 @@
 -- these, answered r and left out′ in its output; that is the contract of the call, proved with its code. `numberIn`, `offsetIn` and `countIn` take an answer
 -- apart as the header's macros do. Demands 2 and 3 ask besides that what is lent is bytes (`areBytes`) and 16-bit numbers, as the types in C say.
 use mathlib.Core.Bool.{Bool, true}
-use mathlib.Core.List.{List, _++_, map}
+use mathlib.Core.List.{List, [], _++_, map}
 use mathlib.Core.Logic.{_⊎_}
 use mathlib.Core.Path.{_≡_}
 use Prim.Native.Nat.{ℕ, suc, _+_, _*_, _^_, _<_, _≤_}
@@ -17,7 +17,7 @@ use Rattle.paper.specs.Shorten.{Shortens, Least}
 use Rattle.paper.specs.Kernel.{Instr, longAndShort, longOnly, good}
 use Rattle.paper.specs.State.{half, channelsIn, stateLegal}
 use Rattle.paper.specs.Packing.{index}
-use Rattle.paper.specs.Calls.{Answer, accepted, checkCall, packCall, unpackCall, shortenCall, expandCall, decodeCall, startCall, stepCall, runCall}
+use Rattle.paper.specs.Calls.{Answer, accepted, checkCall, packCall, unpackCall, shortenCall, expandCall, decodeCall, decodePart, startCall, stepCall, runCall}
 use Rattle.laws.specs.Names.{renameC, program}
 use Rattle.laws.specs.Items.{Item, allBytes, instrsFrom}
 use Rattle.laws.specs.Packing.{AllShortest}
@@ -76,6 +76,13 @@ pub record Refusals : Type 0 where
       → RunPromise dictionary kernel budget registers state r registers′ state′ → (numberIn r ≡ 20 → ⊥) → (numberIn r ≡ 21 → ⊥)
       → (registers′ ≡ registers) × (state′ ≡ state)
 
+-- A part of the kernel beside an answer of decode: the bytes from the place on, as many as the answer counts; empty exactly where the answer refuses.
+pub record Part (kernel : List ℕ) (place r : ℕ) (bytes : List ℕ) : Type 0 where
+  pub are : bytes ≡ take (countIn r) (drop (8 * place) kernel)
+  pub counted : length bytes ≡ countIn r
+  pub empty : (numberIn r ≡ 0 → ⊥) → bytes ≡ []
+  pub whole : bytes ≡ [] → numberIn r ≡ 0 → ⊥
+
 pub record Demand1 : Type 0 where
   pub oneOutcome : OneOutcome
   pub answers : Answers
@@ -83,6 +90,9 @@ pub record Demand1 : Type 0 where
   -- A decoded instruction has 8 or 16 bytes, and they lie inside the kernel from the place on.
   pub decodesInside : (dictionary kernel : List ℕ) (place r : ℕ) → DecodePromise dictionary kernel place r → numberIn r ≡ 0
       → ((countIn r ≡ 8) ⊎ (countIn r ≡ 16)) × (8 * place + countIn r ≤ length kernel)
+  -- `decodePart` is what decoding hands back inside Rattle (`part` of the crate `kernel`): those bytes, and none on refusal.
+  pub decodesPart : (dictionary kernel : List ℕ) (place r : ℕ) → DecodePromise dictionary kernel place r
+      → Part kernel place r (decodePart dictionary kernel place)
 
 -- ==== demand 2: the smallest short word; packing and unpacking
 

@@ -7,7 +7,7 @@ use mathlib.Core.Path.{_≡_, refl, ap, _∙_}
 use Prim.Native.Nat.{ℕ, _+_, _*_, _<_, _≤_}
 use native.Mathlib.Omega.{arith}
 use lib.Dec.{eqb, ltb, leb}
-use lib.ListN.{length, drop}
+use lib.ListN.{length, take, drop, length-take, length-drop}
 use borrow.Author.Tests.{eqb-true, ltb-true, leb-false}
 use Rattle.paper.specs.Bits.{bytesOf, numberAt}
 use Rattle.paper.specs.Limits.{dictionaryBytes, stateLength, kernelBytes, instructionLimit}
@@ -20,7 +20,7 @@ use Rattle.paper.specs.Machine.{start}
 use Rattle.paper.specs.State.{stateBytes}
 use Rattle.paper.specs.Packing.{Form, relay}
 use Rattle.paper.specs.Calls.{refusal, verdict, Written, kept, deliver, accepted, checkedAs, checkCall, relaid, packCall, unpackCall, oneWord, shortened, shortenCall, startCall}
-use Rattle.paper.specs.Calls.{Answer, sized, Decoded, judgedAs, decodeAt, decodedAs, decodeCall}
+use Rattle.paper.specs.Calls.{Answer, sized, Decoded, undecoded, decoded, partOf, decodePart, judgedAs, decodeAt, decodedAs, decodeCall}
 use Rattle.laws.specs.Bytes.{length-bytesOf}
 use Rattle.laws.specs.Names.{longForm}
 use Rattle.laws.specs.Judged.{Passed, asLong, asShort, judge-passed}
@@ -193,6 +193,37 @@ decode-inside dictionary kernel place =
     by-cond : (R : Decoded → Type 0) (b : Bool) (x y : Decoded) → R x → (b ≡ false → R y) → R (cond b x y)
     by-cond R true x y h g = h
     by-cond R false x y h g = g refl
+
+-- The part that is handed back is as many bytes as the answer counts, from the place on.
+pub part-are : (dictionary kernel : List ℕ) (place : ℕ)
+    → decodePart dictionary kernel place ≡ take (decodeCall dictionary kernel place .count) (drop (8 * place) kernel)
+unfolding decodeCall decodePart
+part-are dictionary kernel place = go (decodeAt dictionary kernel place)
+  where
+    go : (d : Decoded) → partOf kernel (8 * place) d ≡ take (decodedAs d .count) (drop (8 * place) kernel)
+    go (undecoded number offset) = refl
+    go (decoded size w) = refl
+
+-- A refusal counts nothing.
+decode-counts : (dictionary kernel : List ℕ) (place : ℕ)
+    → (decodeCall dictionary kernel place .number ≡ 0) ⊎ (decodeCall dictionary kernel place .count ≡ 0)
+unfolding decodeCall
+decode-counts dictionary kernel place = go (decodeAt dictionary kernel place)
+  where
+    go : (d : Decoded) → (decodedAs d .number ≡ 0) ⊎ (decodedAs d .count ≡ 0)
+    go (undecoded number offset) = inr refl
+    go (decoded size w) = inl refl
+
+-- So many bytes are there.
+pub part-length : (dictionary kernel : List ℕ) (place : ℕ) → length (decodePart dictionary kernel place) ≡ decodeCall dictionary kernel place .count
+part-length dictionary kernel place =
+    elim (decode-counts dictionary kernel place) [
+      | inl e ↦ rw (part-are dictionary kernel place) (length-part (8 * place) _ kernel (decode-inside dictionary kernel place e .ends))
+      | inr e ↦ rw (part-are dictionary kernel place, e)
+    ]
+  where
+    length-part : (from n : ℕ) (l : List ℕ) → from + n ≤ length l → length (take n (drop from l)) ≡ n
+    length-part from n l h = simp (length-take, length-drop) (omega arith)
 
 -- ---- start
 
