@@ -2,7 +2,9 @@
 -- demand 3 in RunningHolds.
 pub mod Promises
 pub mod Results
+pub mod Words
 pub mod Stepping
 pub mod OutcomesHold
+pub mod WordsHold
 pub mod PackingHolds
 pub mod RunningHolds

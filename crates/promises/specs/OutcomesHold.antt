@@ -6,9 +6,9 @@ use mathlib.Core.Path.{_≡_, sym, ap, _∙_}
 use Prim.Native.Nat.{ℕ}
 use native.Mathlib.Omega.{arith}
 use lib.ListN.{length, drop}
-use Rattle.paper.specs.Calls.{Answer, asNumber, Written, Changed, checkCall, packCall, unpackCall, shortenCall, expandCall, decodeCall, decodePart, startCall, stepCall, runCall}
+use Rattle.paper.specs.Calls.{Answer, asNumber, Written, checkCall, packCall, unpackCall, shortenCall, expandCall, decodeCall, decodePart, startCall, stepCall, runCall}
 use Rattle.laws.specs.Calls.{Confined, pack-confined, unpack-confined, shorten-confined, expand-confined, start-confined, decode-refused, step-unchanged, run-unchanged}
-use Rattle.spokeshaver.specs.Contracts.{numberIn, offsetIn, countIn, Wrote, Left}
+use Rattle.spokeshaver.specs.Contracts.{numberIn, offsetIn, countIn, Wrote}
 use Rattle.answers.specs.Numbers.{checkNumbers, packNumbers, unpackNumbers, shortenNumbers, expandNumbers, decodeNumbers, startNumbers, stepNumbers, runNumbers}
 use Rattle.spokeshaver.specs.OneOutcomeHolds.{one-outcome}
 use Rattle.promises.specs.Promises.{Told, Answers, Kept, Refusals, Demand1}

@@ -3,61 +3,33 @@ use mathlib.Core.Bool.{true}
 use mathlib.Core.List.{List, [], _∷_, _++_, map}
 use mathlib.Core.Option.{Option, none, some}
 use mathlib.Core.Path.{_≡_, refl, sym, ap, _∙_}
-use Prim.Native.Nat.{ℕ, _+_, _*_, _^_, _<_, _≤_}
-use native.Mathlib.Nat.{mod-eq-of-lt}
+use Prim.Native.Nat.{ℕ, _+_, _*_, _≤_}
 use native.Mathlib.Omega.{arith}
 use lib.ListN.{length, take, drop, length-map}
 use lib.Seq.{take-at}
 use lib.Pow.{areBytes}
-use Rattle.paper.specs.Bits.{numberAt, bytesOf}
 use Rattle.paper.specs.Dictionary.{Dictionary, dictionaryOf}
-use Rattle.paper.specs.Shorten.{Shortens, Least, shorten}
+use Rattle.paper.specs.Shorten.{shorten}
 use Rattle.paper.specs.Kernel.{Instr, Forms, longAndShort, longOnly, good}
 use Rattle.paper.specs.Jump.{nextOf, endFrom}
 use Rattle.paper.specs.Packing.{Form, piece, encode, relay}
 use Rattle.paper.specs.Calls.{Answer, asNumber, verdict, Written, accepted, packCall, unpackCall}
-use Rattle.laws.specs.Bytes.{number-lt, bytes-drop, bytes-append, bytes-bytesOf, number-bytesOf}
-use Rattle.laws.specs.Shorten.{shorten-some, shorten-none}
+use Rattle.laws.specs.Bytes.{bytes-append, bytes-bytesOf}
 use Rattle.laws.specs.Names.{Laid, lineOf, program, relaidBy, longForm}
 use Rattle.laws.specs.Items.{Item, itemBytes, allBytes, instrsFrom}
-use Rattle.laws.specs.Packing.{kernel-of, long-accepted, packed-accepted, packed-program, unpacked-accepted, unpacked-program, AllShortest, packed-items}
+use Rattle.laws.specs.Packing.{kernel-of, long-accepted, packed-accepted, packed-program, unpacked-accepted, unpacked-program, packed-items}
 use Rattle.laws.specs.Moved.{end-near}
 use Rattle.laws.specs.Relay.{itemsOf, relay-items, relay-length}
 use Rattle.laws.specs.Walk.{Each}
 use Rattle.laws.specs.Parse.{WordAt}
 use Rattle.laws.specs.Demands.{unpack-delivers}
-use Rattle.spokeshaver.specs.Contracts.{numberIn, countIn, CheckPromise, PackPromise, UnpackPromise, ShortenPromise}
-use Rattle.promises.specs.Results.{accepted-checks, Writes, pack-writes, unpack-writes, pack-fits, unpack-fits, pack-full, unpack-full, shorten-says}
+use Rattle.spokeshaver.specs.Contracts.{numberIn, countIn, CheckPromise, PackPromise, UnpackPromise}
+use Rattle.promises.specs.Results.{accepted-checks, Writes, pack-writes, unpack-writes, pack-fits, unpack-fits, pack-full, unpack-full}
+use Rattle.promises.specs.WordsHold.{shorten-least, shorten-never, expand-right, expand-back}
 use Rattle.promises.specs.Promises.{result, Packed, Unpacked, Demand2}
 use Rattle.promises.specs.OutcomesHold.{answers}
 
--- ---- one word
-
--- The number of 16 bytes is a word, and eight bytes that were written are read as the number that they were written from.
-word-fits : (word : List ℕ) → areBytes word ≡ true → numberAt word 0 16 < 2 ^ 128
-unfolding numberAt
-word-fits word h = number-lt 16 (drop 0 word) (bytes-drop 0 word h)
-
-read-back : (s : ℕ) (rest : List ℕ) → s < 2 ^ 64 → numberAt (bytesOf 8 s ++ rest) 0 8 ≡ s
-unfolding numberAt
-read-back s rest h = number-bytesOf 8 s rest ∙ mod-eq-of-lt h
-
-module _ (dictionary word out : List ℕ) (bytes : areBytes word ≡ true) (r : ℕ) (out′ : List ℕ) (p : ShortenPromise dictionary word out r out′) where
-  -- If spokeshaver_shorten answers 0, then the first eight bytes of the output are the smallest short word that expands to the word: a number of 64 bits
-  -- with bit 29 set whose opcode is no branch, and at most every other such number that expands to it.
-  pub shorten-least : numberIn r ≡ 0 → Least (dictionaryOf dictionary) (numberAt word 0 16) (numberAt out′ 0 8)
-  shorten-least zero =
-      let s = shorten-says dictionary word out .fine (sym (answers .shorten dictionary word out r out′ p .number) ∙ zero) in
-      let l = shorten-some (dictionaryOf dictionary) (numberAt word 0 16) (s .word) (word-fits word bytes) (s .is) in
-      rw (p .1 ∙ s .output, read-back (s .word) (drop 8 out) (l .is .fits)) l
-
-  -- If it answers 13, then no short word expands to the word.
-  pub shorten-never : numberIn r ≡ 13 → (t : ℕ) → Shortens (dictionaryOf dictionary) (numberAt word 0 16) t → ⊥
-  shorten-never thirteen =
-      shorten-none (dictionaryOf dictionary) (numberAt word 0 16) (word-fits word bytes)
-      (shorten-says dictionary word out .thirteen (sym (answers .shorten dictionary word out r out′ p .number) ∙ thirteen))
-
--- ---- a kernel
+-- ---- packing
 
 -- The instructions of a kernel, and the bytes that a relayout by `form` makes of them.
 pub record Relaid (forms : Forms) (form : Form) (dictionary kernel bytes : List ℕ) : Type 0 where
@@ -214,6 +186,8 @@ demand-2 =
     record {
       least = λ dictionary word out bytes r out′ p. shorten-least dictionary word out bytes r out′ p;
       never = λ dictionary word out bytes r out′ p. shorten-never dictionary word out bytes r out′ p;
+      expands = λ dictionary word out r out′ p. expand-right dictionary word out r out′ p;
+      expandsBack = λ dictionary word out bytes r out′ p. expand-back dictionary word out bytes r out′ p;
       packs = λ dictionary kernel out right k given room r out′ p.
           let most = pack-most dictionary kernel right k given in
           answers .pack dictionary kernel out r out′ p .number ∙ pack-fits dictionary kernel out k given (omega arith);

@@ -13,6 +13,7 @@ use lib.Pow.{areBytes}
 use Rattle.paper.specs.Limits.{registerBytes, budgetLimit}
 use Rattle.paper.specs.Bits.{numberAt}
 use Rattle.paper.specs.Dictionary.{dictionaryOf}
+use Rattle.paper.specs.Expand.{expand}
 use Rattle.paper.specs.Shorten.{Shortens, Least}
 use Rattle.paper.specs.Kernel.{Instr, longAndShort, longOnly, good}
 use Rattle.paper.specs.State.{half, channelsIn, stateLegal}
@@ -94,9 +95,9 @@ pub record Demand1 : Type 0 where
   pub decodesPart : (dictionary kernel : List ℕ) (place r : ℕ) → DecodePromise dictionary kernel place r
       → Part kernel place r (decodePart dictionary kernel place)
 
--- ==== demand 2: the smallest short word; packing and unpacking
+-- ==== demand 2: the smallest short word, and back; packing and unpacking
 
--- What pack or unpack wrote: the first bytes of the output, as many as it counts.
+-- What a call wrote: the first bytes of the output, as many as it counts.
 abbrev pub result : ℕ → List ℕ → List ℕ
 result r out′ = take (countIn r) out′
 
@@ -127,6 +128,14 @@ pub record Demand2 : Type 0 where
   -- If it answers 13, then no short word expands to the word.
   pub never : (dictionary word out : List ℕ) → areBytes word ≡ true → (r : ℕ) (out′ : List ℕ) → ShortenPromise dictionary word out r out′
       → numberIn r ≡ 13 → (t : ℕ) → Shortens (dictionaryOf dictionary) (numberAt word 0 16) t → ⊥
+  -- If expand answers 0, then the first sixteen bytes of the output are the long word that the short word stands for.
+  pub expands : (dictionary word out : List ℕ) (r : ℕ) (out′ : List ℕ) → ExpandPromise dictionary word out r out′ → numberIn r ≡ 0
+      → numberAt out′ 0 16 ≡ expand (dictionaryOf dictionary) (numberAt word 0 8)
+  -- Expand of what shorten wrote gives the word's bytes back, if they have room; what lies behind them stays.
+  pub expandsBack : (dictionary word out : List ℕ) → areBytes word ≡ true → (r : ℕ) (out′ : List ℕ) → ShortenPromise dictionary word out r out′
+      → numberIn r ≡ 0 → (back : List ℕ) → 16 ≤ length back
+      → (u : ℕ) (back′ : List ℕ) → ExpandPromise dictionary (result r out′) back u back′
+      → (numberIn u ≡ 0) × (countIn u ≡ 16) × (back′ ≡ word ++ drop 16 back)
   -- Pack answers 0 to every accepted kernel of long words if the output is as long as the kernel.
   pub packs : (dictionary kernel out : List ℕ) → areBytes kernel ≡ true → (k : List Instr) → accepted longOnly dictionary kernel ≡ good k
       → length kernel ≤ length out → (r : ℕ) (out′ : List ℕ) → PackPromise dictionary kernel out r out′ → numberIn r ≡ 0

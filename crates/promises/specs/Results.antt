@@ -1,27 +1,22 @@
 -- What an answer of 0 says of the kernel or the word, and what is then written; what 13 and 14 say. Assumes nothing.
-use mathlib.Core.Bool.{Bool, true, false, not, cond, _&&_}
+use mathlib.Core.Bool.{Bool, true, false, not, cond}
 use mathlib.Core.List.{List, [], _++_}
 use mathlib.Core.Logic.{_⊎_, inl, inr}
-use mathlib.Core.Option.{Option, none, some}
 use mathlib.Core.Path.{_≡_, refl, ap, _∙_}
 use Prim.Native.Nat.{ℕ, _+_, _*_, _<_, _≤_}
 use native.Mathlib.Omega.{arith}
 use lib.Dec.{eqb, ltb, leb}
 use lib.ListN.{length, take, drop, length-take, length-drop}
 use borrow.Author.Tests.{eqb-true, ltb-true, leb-false}
-use Rattle.paper.specs.Bits.{bytesOf, numberAt}
-use Rattle.paper.specs.Limits.{dictionaryBytes, stateLength, kernelBytes, instructionLimit}
+use Rattle.paper.specs.Limits.{stateLength, kernelBytes, instructionLimit}
 use Rattle.paper.specs.Dictionary.{Dictionary, dictionaryOf, inRange}
-use Rattle.paper.specs.Expand.{isShort}
 use Rattle.paper.specs.Shorten.{shorten}
-use Rattle.paper.specs.Operation.{operation, isListed}
 use Rattle.paper.specs.Kernel.{Instr, longAndShort, longOnly, Judged, refused, passed, judgeAt, Parsed, bad, good}
 use Rattle.paper.specs.Machine.{start}
 use Rattle.paper.specs.State.{stateBytes}
 use Rattle.paper.specs.Packing.{Form, relay}
-use Rattle.paper.specs.Calls.{refusal, verdict, Written, kept, deliver, accepted, checkedAs, checkCall, relaid, packCall, unpackCall, oneWord, shortened, shortenCall, startCall}
+use Rattle.paper.specs.Calls.{refusal, verdict, Written, kept, deliver, accepted, checkedAs, checkCall, relaid, packCall, unpackCall, startCall}
 use Rattle.paper.specs.Calls.{Answer, sized, Decoded, undecoded, decoded, partOf, decodePart, judgedAs, decodeAt, decodedAs, decodeCall}
-use Rattle.laws.specs.Bytes.{length-bytesOf}
 use Rattle.laws.specs.Names.{longForm}
 use Rattle.laws.specs.Judged.{Passed, asLong, asShort, judge-passed}
 use Rattle.answers.specs.Judging.{Modest, modest-above, judged-modest}
@@ -64,7 +59,7 @@ abbrev pub wrote : List ℕ → List ℕ → Written
 wrote result out = record { answer = verdict 0 (length result); output = result ++ drop (length result) out }
 
 -- What an answer of 0 says of a result.
-deliver-fits : (result out : List ℕ) → deliver result out .answer .number ≡ 0 → deliver result out ≡ wrote result out
+pub deliver-fits : (result out : List ℕ) → deliver result out .answer .number ≡ 0 → deliver result out ≡ wrote result out
 unfolding deliver
 deliver-fits result out = go (ltb (length out) (length result))
   where
@@ -74,7 +69,7 @@ deliver-fits result out = go (ltb (length out) (length result))
     go false e = refl
 
 -- Where there is room, the answer is 0.
-deliver-room : (result out : List ℕ) → length result ≤ length out → deliver result out .answer .number ≡ 0
+pub deliver-room : (result out : List ℕ) → length result ≤ length out → deliver result out .answer .number ≡ 0
 unfolding deliver
 deliver-room result out room = go (ltb (length out) (length result)) refl
   where
@@ -93,7 +88,7 @@ deliver-full result out = go (ltb (length out) (length result)) refl
     go false h e = absurd (omega arith)
 
 -- A result is never answered with 13.
-deliver-other : (result out : List ℕ) → deliver result out .answer .number ≡ 13 → ⊥
+pub deliver-other : (result out : List ℕ) → deliver result out .answer .number ≡ 13 → ⊥
 unfolding deliver
 deliver-other result out = go (ltb (length out) (length result))
   where
@@ -237,52 +232,3 @@ start-fits mask flag0 flag1 bytes = go (eqb (length bytes) stateLength) refl
         → length bytes ≡ stateLength
     go true h e = eqb-true (length bytes) stateLength h
     go false h e = absurd (omega arith)
-
--- ---- shorten
-
--- A short word is there, and its eight bytes are written.
-pub record Shorter (short : Option ℕ) (out : List ℕ) (r : Written) : Type 0 where
-  pub word : ℕ
-  pub is : short ≡ some word
-  pub count : r .answer .count ≡ 8
-  pub output : r .output ≡ bytesOf 8 word ++ drop 8 out
-
--- What 0 and 13 say.
-pub record Says (short : Option ℕ) (out : List ℕ) (r : Written) : Type 0 where
-  pub fine : r .answer .number ≡ 0 → Shorter short out r
-  pub thirteen : r .answer .number ≡ 13 → short ≡ none
-
--- Any other refusal says neither; a choice says what both say.
-says-no : (short : Option ℕ) (out : List ℕ) (number : ℕ) → (number ≡ 0 → ⊥) → (number ≡ 13 → ⊥) → Says short out (kept (refusal number 0) out)
-says-no short out number a b = record { fine = λ e. absurd (a e); thirteen = λ e. absurd (b e) }
-
-says-cond : (short : Option ℕ) (out : List ℕ) (b : Bool) (x y : Written) → Says short out x → Says short out y → Says short out (cond b x y)
-says-cond short out true x y h g = h
-says-cond short out false x y h g = g
-
--- A short word, or none.
-says-shortened : (short : Option ℕ) (out : List ℕ) → Says short out (shortened short out)
-says-shortened none out = record { fine = λ e. absurd (omega arith); thirteen = λ _. refl }
-says-shortened (some s) out =
-    record {
-      fine = λ e.
-          let w = deliver-fits (bytesOf 8 s) out e in
-          record {
-            word = s;
-            is = refl;
-            count = ap (λ (r : Written). r .answer .count) w ∙ length-bytesOf 8 s;
-            output = ap (λ (r : Written). r .output) w ∙ ap (λ (n : ℕ). bytesOf 8 s ++ drop n out) (length-bytesOf 8 s);
-          };
-      thirteen = λ e. absurd (deliver-other (bytesOf 8 s) out e);
-    }
-
-pub shorten-says : (dictionary word out : List ℕ)
-    → Says (shorten (dictionaryOf dictionary) (numberAt word 0 16)) out (shortenCall dictionary word out)
-unfolding shortenCall oneWord
-shorten-says dictionary word out =
-    let w = numberAt word 0 16 in
-    let short = shorten (dictionaryOf dictionary) w in
-    says-cond short out (not (eqb (length dictionary) dictionaryBytes && eqb (length word) 16)) _ _ (says-no short out 1 (λ e. omega arith) (λ e. omega arith))
-    (says-cond short out (not (inRange (dictionaryOf dictionary))) _ _ (says-no short out 2 (λ e. omega arith) (λ e. omega arith))
-    (says-cond short out (not (isListed (operation w))) _ _ (says-no short out 4 (λ e. omega arith) (λ e. omega arith))
-    (says-cond short out (isShort w) _ _ (says-no short out 5 (λ e. omega arith) (λ e. omega arith)) (says-shortened short out))))
