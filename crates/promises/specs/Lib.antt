@@ -3,6 +3,7 @@
 pub mod Promises
 pub mod Results
 pub mod Words
+pub mod Room
 pub mod Stepping
 pub mod OutcomesHold
 pub mod WordsHold

@@ -1,9 +1,9 @@
 -- Demand 2 holds: the smallest short word, packing and unpacking. Assumes nothing.
 use mathlib.Core.Bool.{true}
-use mathlib.Core.List.{List, [], _∷_, _++_, map}
+use mathlib.Core.List.{List, [], _∷_, _++_}
 use mathlib.Core.Option.{Option, none, some}
 use mathlib.Core.Path.{_≡_, refl, sym, ap, _∙_}
-use Prim.Native.Nat.{ℕ, _+_, _*_, _≤_}
+use Prim.Native.Nat.{ℕ, _*_, _≤_}
 use native.Mathlib.Omega.{arith}
 use lib.ListN.{length, take, drop, length-map}
 use lib.Seq.{take-at}
@@ -11,20 +11,17 @@ use lib.Pow.{areBytes}
 use Rattle.paper.specs.Dictionary.{Dictionary, dictionaryOf}
 use Rattle.paper.specs.Shorten.{shorten}
 use Rattle.paper.specs.Kernel.{Instr, Forms, longAndShort, longOnly, good}
-use Rattle.paper.specs.Jump.{nextOf, endFrom}
-use Rattle.paper.specs.Packing.{Form, piece, encode, relay}
+use Rattle.paper.specs.Packing.{Form, encode, relay}
 use Rattle.paper.specs.Calls.{Answer, asNumber, verdict, Written, accepted, packCall, unpackCall}
 use Rattle.laws.specs.Bytes.{bytes-append, bytes-bytesOf}
-use Rattle.laws.specs.Names.{Laid, lineOf, program, relaidBy, longForm}
+use Rattle.laws.specs.Names.{lineOf, program, relaidBy, longForm}
 use Rattle.laws.specs.Items.{Item, itemBytes, allBytes, instrsFrom}
 use Rattle.laws.specs.Packing.{kernel-of, long-accepted, packed-accepted, packed-program, unpacked-accepted, unpacked-program, packed-items}
-use Rattle.laws.specs.Moved.{end-near}
-use Rattle.laws.specs.Relay.{itemsOf, relay-items, relay-length}
-use Rattle.laws.specs.Walk.{Each}
-use Rattle.laws.specs.Parse.{WordAt}
+use Rattle.laws.specs.Relay.{itemsOf, relay-items}
 use Rattle.laws.specs.Demands.{unpack-delivers}
 use Rattle.spokeshaver.specs.Contracts.{numberIn, countIn, CheckPromise, PackPromise, UnpackPromise}
-use Rattle.promises.specs.Results.{accepted-checks, Writes, pack-writes, unpack-writes, pack-fits, unpack-fits, pack-full, unpack-full}
+use Rattle.promises.specs.Results.{check-accepts, accepted-checks, Writes, pack-writes, unpack-writes, pack-fits, unpack-fits, pack-full, unpack-full}
+use Rattle.promises.specs.Room.{relay-most, pack-most, unpack-most, all-long-accepted}
 use Rattle.promises.specs.WordsHold.{shorten-least, shorten-never, expand-right, expand-back}
 use Rattle.promises.specs.Promises.{result, Packed, Unpacked, Demand2}
 use Rattle.promises.specs.OutcomesHold.{answers}
@@ -132,53 +129,6 @@ unpack-right dictionary kernel out right r out′ p zero =
       same = unpacked-program dictionary kernel right (w .instrs) (w .given);
     }
 
--- ---- room
-
--- Long words only take two places each, and any take at least one.
-two-each : (kernel : List ℕ) (a : ℕ) (k : List Instr) → Laid a k → Each (WordAt longOnly kernel) k → endFrom a k ≡ a + 2 * length k
-unfolding Laid Each endFrom
-two-each kernel a [] l e = omega arith
-two-each kernel a (i ∷ k) l e =
-    let rest = two-each kernel (nextOf i) k (l .2) (e .1) in
-    let here = l .0 in
-    let two = e .0 .two refl in
-    omega arith
-
-one-each : (a : ℕ) (k : List Instr) → Laid a k → a + length k ≤ endFrom a k
-unfolding Laid endFrom
-one-each a [] l = omega arith
-one-each a (i ∷ k) l =
-    let rest = one-each (nextOf i) k (l .2) in
-    let here = l .0 in
-    let nonempty = l .1 in
-    omega arith
-
--- A relayout takes at most two places for each instruction.
-relay-most : (form : Form) (k : List Instr) → length (relay form k) ≤ 16 * length k
-relay-most form k =
-    let l = relay-length form k in
-    let n = end-near 0 (map (piece form) k) in
-    let m = length-map k (piece form) in
-    omega arith
-
--- What packing makes of an accepted kernel of long words is at most as long as the kernel,
-pack-most : (dictionary kernel : List ℕ) → areBytes kernel ≡ true → (k : List Instr) → accepted longOnly dictionary kernel ≡ good k
-    → length (relay (shorten (dictionaryOf dictionary)) k) ≤ length kernel
-pack-most dictionary kernel right k given =
-    let h = kernel-of longOnly dictionary kernel right k given in
-    let most = relay-most (shorten (dictionaryOf dictionary)) k in
-    let ends = two-each kernel 0 k (h .sound .laid) (h .words) in
-    omega (arith, h .ends)
-
--- and what unpacking makes of any accepted kernel at most twice as long.
-unpack-most : (dictionary kernel : List ℕ) → areBytes kernel ≡ true → (k : List Instr) → accepted longAndShort dictionary kernel ≡ good k
-    → length (relay longForm k) ≤ 2 * length kernel
-unpack-most dictionary kernel right k given =
-    let h = kernel-of longAndShort dictionary kernel right k given in
-    let most = relay-most longForm k in
-    let ends = one-each 0 k (h .sound .laid) in
-    omega (arith, h .ends)
-
 -- ---- the demand
 
 pub demand-2 : Demand2
@@ -188,7 +138,12 @@ demand-2 =
       never = λ dictionary word out bytes r out′ p. shorten-never dictionary word out bytes r out′ p;
       expands = λ dictionary word out r out′ p. expand-right dictionary word out r out′ p;
       expandsBack = λ dictionary word out bytes r out′ p. expand-back dictionary word out bytes r out′ p;
-      packs = λ dictionary kernel out right k given room r out′ p.
+      packs = λ dictionary kernel out right c checked zero long room r out′ p.
+          let t = answers .check dictionary kernel c checked in
+          let g = check-accepts dictionary kernel (sym (t .number) ∙ zero) in
+          let k = g .instrs in
+          let count : countIn c ≡ length k = t .count ∙ ap (λ (x : Answer). x .count) (accepted-checks dictionary kernel k (g .are)) in
+          let given = all-long-accepted dictionary kernel right k (g .are) (long ∙ ap (λ (n : ℕ). 16 * n) count) in
           let most = pack-most dictionary kernel right k given in
           answers .pack dictionary kernel out r out′ p .number ∙ pack-fits dictionary kernel out k given (omega arith);
       packRoom = λ dictionary kernel out right room r out′ p full.
@@ -198,9 +153,13 @@ demand-2 =
       packed = λ dictionary kernel out right r out′ p zero. pack-right dictionary kernel out right r out′ p zero;
       checked = λ dictionary kernel out right r out′ p zero. pack-checked dictionary kernel out right r out′ p zero;
       unpacksBack = λ dictionary kernel out right r out′ p zero. unpack-back dictionary kernel out right r out′ p zero;
-      unpacks = λ dictionary kernel out right k given room r out′ p.
-          let most = unpack-most dictionary kernel right k given in
-          answers .unpack dictionary kernel out r out′ p .number ∙ unpack-fits dictionary kernel out k given (omega arith);
+      unpacks = λ dictionary kernel out c checked zero room r out′ p.
+          let t = answers .check dictionary kernel c checked in
+          let g = check-accepts dictionary kernel (sym (t .number) ∙ zero) in
+          let k = g .instrs in
+          let count : countIn c ≡ length k = t .count ∙ ap (λ (x : Answer). x .count) (accepted-checks dictionary kernel k (g .are)) in
+          let most = relay-most longForm k in
+          answers .unpack dictionary kernel out r out′ p .number ∙ unpack-fits dictionary kernel out k (g .are) (omega arith);
       unpackRoom = λ dictionary kernel out right room r out′ p full.
           let f = unpack-full dictionary kernel out (sym (answers .unpack dictionary kernel out r out′ p .number) ∙ full) in
           let most = unpack-most dictionary kernel right (f .0) (f .1) in

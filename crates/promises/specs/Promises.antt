@@ -136,8 +136,10 @@ pub record Demand2 : Type 0 where
       → numberIn r ≡ 0 → (back : List ℕ) → 16 ≤ length back
       → (u : ℕ) (back′ : List ℕ) → ExpandPromise dictionary (result r out′) back u back′
       → (numberIn u ≡ 0) × (countIn u ≡ 16) × (back′ ≡ word ++ drop 16 back)
-  -- Pack answers 0 to every accepted kernel of long words if the output is as long as the kernel.
-  pub packs : (dictionary kernel out : List ℕ) → areBytes kernel ≡ true → (k : List Instr) → accepted longOnly dictionary kernel ≡ good k
+  -- Pack answers 0 to every kernel that check answers with 0 and that has 16 bytes for each instruction that check counts, so that all its words are long, if
+  -- the output is as long as the kernel.
+  pub packs : (dictionary kernel out : List ℕ) → areBytes kernel ≡ true → (c : ℕ) → CheckPromise dictionary kernel c → numberIn c ≡ 0
+      → length kernel ≡ 16 * countIn c
       → length kernel ≤ length out → (r : ℕ) (out′ : List ℕ) → PackPromise dictionary kernel out r out′ → numberIn r ≡ 0
   -- With such an output it never answers 14, whatever the kernel.
   pub packRoom : (dictionary kernel out : List ℕ) → areBytes kernel ≡ true → length kernel ≤ length out → (r : ℕ) (out′ : List ℕ)
@@ -153,10 +155,10 @@ pub record Demand2 : Type 0 where
       → numberIn r ≡ 0 → (back : List ℕ) → length kernel ≤ length back
       → (u : ℕ) (back′ : List ℕ) → UnpackPromise dictionary (result r out′) back u back′
       → (numberIn u ≡ 0) × (countIn u ≡ length kernel) × (back′ ≡ kernel ++ drop (length kernel) back)
-  -- Unpack answers 0 to every accepted kernel if the output is twice as long as the kernel.
-  pub unpacks : (dictionary kernel out : List ℕ) → areBytes kernel ≡ true → (k : List Instr) → accepted longAndShort dictionary kernel ≡ good k
-      → 2 * length kernel ≤ length out → (r : ℕ) (out′ : List ℕ) → UnpackPromise dictionary kernel out r out′ → numberIn r ≡ 0
-  -- With such an output it never answers 14, whatever the kernel.
+  -- Unpack answers 0 to every kernel that check answers with 0 if the output has 16 bytes for each instruction that check counts.
+  pub unpacks : (dictionary kernel out : List ℕ) (c : ℕ) → CheckPromise dictionary kernel c → numberIn c ≡ 0
+      → 16 * countIn c ≤ length out → (r : ℕ) (out′ : List ℕ) → UnpackPromise dictionary kernel out r out′ → numberIn r ≡ 0
+  -- With an output that is twice as long as the kernel it never answers 14, whatever the kernel.
   pub unpackRoom : (dictionary kernel out : List ℕ) → areBytes kernel ≡ true → 2 * length kernel ≤ length out → (r : ℕ) (out′ : List ℕ)
       → UnpackPromise dictionary kernel out r out′ → numberIn r ≡ 14 → ⊥
   -- If unpack answers 0, then every word is long, in order and without gaps.
