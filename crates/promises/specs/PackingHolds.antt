@@ -56,6 +56,10 @@ items-bytes (i ∷ items) = bytes-append (itemBytes i) (allBytes items) (go (i .
     go none word = bytes-bytesOf 16 word
     go (some s) word = bytes-bytesOf 8 s
 
+-- So a relayout is bytes.
+pub relaid-bytes : {forms : Forms} {form : Form} {dictionary kernel bytes : List ℕ} → Relaid forms form dictionary kernel bytes → areBytes bytes ≡ true
+relaid-bytes {form = form} w = ap areBytes (w .are ∙ relay-items form (w .instrs)) ∙ items-bytes (itemsOf form (w .instrs))
+
 module _ (dictionary kernel out : List ℕ) (right : areBytes kernel ≡ true) (r : ℕ) (out′ : List ℕ)
     (p : PackPromise dictionary kernel out r out′) (zero : numberIn r ≡ 0) where
   abbrev D : Dictionary
@@ -66,10 +70,6 @@ module _ (dictionary kernel out : List ℕ) (right : areBytes kernel ≡ true) (
       let t = answers .pack dictionary kernel out r out′ p in
       relaid-of longOnly (shorten D) dictionary kernel out (packCall dictionary kernel out)
       (pack-writes dictionary kernel out (sym (t .number) ∙ zero)) r out′ (t .count) (p .1)
-
-  -- What was packed is bytes.
-  pub pack-bytes : areBytes (result r out′) ≡ true
-  pack-bytes = ap areBytes (pack-wrote .are ∙ relay-items (shorten D) (pack-wrote .instrs)) ∙ items-bytes (itemsOf (shorten D) (pack-wrote .instrs))
 
   -- If spokeshaver_pack answers 0, then every instruction that can be shortened is, to its smallest short word, in order and without gaps.
   pub pack-right : Packed dictionary kernel (result r out′)
@@ -114,20 +114,25 @@ module _ (dictionary kernel out : List ℕ) (right : areBytes kernel ≡ true) (
 
 -- ---- unpacking
 
--- If spokeshaver_unpack answers 0, then every word is long, in order and without gaps.
-pub unpack-right : (dictionary kernel out : List ℕ) → areBytes kernel ≡ true → (r : ℕ) (out′ : List ℕ) → UnpackPromise dictionary kernel out r out′
-    → numberIn r ≡ 0 → Unpacked dictionary kernel (result r out′)
-unpack-right dictionary kernel out right r out′ p zero =
-    let t = answers .unpack dictionary kernel out r out′ p in
-    let w = relaid-of longAndShort longForm dictionary kernel out (unpackCall dictionary kernel out)
-    (unpack-writes dictionary kernel out (sym (t .number) ∙ zero)) r out′ (t .count) (p .1) in
-    record {
-      instrs = w .instrs;
-      given = w .given;
-      longer = relaidBy longForm (w .instrs);
-      taken = ap (accepted longOnly dictionary) (w .are) ∙ unpacked-accepted dictionary kernel right (w .instrs) (w .given);
-      same = unpacked-program dictionary kernel right (w .instrs) (w .given);
-    }
+module _ (dictionary kernel out : List ℕ) (right : areBytes kernel ≡ true) (r : ℕ) (out′ : List ℕ)
+    (p : UnpackPromise dictionary kernel out r out′) (zero : numberIn r ≡ 0) where
+  pub unpack-wrote : Relaid longAndShort longForm dictionary kernel (result r out′)
+  unpack-wrote =
+      let t = answers .unpack dictionary kernel out r out′ p in
+      relaid-of longAndShort longForm dictionary kernel out (unpackCall dictionary kernel out)
+      (unpack-writes dictionary kernel out (sym (t .number) ∙ zero)) r out′ (t .count) (p .1)
+
+  -- If spokeshaver_unpack answers 0, then every word is long, in order and without gaps.
+  pub unpack-right : Unpacked dictionary kernel (result r out′)
+  unpack-right =
+      let w = unpack-wrote in
+      record {
+        instrs = w .instrs;
+        given = w .given;
+        longer = relaidBy longForm (w .instrs);
+        taken = ap (accepted longOnly dictionary) (w .are) ∙ unpacked-accepted dictionary kernel right (w .instrs) (w .given);
+        same = unpacked-program dictionary kernel right (w .instrs) (w .given);
+      }
 
 -- ---- the demand
 

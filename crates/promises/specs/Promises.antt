@@ -10,7 +10,7 @@ use mathlib.Core.Path.{_≡_}
 use Prim.Native.Nat.{ℕ, suc, _+_, _*_, _^_, _<_, _≤_}
 use lib.ListN.{length, take, drop}
 use lib.Pow.{areBytes}
-use Rattle.paper.specs.Limits.{registerBytes, budgetLimit}
+use Rattle.paper.specs.Limits.{registerBytes, stateLength, budgetLimit}
 use Rattle.paper.specs.Bits.{numberAt}
 use Rattle.paper.specs.Dictionary.{dictionaryOf}
 use Rattle.paper.specs.Expand.{expand}
@@ -196,18 +196,42 @@ pub record Begun (state registers : List ℕ) : Type 0 where
   pub zero : numberIn answer ≡ 0
   pub whole : length registers ≡ registerBytes
 
--- How two runs are alike, of a kernel with the instructions k and one with the instructions l: the same answer, that is verdict and steps; the same
--- registers and flags; and the place, and each channel's waiting place, name the same instruction by its number, the end being one past the last. In
--- both every place is an instruction's start or the end.
-pub record Alike (k l : List Instr) (r : ℕ) (registers state : List ℕ) (r′ : ℕ) (registers′ state′ : List ℕ) : Type 0 where
-  pub sameAnswer : r ≡ r′
+-- Registers and a state from which a kernel with the instructions k runs: of the right sizes, the state of bytes, its place and each waiting channel's an
+-- instruction's start or the end, each channel one of the three.
+pub record Legal (k : List Instr) (registers state : List ℕ) : Type 0 where
+  pub registersWhole : length registers ≡ registerBytes
+  pub stateWhole : length state ≡ stateLength
+  pub bytes : areBytes state ≡ true
+  pub legal : stateLegal k registers state ≡ true
+
+-- Such registers and state of a kernel with the instructions k, and of one with the instructions l, name the same: the registers and the flags are equal; the
+-- same channels are awake and wait; and the place, and each channel's waiting place, name the same instruction by its number, the end being one past the last.
+pub record Same (k l : List Instr) (registers state registers′ state′ : List ℕ) : Type 0 where
+  pub legal : Legal k registers state
+  pub legal′ : Legal l registers′ state′
   pub sameRegisters : registers ≡ registers′
   pub sameFlag0 : half state 0 ≡ half state′ 0
   pub sameFlag1 : half state 2 ≡ half state′ 2
   pub samePlace : index k (half state 4) ≡ index l (half state′ 4)
   pub sameChannels : map (renameC (index k)) (channelsIn state 0 16) ≡ map (renameC (index l)) (channelsIn state′ 0 16)
-  pub legal : stateLegal k registers state ≡ true
-  pub legal′ : stateLegal l registers′ state′ ≡ true
+
+-- Two kernels run alike. The bench takes them for the instructions k and l. From registers and states that name the same, and with the same budget, up to
+-- 1,000,000, runs have the same answer, that is verdict and steps, and leave what names the same: so they can go on. A start names the same to both; and so from
+-- a start they run alike.
+pub record Alike (dictionary kernel kernel′ : List ℕ) : Type 0 where
+  pub k : List Instr
+  pub l : List Instr
+  pub taken : accepted longAndShort dictionary kernel ≡ good k
+  pub taken′ : accepted longAndShort dictionary kernel′ ≡ good l
+  pub runs : (registers state registers′ state′ : List ℕ) → Same k l registers state registers′ state′ → (budget : ℕ) → budget ≤ budgetLimit
+      → (r : ℕ) (registers₁ state₁ : List ℕ) → RunPromise dictionary kernel budget registers state r registers₁ state₁
+      → (q : ℕ) (registers₂ state₂ : List ℕ) → RunPromise dictionary kernel′ budget registers′ state′ q registers₂ state₂
+      → (r ≡ q) × Same k l registers₁ state₁ registers₂ state₂
+  pub starts : (state registers : List ℕ) → Begun state registers → Same k l registers state registers state
+  pub fromStart : (state registers : List ℕ) → Begun state registers → (budget : ℕ) → budget ≤ budgetLimit
+      → (r : ℕ) (registers₁ state₁ : List ℕ) → RunPromise dictionary kernel budget registers state r registers₁ state₁
+      → (q : ℕ) (registers₂ state₂ : List ℕ) → RunPromise dictionary kernel′ budget registers state q registers₂ state₂
+      → (r ≡ q) × Same k l registers₁ state₁ registers₂ state₂
 
 pub record Demand3 : Type 0 where
   -- Every run is the steps that it counts, from any registers and state, for every budget up to 1,000,000; a refused one is no step.
@@ -229,11 +253,9 @@ pub record Demand3 : Type 0 where
   pub runs : (state registers : List ℕ) → Begun state registers → (dictionary kernel : List ℕ) → areBytes kernel ≡ true
       → (c : ℕ) → CheckPromise dictionary kernel c → numberIn c ≡ 0 → (budget : ℕ) → budget ≤ budgetLimit
       → (r : ℕ) (registers′ state′ : List ℕ) → RunPromise dictionary kernel budget registers state r registers′ state′ → (numberIn r ≡ 20) ⊎ (numberIn r ≡ 21)
-  -- A kernel that pack answered with 0, and the bytes that it wrote, run alike: from a start, with every budget up to 1,000,000. The instructions k and l are
-  -- those for which the bench takes the two.
-  pub alike : (dictionary kernel out : List ℕ) → areBytes kernel ≡ true → (p : ℕ) (out′ : List ℕ) → PackPromise dictionary kernel out p out′ → numberIn p ≡ 0
-      → (state registers : List ℕ) → Begun state registers → (budget : ℕ) → budget ≤ budgetLimit
-      → (r : ℕ) (registers′ state′ : List ℕ) → RunPromise dictionary kernel budget registers state r registers′ state′
-      → (q : ℕ) (registers″ state″ : List ℕ) → RunPromise dictionary (result p out′) budget registers state q registers″ state″
-      → (k l : List Instr) → accepted longAndShort dictionary kernel ≡ good k → accepted longAndShort dictionary (result p out′) ≡ good l
-      → Alike k l r registers′ state′ q registers″ state″
+  -- A kernel that pack answered with 0, and the bytes that it wrote, run alike.
+  pub alike : (dictionary kernel out : List ℕ) → areBytes kernel ≡ true → (p : ℕ) (out′ : List ℕ) → PackPromise dictionary kernel out p out′
+      → numberIn p ≡ 0 → Alike dictionary kernel (result p out′)
+  -- So do a kernel that unpack answered with 0, and the bytes that it wrote.
+  pub alikeUnpacked : (dictionary kernel out : List ℕ) → areBytes kernel ≡ true → (p : ℕ) (out′ : List ℕ) → UnpackPromise dictionary kernel out p out′
+      → numberIn p ≡ 0 → Alike dictionary kernel (result p out′)

@@ -23,7 +23,7 @@ use Rattle.laws.specs.Same.{state-names}
 use Rattle.laws.specs.StateBytes.{state-halves, bytes-back}
 use Rattle.laws.specs.Lasting.{Lasting, run-lasting}
 use Rattle.laws.specs.Packing.{Kernel, kernel-of, kernel-near}
-use Rattle.laws.specs.Demands.{Ready, run-ready, step-ready, stored-ready, run-steps}
+use Rattle.laws.specs.Demands.{Ready, run-ready, step-ready, stored-back, stored-ready, run-steps}
 use Rattle.laws.specs.Calls.{step-unchanged}
 use Rattle.answers.specs.Numbers.{stepNumbers}
 use Rattle.answers.specs.Small.{number-back}
@@ -61,13 +61,13 @@ module _ (dictionary kernel registers bytes : List ℕ) (right : areBytes kernel
     kernel-lent = kernel-of longAndShort dictionary kernel right k (rw (sizes .0) (r .judged))
 
     -- the sizes,
-    buffers : (length registers ≡ registerBytes) × (length bytes ≡ stateLength)
+    pub buffers : (length registers ≡ registerBytes) × (length bytes ≡ stateLength)
     buffers =
         let b = both (eqb (length registers) registerBytes) _ (sizes .1) in
         (eqb-true (length registers) registerBytes (b .0), eqb-true (length bytes) stateLength (b .1))
 
     -- and the state.
-    legal-parts : (allThree bytes 16 ≡ true) × (stateLands k lent ≡ true)
+    pub legal-parts : (allThree bytes 16 ≡ true) × (stateLands k lent ≡ true)
     unfolding stateLegal
     legal-parts = both (allThree bytes 16) (stateLands k lent) (r .legal)
 
@@ -101,6 +101,15 @@ module _ (dictionary kernel registers bytes : List ℕ) (right : areBytes kernel
         let after = run-lasting k (kernel-lent .sound) registerBytes budget lent lasting-lent in
         rw (run-ready dictionary kernel registers bytes k r budget le)
         (stored-ready dictionary kernel k (kernel-lent .sound) (omega arith) (sizes .0) (r .judged) (run k budget lent .state) after)
+
+    -- Read again, it is the state that the machine's run comes to.
+    pub run-leaves : (budget : ℕ) → budget ≤ budgetLimit
+        → let c = runCall dictionary kernel budget registers bytes in stateOf (c .registers) (c .state) ≡ run k budget lent .state
+    run-leaves budget le =
+        let near : endOf k ≤ 2048 = kernel-near longAndShort dictionary kernel k kernel-lent in
+        let after = run-lasting k (kernel-lent .sound) registerBytes budget lent lasting-lent in
+        rw (run-ready dictionary kernel registers bytes k r budget le)
+        (stored-back dictionary kernel k (kernel-lent .sound) (omega arith) (sizes .0) (r .judged) (run k budget lent .state) after)
 
     -- One step more is the step and then the run.
     pub run-suc : stops k lent ≡ none → (n : ℕ) → suc n ≤ budgetLimit
