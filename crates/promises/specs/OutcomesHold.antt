@@ -3,9 +3,9 @@ use mathlib.Core.Bool.{Bool}
 use mathlib.Core.List.{List}
 use mathlib.Core.Logic.{inl, inr}
 use mathlib.Core.Path.{_≡_, sym, ap, _∙_}
-use Prim.Native.Nat.{ℕ}
+use Prim.Native.Nat.{ℕ, _*_}
 use native.Mathlib.Omega.{arith}
-use lib.ListN.{length, drop}
+use lib.ListN.{length, take, drop}
 use Rattle.paper.specs.Calls.{Answer, asNumber, Written, checkCall, packCall, unpackCall, shortenCall, expandCall, decodeCall, decodePart, startCall, stepCall, runCall}
 use Rattle.laws.specs.Calls.{Confined, pack-confined, unpack-confined, shorten-confined, expand-confined, start-confined, decode-refused, step-unchanged, run-unchanged}
 use Rattle.spokeshaver.specs.Contracts.{numberIn, offsetIn, countIn, Wrote}
@@ -98,7 +98,7 @@ demand-1 =
           let t = answers .decode dictionary kernel place r p in
           let long : length (decodePart dictionary kernel place) ≡ countIn r = part-length dictionary kernel place ∙ sym (t .count) in
           record {
-            are = rw (t .count) (part-are dictionary kernel place);
+            are = part-are dictionary kernel place ∙ ap (λ (n : ℕ). take n (drop (8 * place) kernel)) (sym (t .count));
             counted = long;
             empty = λ n. decode-refused dictionary kernel place (λ e. n (t .number ∙ e));
             whole = λ none zero.

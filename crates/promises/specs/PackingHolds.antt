@@ -134,6 +134,24 @@ module _ (dictionary kernel out : List ℕ) (right : areBytes kernel ≡ true) (
         same = unpacked-program dictionary kernel right (w .instrs) (w .given);
       }
 
+-- ---- what check counts
+
+-- The instructions of a kernel that spokeshaver_check answers with 0, as many as it counts.
+pub record Counted (dictionary kernel : List ℕ) (c : ℕ) : Type 0 where
+  pub instrs : List Instr
+  pub are : accepted longAndShort dictionary kernel ≡ good instrs
+  pub count : countIn c ≡ length instrs
+
+pub check-counts : (dictionary kernel : List ℕ) (c : ℕ) → CheckPromise dictionary kernel c → numberIn c ≡ 0 → Counted dictionary kernel c
+check-counts dictionary kernel c checked zero =
+    let t = answers .check dictionary kernel c checked in
+    let g = check-accepts dictionary kernel (sym (t .number) ∙ zero) in
+    record {
+      instrs = g .instrs;
+      are = g .are;
+      count = t .count ∙ ap (λ (x : Answer). x .count) (accepted-checks dictionary kernel (g .instrs) (g .are));
+    }
+
 -- ---- the demand
 
 pub demand-2 : Demand2
@@ -144,11 +162,11 @@ demand-2 =
       expands = λ dictionary word out r out′ p. expand-right dictionary word out r out′ p;
       expandsBack = λ dictionary word out bytes r out′ p. expand-back dictionary word out bytes r out′ p;
       packs = λ dictionary kernel out right c checked zero long room r out′ p.
-          let t = answers .check dictionary kernel c checked in
-          let g = check-accepts dictionary kernel (sym (t .number) ∙ zero) in
+          let g = check-counts dictionary kernel c checked zero in
           let k = g .instrs in
-          let count : countIn c ≡ length k = t .count ∙ ap (λ (x : Answer). x .count) (accepted-checks dictionary kernel k (g .are)) in
-          let given = all-long-accepted dictionary kernel right k (g .are) (long ∙ ap (λ (n : ℕ). 16 * n) count) in
+          let count = g .count in
+          let sixteen : length kernel ≡ 16 * length k = omega arith in
+          let given = all-long-accepted dictionary kernel right k (g .are) sixteen in
           let most = pack-most dictionary kernel right k given in
           answers .pack dictionary kernel out r out′ p .number ∙ pack-fits dictionary kernel out k given (omega arith);
       packRoom = λ dictionary kernel out right room r out′ p full.
@@ -159,10 +177,9 @@ demand-2 =
       checked = λ dictionary kernel out right r out′ p zero. pack-checked dictionary kernel out right r out′ p zero;
       unpacksBack = λ dictionary kernel out right r out′ p zero. unpack-back dictionary kernel out right r out′ p zero;
       unpacks = λ dictionary kernel out c checked zero room r out′ p.
-          let t = answers .check dictionary kernel c checked in
-          let g = check-accepts dictionary kernel (sym (t .number) ∙ zero) in
+          let g = check-counts dictionary kernel c checked zero in
           let k = g .instrs in
-          let count : countIn c ≡ length k = t .count ∙ ap (λ (x : Answer). x .count) (accepted-checks dictionary kernel k (g .are)) in
+          let count = g .count in
           let most = relay-most longForm k in
           answers .unpack dictionary kernel out r out′ p .number ∙ unpack-fits dictionary kernel out k (g .are) (omega arith);
       unpackRoom = λ dictionary kernel out right room r out′ p full.

@@ -13,10 +13,10 @@ use Rattle.paper.specs.Calls.{asNumber, Changed, stepCall, runCall}
 use Rattle.laws.specs.Calls.{step-unchanged, run-verdict}
 use Rattle.laws.specs.Demands.{run-ready, alike}
 use Rattle.spokeshaver.specs.Contracts.{numberIn, countIn, CheckPromise, StepPromise, RunPromise}
-use Rattle.promises.specs.Results.{check-accepts}
 use Rattle.promises.specs.Stepping.{follows, run-suc, run-made}
 use Rattle.promises.specs.Promises.{WasSteps, Begun, Demand3}
 use Rattle.promises.specs.OutcomesHold.{answers}
+use Rattle.promises.specs.PackingHolds.{check-counts}
 use Rattle.promises.specs.Starts.{start-ready}
 use Rattle.promises.specs.AlikeHolds.{packed-alike, unpacked-alike}
 
@@ -85,7 +85,7 @@ module _ (state registers : List ℕ) (b : Begun state registers) where
       → (budget : ℕ) → budget ≤ budgetLimit → (r : ℕ) (registers′ state′ : List ℕ)
       → RunPromise dictionary kernel budget registers state r registers′ state′ → (numberIn r ≡ 20) ⊎ (numberIn r ≡ 21)
   accepted-runs dictionary kernel right c checked zero budget le r registers′ state′ p =
-      let g = check-accepts dictionary kernel (sym (answers .check dictionary kernel c checked .number) ∙ zero) in
+      let g = check-counts dictionary kernel c checked zero in
       let k = g .instrs in
       let law = run-ready dictionary kernel registers state k (start-ready state registers b dictionary kernel right k (g .are)) budget le in
       let t = answers .run dictionary kernel budget registers state r registers′ state′ p in
