@@ -1,6 +1,7 @@
 -- Kernels with one program run alike, and so do a kernel and its packed or unpacked form. Assumes nothing.
 use mathlib.Core.Bool.{true}
 use mathlib.Core.List.{List}
+use mathlib.Core.Logic.{_⊎_, inl, inr}
 use mathlib.Core.Path.{_≡_, sym, ap, _∙_}
 use Prim.Native.Nat.{ℕ, _≤_}
 use lib.ListN.{length}
@@ -16,10 +17,12 @@ use Rattle.paper.specs.Calls.{asNumber, verdict, Changed, accepted, ranAs, runC
 use Rattle.laws.specs.Names.{named, namedOutcome, program, relaidBy, longForm}
 use Rattle.laws.specs.Same.{same-runs}
 use Rattle.laws.specs.Packing.{kernel-of, long-accepted, packed-accepted, packed-program, unpacked-accepted, unpacked-program, accepted-parts}
+use Rattle.laws.specs.Calls.{run-verdict}
 use Rattle.laws.specs.Demands.{Ready, run-ready}
 use Rattle.spokeshaver.specs.Contracts.{numberIn, PackPromise, UnpackPromise, RunPromise}
 use Rattle.promises.specs.Stepping.{state-bytes, buffers, legal-parts, run-leaves-ready, run-leaves}
-use Rattle.promises.specs.Promises.{result, Begun, Legal, Same, Alike}
+use Rattle.promises.specs.Promises.{result, Begun, Legal, Same, RanAlike, Alike}
+use Rattle.promises.specs.OutcomesHold.{answers}
 use Rattle.promises.specs.PackingHolds.{pack-wrote, unpack-wrote, relaid-bytes}
 use Rattle.promises.specs.Starts.{started-bytes, start-ready, start-names}
 
@@ -79,6 +82,12 @@ module _ (dictionary kernel : List ℕ) (right : areBytes kernel ≡ true) (k : 
     after-answer : r ≡ asNumber (verdict (outcome .verdict) (outcome .steps))
     after-answer = p .0 ∙ ap (λ (c : Changed). asNumber (c .answer)) made
 
+    pub after-verdict : (numberIn r ≡ 20) ⊎ (numberIn r ≡ 21)
+    after-verdict =
+        let n : numberIn r ≡ outcome .verdict =
+        answers .run dictionary kernel budget registers state r registers₁ state₁ p .number ∙ ap (λ (c : Changed). c .answer .number) made in
+        elim (run-verdict k budget (stateOf registers state)) [ inl e ↦ inl (n ∙ e) | inr e ↦ inr (n ∙ e) ]
+
     after-state : stateOf registers₁ state₁ ≡ outcome .state
     after-state =
         (λ i. stateOf (p .1 i) (p .2 i)) ∙ run-leaves dictionary kernel registers state right (h .bytes) k (legal-ready registers state h) budget le
@@ -90,7 +99,7 @@ module _ (dictionary kernel : List ℕ) (right : areBytes kernel ≡ true) (k : 
         (rw (p .1, p .2) (run-leaves-ready dictionary kernel registers state right (h .bytes) k (legal-ready registers state h) budget le))
 
   -- A start leaves such registers and state.
-  start-legal : (state registers : List ℕ) → Begun state registers → Legal k registers state
+  pub start-legal : (state registers : List ℕ) → Begun state registers → Legal k registers state
   start-legal state registers b =
       ready-legal registers state (started-bytes state registers b) (start-ready state registers b dictionary kernel right k taken)
 
@@ -101,7 +110,7 @@ module _ (dictionary kernel kernel′ : List ℕ) (right : areBytes kernel ≡ t
   runs-alike : (registers state registers′ state′ : List ℕ) → Same k l registers state registers′ state′ → (budget : ℕ) → budget ≤ budgetLimit
       → (r : ℕ) (registers₁ state₁ : List ℕ) → RunPromise dictionary kernel budget registers state r registers₁ state₁
       → (q : ℕ) (registers₂ state₂ : List ℕ) → RunPromise dictionary kernel′ budget registers′ state′ q registers₂ state₂
-      → (r ≡ q) × Same k l registers₁ state₁ registers₂ state₂
+      → RanAlike k l r registers₁ state₁ q registers₂ state₂
   runs-alike registers state registers′ state′ s budget le r registers₁ state₁ p q registers₂ state₂ p′ =
       let h = kernel-of longAndShort dictionary kernel right k taken in
       let h′ = kernel-of longAndShort dictionary kernel′ right′ l taken′ in
@@ -111,17 +120,21 @@ module _ (dictionary kernel kernel′ : List ℕ) (right : areBytes kernel ≡ t
       let lands′ = legal-parts dictionary kernel′ registers′ state′ right′ (s .legal′ .bytes) l ready′ .1 in
       let same : namedOutcome k (run k budget (stateOf registers state)) ≡ namedOutcome l (run l budget (stateOf registers′ state′)) =
       same-runs k l (h .sound) (h′ .sound) one (stateOf registers state) (stateOf registers′ state′) lands lands′
-      (named-of k l registers state registers′ state′ s) budget in (
-        after-answer dictionary kernel right k taken registers state (s .legal) budget le r registers₁ state₁ p
+      (named-of k l registers state registers′ state′ s) budget in
+      record {
+        sameAnswer =
+            after-answer dictionary kernel right k taken registers state (s .legal) budget le r registers₁ state₁ p
             ∙ ap (λ (o : Outcome). asNumber (verdict (o .verdict) (o .steps))) same
-            ∙ sym (after-answer dictionary kernel′ right′ l taken′ registers′ state′ (s .legal′) budget le q registers₂ state₂ p′),
-        same-of k l registers₁ state₁ registers₂ state₂
+            ∙ sym (after-answer dictionary kernel′ right′ l taken′ registers′ state′ (s .legal′) budget le q registers₂ state₂ p′);
+        answered = after-verdict dictionary kernel right k taken registers state (s .legal) budget le r registers₁ state₁ p;
+        left =
+            same-of k l registers₁ state₁ registers₂ state₂
             (after-legal dictionary kernel right k taken registers state (s .legal) budget le r registers₁ state₁ p)
             (after-legal dictionary kernel′ right′ l taken′ registers′ state′ (s .legal′) budget le q registers₂ state₂ p′)
             (ap (named k) (after-state dictionary kernel right k taken registers state (s .legal) budget le r registers₁ state₁ p)
             ∙ ap (λ (o : Outcome). o .state) same
-            ∙ sym (ap (named l) (after-state dictionary kernel′ right′ l taken′ registers′ state′ (s .legal′) budget le q registers₂ state₂ p′))),
-      )
+            ∙ sym (ap (named l) (after-state dictionary kernel′ right′ l taken′ registers′ state′ (s .legal′) budget le q registers₂ state₂ p′)));
+      }
 
   starts-alike : (state registers : List ℕ) → Begun state registers → Same k l registers state registers state
   starts-alike state registers b =

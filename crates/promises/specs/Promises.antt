@@ -215,9 +215,14 @@ pub record Same (k l : List Instr) (registers state registers′ state′ : List
   pub samePlace : index k (half state 4) ≡ index l (half state′ 4)
   pub sameChannels : map (renameC (index k)) (channelsIn state 0 16) ≡ map (renameC (index l)) (channelsIn state′ 0 16)
 
--- Two kernels run alike. The bench takes them for the instructions k and l. From registers and states that name the same, and with the same budget, up to
--- 1,000,000, runs have the same answer, that is verdict and steps, and leave what names the same: so they can go on. A start names the same to both; and so from
--- a start they run alike.
+-- Two runs were alike: the same answer, that is verdict and steps, and it is 20 or 21, no refusal; and what they left names the same.
+pub record RanAlike (k l : List Instr) (r : ℕ) (registers state : List ℕ) (r′ : ℕ) (registers′ state′ : List ℕ) : Type 0 where
+  pub sameAnswer : r ≡ r′
+  pub answered : (numberIn r ≡ 20) ⊎ (numberIn r ≡ 21)
+  pub left : Same k l registers state registers′ state′
+
+-- Two kernels run alike. The bench takes them for the instructions k and l. From registers and states that name the same, runs with the same budget, up to
+-- 1,000,000, are alike; and since they leave what names the same, they can go on. A start names the same to both; so from a start their runs are alike.
 pub record Alike (dictionary kernel kernel′ : List ℕ) : Type 0 where
   pub k : List Instr
   pub l : List Instr
@@ -226,12 +231,12 @@ pub record Alike (dictionary kernel kernel′ : List ℕ) : Type 0 where
   pub runs : (registers state registers′ state′ : List ℕ) → Same k l registers state registers′ state′ → (budget : ℕ) → budget ≤ budgetLimit
       → (r : ℕ) (registers₁ state₁ : List ℕ) → RunPromise dictionary kernel budget registers state r registers₁ state₁
       → (q : ℕ) (registers₂ state₂ : List ℕ) → RunPromise dictionary kernel′ budget registers′ state′ q registers₂ state₂
-      → (r ≡ q) × Same k l registers₁ state₁ registers₂ state₂
+      → RanAlike k l r registers₁ state₁ q registers₂ state₂
   pub starts : (state registers : List ℕ) → Begun state registers → Same k l registers state registers state
   pub fromStart : (state registers : List ℕ) → Begun state registers → (budget : ℕ) → budget ≤ budgetLimit
       → (r : ℕ) (registers₁ state₁ : List ℕ) → RunPromise dictionary kernel budget registers state r registers₁ state₁
       → (q : ℕ) (registers₂ state₂ : List ℕ) → RunPromise dictionary kernel′ budget registers state q registers₂ state₂
-      → (r ≡ q) × Same k l registers₁ state₁ registers₂ state₂
+      → RanAlike k l r registers₁ state₁ q registers₂ state₂
 
 pub record Demand3 : Type 0 where
   -- Every run is the steps that it counts, from any registers and state, for every budget up to 1,000,000; a refused one is no step.

@@ -1,24 +1,22 @@
 -- Demand 3 holds: a run is the steps that it counts, and a long kernel and its packed form run alike. Assumes nothing.
 use mathlib.Core.Bool.{true}
 use mathlib.Core.List.{List}
-use mathlib.Core.Logic.{_⊎_, inl, inr}
+use mathlib.Core.Logic.{_⊎_}
 use mathlib.Core.Path.{_≡_, sym, ap, _∙_}
 use Prim.Native.Nat.{ℕ, suc, _≤_}
 use native.Mathlib.Omega.{arith}
 use lib.Pow.{areBytes}
 use Rattle.paper.specs.Limits.{budgetLimit}
 use Rattle.paper.specs.Machine.{run}
-use Rattle.paper.specs.State.{stateOf}
 use Rattle.paper.specs.Calls.{asNumber, Changed, stepCall, runCall}
-use Rattle.laws.specs.Calls.{step-unchanged, run-verdict}
-use Rattle.laws.specs.Demands.{run-ready, alike}
+use Rattle.laws.specs.Calls.{step-unchanged}
+use Rattle.laws.specs.Demands.{alike}
 use Rattle.spokeshaver.specs.Contracts.{numberIn, countIn, CheckPromise, StepPromise, RunPromise}
 use Rattle.promises.specs.Stepping.{follows, run-suc, run-made}
 use Rattle.promises.specs.Promises.{WasSteps, Begun, Demand3}
 use Rattle.promises.specs.OutcomesHold.{answers}
 use Rattle.promises.specs.PackingHolds.{check-counts}
-use Rattle.promises.specs.Starts.{start-ready}
-use Rattle.promises.specs.AlikeHolds.{packed-alike, unpacked-alike}
+use Rattle.promises.specs.AlikeHolds.{after-verdict, start-legal, packed-alike, unpacked-alike}
 
 -- ---- a run is single steps
 
@@ -79,18 +77,14 @@ module _ (dictionary kernel registers state : List ℕ) (right : areBytes kernel
 
 -- ---- from a start
 
-module _ (state registers : List ℕ) (b : Begun state registers) where
-  -- What check accepts, runs.
-  accepted-runs : (dictionary kernel : List ℕ) → areBytes kernel ≡ true → (c : ℕ) → CheckPromise dictionary kernel c → numberIn c ≡ 0
-      → (budget : ℕ) → budget ≤ budgetLimit → (r : ℕ) (registers′ state′ : List ℕ)
-      → RunPromise dictionary kernel budget registers state r registers′ state′ → (numberIn r ≡ 20) ⊎ (numberIn r ≡ 21)
-  accepted-runs dictionary kernel right c checked zero budget le r registers′ state′ p =
-      let g = check-counts dictionary kernel c checked zero in
-      let k = g .instrs in
-      let law = run-ready dictionary kernel registers state k (start-ready state registers b dictionary kernel right k (g .are)) budget le in
-      let t = answers .run dictionary kernel budget registers state r registers′ state′ p in
-      let n : numberIn r ≡ run k budget (stateOf registers state) .verdict = t .number ∙ ap (λ (x : Changed). x .answer .number) law in
-      elim (run-verdict k budget (stateOf registers state)) [ inl e ↦ inl (n ∙ e) | inr e ↦ inr (n ∙ e) ]
+-- What check accepts, runs.
+accepted-runs : (state registers : List ℕ) → Begun state registers → (dictionary kernel : List ℕ) → areBytes kernel ≡ true
+    → (c : ℕ) → CheckPromise dictionary kernel c → numberIn c ≡ 0 → (budget : ℕ) → budget ≤ budgetLimit
+    → (r : ℕ) (registers′ state′ : List ℕ) → RunPromise dictionary kernel budget registers state r registers′ state′ → (numberIn r ≡ 20) ⊎ (numberIn r ≡ 21)
+accepted-runs state registers b dictionary kernel right c checked zero =
+    let g = check-counts dictionary kernel c checked zero in
+    after-verdict dictionary kernel right (g .instrs) (g .are) registers state
+    (start-legal dictionary kernel right (g .instrs) (g .are) state registers b)
 
 -- ---- the demand
 
@@ -102,7 +96,7 @@ demand-3 =
           run-one-more dictionary kernel registers state right small a registers₁ state₁ one;
       noMore = λ dictionary kernel registers state right small a registers₁ state₁ one.
           run-no-more dictionary kernel registers state right small a registers₁ state₁ one;
-      runs = λ state registers b. accepted-runs state registers b;
+      runs = accepted-runs;
       alike = λ dictionary kernel out right p out′ pack zero. packed-alike dictionary kernel out right p out′ pack zero;
       alikeUnpacked = λ dictionary kernel out right p out′ unpack zero. unpacked-alike dictionary kernel out right p out′ unpack zero;
     }
