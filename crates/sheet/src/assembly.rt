@@ -3,7 +3,7 @@ use crate::bytes::put_dword;
 ghost use mathlib.Core.Path.{_≡_};
 ghost use Prim.Native.Nat.{_<_};
 ghost use Rattle.paper.specs.Calls.{Answer, asNumber};
-ghost use Rattle.spokeshaver.specs.Small.{Small};
+ghost use Rattle.answers.specs.Small.{Small};
 
 // Where the numbers of the datatype and of the source table start in a dictionary's bytes; those of the control table start at 0.
 const DATATYPE: usize = 128;

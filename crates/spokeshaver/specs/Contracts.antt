@@ -1,8 +1,9 @@
 -- What each exported call promises of its answer r and of what it leaves in each buffer that it was lent, whatever it was lent: an equation with the
--- paper's definition of the call. The contracts in src/lib.rt are these, and Promises says what follows from them. Assumes nothing.
+-- paper's definition of the call. The contracts in src/lib.rt are these; OneOutcome says that they leave nothing open, and Promises of the crate `promises` what
+-- follows from them. Assumes nothing.
 use mathlib.Core.Path.{_≡_}
 use mathlib.Core.List.{List}
-use Prim.Native.Nat.{ℕ, suc, _/_, _%_, _^_}
+use Prim.Native.Nat.{ℕ, _/_, _%_, _^_}
 use Rattle.paper.specs.Calls.{asNumber, Written, Changed, checkCall, packCall, unpackCall, shortenCall, expandCall, decodeCall, startCall, stepCall, runCall}
 
 -- ---- an answer taken apart, as the header's macros do
@@ -58,12 +59,3 @@ StepPromise dictionary kernel registers state r registers′ state′ = Left (st
 abbrev pub RunPromise : List ℕ → List ℕ → ℕ → List ℕ → List ℕ → ℕ → List ℕ → List ℕ → Type 0
 RunPromise dictionary kernel budget registers state r registers′ state′ =
     Left (runCall dictionary kernel budget registers state) r registers′ state′
-
--- ---- steps one after the other
-
--- So many steps of a kernel, each made by the call from what the one before it left, and each answered with 0.
-pub data Steps (dictionary kernel : List ℕ) : ℕ → List ℕ → List ℕ → List ℕ → List ℕ → Type 0 where
-  nothing : {registers state : List ℕ} → Steps dictionary kernel 0 registers state registers state
-  onward : {n r : ℕ} {registers state registers₁ state₁ registers′ state′ : List ℕ}
-      → StepPromise dictionary kernel registers state r registers₁ state₁ → numberIn r ≡ 0
-      → Steps dictionary kernel n registers₁ state₁ registers′ state′ → Steps dictionary kernel (suc n) registers state registers′ state′

@@ -1,12 +1,10 @@
 // The calls of the C boundary (include/spokeshaver.h): numbers and byte slices only. Each answers one number, by `asNumber`, and leaves in what it is
 // lent what the paper's definition of the call says, for all inputs; nothing is required of bytes and numbers. What each promises stands in specs/Contracts.antt,
-// what follows from it in specs/Promises.antt.
-mod answers;
-
-use crate::answers::checked;
-use crate::answers::decoded;
-use crate::answers::ran;
-use crate::answers::wrote;
+// what follows from it in the crate `promises`.
+use answers::checked;
+use answers::decoded;
+use answers::ran;
+use answers::wrote;
 use kernel::check::check;
 use kernel::decode::decode;
 use machine::start::start;

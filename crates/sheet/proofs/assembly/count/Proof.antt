@@ -1,5 +1,5 @@
 -- The highest 32 bits of an answer that fits are its count. Assumes nothing.
-use Rattle.spokeshaver.specs.Small.{count-back}
+use Rattle.answers.specs.Small.{count-back}
 use Rattle.sheet.proofs.assembly.count.Statement.{statement}
 use Rattle.sheet.proofs.assembly.count.Tie as tie
 

@@ -1,5 +1,5 @@
 -- The lowest 8 bits of an answer that fits are its number. Assumes nothing.
-use Rattle.spokeshaver.specs.Small.{number-back}
+use Rattle.answers.specs.Small.{number-back}
 use Rattle.sheet.proofs.assembly.number.Statement.{statement}
 use Rattle.sheet.proofs.assembly.number.Tie as tie
 

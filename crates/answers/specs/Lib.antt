@@ -1,0 +1,7 @@
+-- Answers as one number: which numbers each call answers, what fits in the one number in which an answer crosses to C, that it can be taken apart again, and
+-- that every call's answer fits.
+pub mod Numbers
+pub mod Small
+pub mod Judging
+pub mod Kernels
+pub mod Calls

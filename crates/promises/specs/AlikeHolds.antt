@@ -1,0 +1,178 @@
+-- Kernels with one program run alike, and so do a kernel and its packed or unpacked form. Assumes nothing.
+use mathlib.Core.Bool.{true}
+use mathlib.Core.List.{List}
+use mathlib.Core.Logic.{_⊎_, inl, inr}
+use mathlib.Core.Path.{_≡_, sym, ap, _∙_}
+use Prim.Native.Nat.{ℕ, _≤_}
+use lib.ListN.{length}
+use lib.Pow.{areBytes}
+use borrow.Author.Tests.{eq-eqb}
+use Rattle.paper.specs.Limits.{registerBytes, stateLength, budgetLimit}
+use Rattle.paper.specs.Dictionary.{dictionaryOf}
+use Rattle.paper.specs.Shorten.{shorten}
+use Rattle.paper.specs.Kernel.{Instr, longAndShort, longOnly, good}
+use Rattle.paper.specs.Machine.{State, Outcome, run}
+use Rattle.paper.specs.State.{stateOf}
+use Rattle.paper.specs.Calls.{asNumber, verdict, Changed, accepted, ranAs, runCall}
+use Rattle.laws.specs.Names.{named, namedOutcome, program, relaidBy, longForm}
+use Rattle.laws.specs.Same.{same-runs}
+use Rattle.laws.specs.Packing.{kernel-of, long-accepted, packed-accepted, packed-program, unpacked-accepted, unpacked-program, accepted-parts}
+use Rattle.laws.specs.Calls.{run-verdict}
+use Rattle.laws.specs.Demands.{Ready, run-ready}
+use Rattle.spokeshaver.specs.Contracts.{numberIn, PackPromise, UnpackPromise, RunPromise}
+use Rattle.promises.specs.Stepping.{state-bytes, buffers, legal-parts, run-leaves-ready, run-leaves}
+use Rattle.promises.specs.Promises.{result, Begun, Legal, Same, RanAlike, Alike}
+use Rattle.promises.specs.OutcomesHold.{answers}
+use Rattle.promises.specs.PackingHolds.{pack-wrote, unpack-wrote, relaid-bytes}
+use Rattle.promises.specs.Starts.{started-bytes, start-ready, start-names}
+
+-- ---- what names the same
+
+-- Registers and states name the same where they read the same by the numbers of their instructions.
+same-of : (k l : List Instr) (registers state registers′ state′ : List ℕ) → Legal k registers state → Legal l registers′ state′
+    → named k (stateOf registers state) ≡ named l (stateOf registers′ state′) → Same k l registers state registers′ state′
+unfolding stateOf
+same-of k l registers state registers′ state′ legal legal′ e =
+    record {
+      legal = legal;
+      legal′ = legal′;
+      sameRegisters = ap (λ (s : State). s .store .registers) e;
+      sameFlag0 = ap (λ (s : State). s .store .flag0) e;
+      sameFlag1 = ap (λ (s : State). s .store .flag1) e;
+      samePlace = ap (λ (s : State). s .place) e;
+      sameChannels = ap (λ (s : State). s .channels) e;
+    }
+
+named-of : (k l : List Instr) (registers state registers′ state′ : List ℕ) → Same k l registers state registers′ state′
+    → named k (stateOf registers state) ≡ named l (stateOf registers′ state′)
+unfolding stateOf
+named-of k l registers state registers′ state′ s = λ i. record {
+  store = record { registers = s .sameRegisters i; flag0 = s .sameFlag0 i; flag1 = s .sameFlag1 i };
+  channels = s .sameChannels i;
+  place = s .samePlace i;
+}
+
+-- ---- one kernel
+
+module _ (dictionary kernel : List ℕ) (right : areBytes kernel ≡ true) (k : List Instr) (taken : accepted longAndShort dictionary kernel ≡ good k) where
+  -- With legal registers and state nothing that is lent is refused; and the other way.
+  legal-ready : (registers state : List ℕ) → Legal k registers state → Ready dictionary kernel registers state k
+  legal-ready registers state h =
+      let parts = accepted-parts dictionary kernel k taken in
+      record {
+        sizes = rw (parts .0, eq-eqb (length registers) registerBytes (h .registersWhole), eq-eqb (length state) stateLength (h .stateWhole));
+        judged = parts .1;
+        legal = h .legal;
+      }
+
+  ready-legal : (registers state : List ℕ) → areBytes state ≡ true → Ready dictionary kernel registers state k → Legal k registers state
+  ready-legal registers state small r =
+      let b = buffers dictionary kernel registers state right small k r in
+      record { registersWhole = b .0; stateWhole = b .1; bytes = small; legal = r .legal }
+
+  -- What a run from there answers and leaves, by the machine's run.
+  module _ (registers state : List ℕ) (h : Legal k registers state) (budget : ℕ) (le : budget ≤ budgetLimit)
+      (r : ℕ) (registers₁ state₁ : List ℕ) (p : RunPromise dictionary kernel budget registers state r registers₁ state₁) where
+    abbrev outcome : Outcome
+    outcome = run k budget (stateOf registers state)
+
+    made : runCall dictionary kernel budget registers state ≡ ranAs outcome
+    made = run-ready dictionary kernel registers state k (legal-ready registers state h) budget le
+
+    after-answer : r ≡ asNumber (verdict (outcome .verdict) (outcome .steps))
+    after-answer = p .0 ∙ ap (λ (c : Changed). asNumber (c .answer)) made
+
+    pub after-verdict : (numberIn r ≡ 20) ⊎ (numberIn r ≡ 21)
+    after-verdict =
+        let n : numberIn r ≡ outcome .verdict =
+        answers .run dictionary kernel budget registers state r registers₁ state₁ p .number ∙ ap (λ (c : Changed). c .answer .number) made in
+        elim (run-verdict k budget (stateOf registers state)) [ inl e ↦ inl (n ∙ e) | inr e ↦ inr (n ∙ e) ]
+
+    after-state : stateOf registers₁ state₁ ≡ outcome .state
+    after-state =
+        (λ i. stateOf (p .1 i) (p .2 i)) ∙ run-leaves dictionary kernel registers state right (h .bytes) k (legal-ready registers state h) budget le
+
+    after-legal : Legal k registers₁ state₁
+    after-legal =
+        let bytes : areBytes state₁ ≡ true = ap areBytes (p .2 ∙ ap (λ (c : Changed). c .state) made) ∙ state-bytes (outcome .state) in
+        ready-legal registers₁ state₁ bytes
+        (rw (p .1, p .2) (run-leaves-ready dictionary kernel registers state right (h .bytes) k (legal-ready registers state h) budget le))
+
+  -- A start leaves such registers and state.
+  pub start-legal : (state registers : List ℕ) → Begun state registers → Legal k registers state
+  start-legal state registers b =
+      ready-legal registers state (started-bytes state registers b) (start-ready state registers b dictionary kernel right k taken)
+
+-- ---- two kernels with one program
+
+module _ (dictionary kernel kernel′ : List ℕ) (right : areBytes kernel ≡ true) (right′ : areBytes kernel′ ≡ true) (k l : List Instr)
+    (taken : accepted longAndShort dictionary kernel ≡ good k) (taken′ : accepted longAndShort dictionary kernel′ ≡ good l) (one : program k ≡ program l) where
+  runs-alike : (registers state registers′ state′ : List ℕ) → Same k l registers state registers′ state′ → (budget : ℕ) → budget ≤ budgetLimit
+      → (r : ℕ) (registers₁ state₁ : List ℕ) → RunPromise dictionary kernel budget registers state r registers₁ state₁
+      → (q : ℕ) (registers₂ state₂ : List ℕ) → RunPromise dictionary kernel′ budget registers′ state′ q registers₂ state₂
+      → RanAlike k l r registers₁ state₁ q registers₂ state₂
+  runs-alike registers state registers′ state′ s budget le r registers₁ state₁ p q registers₂ state₂ p′ =
+      let h = kernel-of longAndShort dictionary kernel right k taken in
+      let h′ = kernel-of longAndShort dictionary kernel′ right′ l taken′ in
+      let ready = legal-ready dictionary kernel right k taken registers state (s .legal) in
+      let ready′ = legal-ready dictionary kernel′ right′ l taken′ registers′ state′ (s .legal′) in
+      let lands = legal-parts dictionary kernel registers state right (s .legal .bytes) k ready .1 in
+      let lands′ = legal-parts dictionary kernel′ registers′ state′ right′ (s .legal′ .bytes) l ready′ .1 in
+      let same : namedOutcome k (run k budget (stateOf registers state)) ≡ namedOutcome l (run l budget (stateOf registers′ state′)) =
+      same-runs k l (h .sound) (h′ .sound) one (stateOf registers state) (stateOf registers′ state′) lands lands′
+      (named-of k l registers state registers′ state′ s) budget in
+      record {
+        sameAnswer =
+            after-answer dictionary kernel right k taken registers state (s .legal) budget le r registers₁ state₁ p
+            ∙ ap (λ (o : Outcome). asNumber (verdict (o .verdict) (o .steps))) same
+            ∙ sym (after-answer dictionary kernel′ right′ l taken′ registers′ state′ (s .legal′) budget le q registers₂ state₂ p′);
+        answered = after-verdict dictionary kernel right k taken registers state (s .legal) budget le r registers₁ state₁ p;
+        left =
+            same-of k l registers₁ state₁ registers₂ state₂
+            (after-legal dictionary kernel right k taken registers state (s .legal) budget le r registers₁ state₁ p)
+            (after-legal dictionary kernel′ right′ l taken′ registers′ state′ (s .legal′) budget le q registers₂ state₂ p′)
+            (ap (named k) (after-state dictionary kernel right k taken registers state (s .legal) budget le r registers₁ state₁ p)
+            ∙ ap (λ (o : Outcome). o .state) same
+            ∙ sym (ap (named l) (after-state dictionary kernel′ right′ l taken′ registers′ state′ (s .legal′) budget le q registers₂ state₂ p′)));
+      }
+
+  starts-alike : (state registers : List ℕ) → Begun state registers → Same k l registers state registers state
+  starts-alike state registers b =
+      same-of k l registers state registers state
+      (start-legal dictionary kernel right k taken state registers b) (start-legal dictionary kernel′ right′ l taken′ state registers b)
+      (start-names state registers b dictionary kernel right k taken ∙ sym (start-names state registers b dictionary kernel′ right′ l taken′))
+
+  program-alike : Alike dictionary kernel kernel′
+  program-alike =
+      record {
+        k = k;
+        l = l;
+        taken = taken;
+        taken′ = taken′;
+        runs = runs-alike;
+        starts = starts-alike;
+        fromStart = λ state registers b. runs-alike registers state registers state (starts-alike state registers b);
+      }
+
+-- ---- packed and unpacked
+
+module _ (dictionary kernel out : List ℕ) (right : areBytes kernel ≡ true) (p : ℕ) (out′ : List ℕ) where
+  pub packed-alike : PackPromise dictionary kernel out p out′ → numberIn p ≡ 0 → Alike dictionary kernel (result p out′)
+  packed-alike pack zero =
+      let w = pack-wrote dictionary kernel out right p out′ pack zero in
+      let k = w .instrs in
+      program-alike dictionary kernel (result p out′) right (relaid-bytes w) k (relaidBy (shorten (dictionaryOf dictionary)) k)
+      (long-accepted dictionary kernel k (kernel-of longOnly dictionary kernel right k (w .given)))
+      (ap (accepted longAndShort dictionary) (w .are) ∙ packed-accepted dictionary kernel right k (w .given))
+      (sym (packed-program dictionary kernel right k (w .given)))
+
+  pub unpacked-alike : UnpackPromise dictionary kernel out p out′ → numberIn p ≡ 0 → Alike dictionary kernel (result p out′)
+  unpacked-alike unpack zero =
+      let w = unpack-wrote dictionary kernel out right p out′ unpack zero in
+      let k = w .instrs in
+      let l = relaidBy longForm k in
+      let bytes = relaid-bytes w in
+      let taken = ap (accepted longOnly dictionary) (w .are) ∙ unpacked-accepted dictionary kernel right k (w .given) in
+      program-alike dictionary kernel (result p out′) right bytes k l (w .given)
+      (long-accepted dictionary (result p out′) l (kernel-of longOnly dictionary (result p out′) bytes l taken))
+      (sym (unpacked-program dictionary kernel right k (w .given)))

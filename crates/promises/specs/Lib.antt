@@ -1,0 +1,13 @@
+-- What follows from the contracts of the exported calls. Promises states it, and the others prove it: demand 1 in OutcomesHold, demand 2 in PackingHolds (a
+-- single word in WordsHold), demand 3 in RunningHolds (two kernels in AlikeHolds).
+pub mod Promises
+pub mod Results
+pub mod Words
+pub mod Room
+pub mod Stepping
+pub mod OutcomesHold
+pub mod WordsHold
+pub mod PackingHolds
+pub mod Starts
+pub mod AlikeHolds
+pub mod RunningHolds

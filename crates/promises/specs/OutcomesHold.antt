@@ -1,0 +1,109 @@
+-- Demand 1 holds: one outcome for each call, an answer of the paper's list, and a refusal that changes nothing. Assumes nothing.
+use mathlib.Core.Bool.{Bool}
+use mathlib.Core.List.{List}
+use mathlib.Core.Logic.{inl, inr}
+use mathlib.Core.Path.{_≡_, sym, ap, _∙_}
+use Prim.Native.Nat.{ℕ, _*_}
+use native.Mathlib.Omega.{arith}
+use lib.ListN.{length, take, drop}
+use Rattle.paper.specs.Calls.{Answer, asNumber, Written, checkCall, packCall, unpackCall, shortenCall, expandCall, decodeCall, decodePart, startCall, stepCall, runCall}
+use Rattle.laws.specs.Calls.{Confined, pack-confined, unpack-confined, shorten-confined, expand-confined, start-confined, decode-refused, step-unchanged, run-unchanged}
+use Rattle.spokeshaver.specs.Contracts.{numberIn, offsetIn, countIn, Wrote}
+use Rattle.answers.specs.Numbers.{checkNumbers, packNumbers, unpackNumbers, shortenNumbers, expandNumbers, decodeNumbers, startNumbers, stepNumbers, runNumbers}
+use Rattle.spokeshaver.specs.OneOutcomeHolds.{one-outcome}
+use Rattle.promises.specs.Promises.{Told, Answers, Kept, Refusals, Demand1}
+use Rattle.answers.specs.Small.{number-back, offset-back, count-back}
+use Rattle.promises.specs.Results.{decode-inside, part-are, part-length}
+use Rattle.answers.specs.Calls.{Fine, check-fine, pack-fine, unpack-fine, shorten-fine, expand-fine, decode-fine, start-fine, step-fine, run-fine}
+
+-- ---- every answer is one of the paper's
+
+-- The three parts of an answer that fits in the one number.
+told : (numbers : ℕ → Bool) (a : Answer) (r : ℕ) → Fine numbers a → r ≡ asNumber a → Told numbers a r
+told numbers a r f e =
+    let n : numberIn r ≡ a .number = ap numberIn e ∙ number-back a (f .small) in
+    record {
+      listed = ap numbers n ∙ f .listed;
+      number = n;
+      offset = ap offsetIn e ∙ offset-back a (f .small);
+      count = ap countIn e ∙ count-back a (f .small);
+    }
+
+pub answers : Answers
+answers =
+    record {
+      check = λ dictionary kernel r p. told checkNumbers (checkCall dictionary kernel) r (check-fine dictionary kernel) p;
+      pack = λ dictionary kernel out r out′ p. told packNumbers (packCall dictionary kernel out .answer) r (pack-fine dictionary kernel out) (p .0);
+      unpack = λ dictionary kernel out r out′ p. told unpackNumbers (unpackCall dictionary kernel out .answer) r (unpack-fine dictionary kernel out) (p .0);
+      shorten = λ dictionary word out r out′ p. told shortenNumbers (shortenCall dictionary word out .answer) r (shorten-fine dictionary word out) (p .0);
+      expand = λ dictionary word out r out′ p. told expandNumbers (expandCall dictionary word out .answer) r (expand-fine dictionary word out) (p .0);
+      decode = λ dictionary kernel place r p. told decodeNumbers (decodeCall dictionary kernel place) r (decode-fine dictionary kernel place) p;
+      start = λ mask flag0 flag1 state r state′ p. told startNumbers (startCall mask flag0 flag1 state .answer) r (start-fine mask flag0 flag1 state) (p .0);
+      step = λ dictionary kernel registers state r registers′ state′ p.
+          told stepNumbers (stepCall dictionary kernel registers state .answer) r (step-fine dictionary kernel registers state) (p .0);
+      run = λ dictionary kernel budget registers state r registers′ state′ p.
+          told runNumbers (runCall dictionary kernel budget registers state .answer) r (run-fine dictionary kernel budget registers state) (p .0);
+    }
+
+-- ---- a refusal changes nothing
+
+-- An output that the paper confines to the result is kept.
+kept : (numbers : ℕ → Bool) (w : Written) (out : List ℕ) (r : ℕ) (out′ : List ℕ) → Fine numbers (w .answer) → Confined out w → Wrote w r out′ → Kept out r out′
+kept numbers w out r out′ f c p =
+    let t = told numbers (w .answer) r f (p .0) in
+    record {
+      refused = λ n. p .1 ∙ c .refused (λ e. n (t .number ∙ e));
+      fits = rw (t .count) (c .fits);
+      rest = (λ i. drop (t .count i) (p .1 i)) ∙ c .rest ∙ ap (λ (n : ℕ). drop n out) (sym (t .count));
+      same = ap length (p .1) ∙ c .same;
+    }
+
+refusals : Refusals
+refusals =
+    record {
+      pack = λ dictionary kernel out r out′.
+          kept packNumbers (packCall dictionary kernel out) out r out′ (pack-fine dictionary kernel out) (pack-confined dictionary kernel out);
+      unpack = λ dictionary kernel out r out′.
+          kept unpackNumbers (unpackCall dictionary kernel out) out r out′ (unpack-fine dictionary kernel out) (unpack-confined dictionary kernel out);
+      shorten = λ dictionary word out r out′.
+          kept shortenNumbers (shortenCall dictionary word out) out r out′ (shorten-fine dictionary word out) (shorten-confined dictionary word out);
+      expand = λ dictionary word out r out′.
+          kept expandNumbers (expandCall dictionary word out) out r out′ (expand-fine dictionary word out) (expand-confined dictionary word out);
+      start = λ mask flag0 flag1 state r state′ p n.
+          let t = answers .start mask flag0 flag1 state r state′ p in
+          p .1 ∙ start-confined mask flag0 flag1 state .refused (λ e. n (t .number ∙ e));
+      step = λ dictionary kernel registers state r registers′ state′ p n.
+          let t = answers .step dictionary kernel registers state r registers′ state′ p in
+          let u = step-unchanged dictionary kernel registers state (λ e. n (t .number ∙ e)) in
+          (p .1 ∙ u .sameRegisters, p .2 ∙ u .sameState);
+      run = λ dictionary kernel budget registers state r registers′ state′ p n m.
+          let t = answers .run dictionary kernel budget registers state r registers′ state′ p in
+          let u = run-unchanged dictionary kernel budget registers state (λ e. n (t .number ∙ e)) (λ e. m (t .number ∙ e)) in
+          (p .1 ∙ u .sameRegisters, p .2 ∙ u .sameState);
+    }
+
+-- ---- the demand
+
+pub demand-1 : Demand1
+demand-1 =
+    record {
+      oneOutcome = one-outcome;
+      answers = answers;
+      refusals = refusals;
+      decodesInside = λ dictionary kernel place r p zero.
+          let t = answers .decode dictionary kernel place r p in
+          let i = decode-inside dictionary kernel place (sym (t .number) ∙ zero) in
+          rw (t .count) (i .size, i .ends);
+      decodesPart = λ dictionary kernel place r p.
+          let t = answers .decode dictionary kernel place r p in
+          let long : length (decodePart dictionary kernel place) ≡ countIn r = part-length dictionary kernel place ∙ sym (t .count) in
+          record {
+            are = part-are dictionary kernel place ∙ ap (λ (n : ℕ). take n (drop (8 * place) kernel)) (sym (t .count));
+            counted = long;
+            empty = λ n. decode-refused dictionary kernel place (λ e. n (t .number ∙ e));
+            whole = λ none zero.
+                let i = decode-inside dictionary kernel place (sym (t .number) ∙ zero) in
+                let no : length (decodePart dictionary kernel place) ≡ 0 = ap length none in
+                elim (i .size) [ inl e ↦ omega (arith, t .count) | inr e ↦ omega (arith, t .count) ];
+          };
+    }

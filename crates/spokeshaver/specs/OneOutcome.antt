@@ -1,0 +1,28 @@
+-- What the contracts leave open: nothing. States it and proves nothing; OneOutcomeHolds does. A contract that left an answer, an output or a state unsaid would
+-- break it.
+use mathlib.Core.List.{List}
+use mathlib.Core.Path.{_≡_}
+use Prim.Native.Nat.{ℕ}
+use Rattle.spokeshaver.specs.Contracts.{CheckPromise, PackPromise, UnpackPromise, ShortenPromise, ExpandPromise}
+use Rattle.spokeshaver.specs.Contracts.{DecodePromise, StartPromise, StepPromise, RunPromise}
+
+-- The contract of each call admits one outcome only: one answer, and one final content of each buffer that is lent for writing.
+pub record OneOutcome : Type 0 where
+  pub check : (dictionary kernel : List ℕ) (r s : ℕ) → CheckPromise dictionary kernel r → CheckPromise dictionary kernel s → r ≡ s
+  pub pack : (dictionary kernel out : List ℕ) (r s : ℕ) (out′ out″ : List ℕ)
+      → PackPromise dictionary kernel out r out′ → PackPromise dictionary kernel out s out″ → (r ≡ s) × (out′ ≡ out″)
+  pub unpack : (dictionary kernel out : List ℕ) (r s : ℕ) (out′ out″ : List ℕ)
+      → UnpackPromise dictionary kernel out r out′ → UnpackPromise dictionary kernel out s out″ → (r ≡ s) × (out′ ≡ out″)
+  pub shorten : (dictionary word out : List ℕ) (r s : ℕ) (out′ out″ : List ℕ)
+      → ShortenPromise dictionary word out r out′ → ShortenPromise dictionary word out s out″ → (r ≡ s) × (out′ ≡ out″)
+  pub expand : (dictionary word out : List ℕ) (r s : ℕ) (out′ out″ : List ℕ)
+      → ExpandPromise dictionary word out r out′ → ExpandPromise dictionary word out s out″ → (r ≡ s) × (out′ ≡ out″)
+  pub decode : (dictionary kernel : List ℕ) (place r s : ℕ) → DecodePromise dictionary kernel place r → DecodePromise dictionary kernel place s → r ≡ s
+  pub start : (mask flag0 flag1 : ℕ) (state : List ℕ) (r s : ℕ) (state′ state″ : List ℕ)
+      → StartPromise mask flag0 flag1 state r state′ → StartPromise mask flag0 flag1 state s state″ → (r ≡ s) × (state′ ≡ state″)
+  pub step : (dictionary kernel registers state : List ℕ) (r s : ℕ) (registers′ registers″ state′ state″ : List ℕ)
+      → StepPromise dictionary kernel registers state r registers′ state′ → StepPromise dictionary kernel registers state s registers″ state″
+      → (r ≡ s) × (registers′ ≡ registers″) × (state′ ≡ state″)
+  pub run : (dictionary kernel : List ℕ) (budget : ℕ) (registers state : List ℕ) (r s : ℕ) (registers′ registers″ state′ state″ : List ℕ)
+      → RunPromise dictionary kernel budget registers state r registers′ state′ → RunPromise dictionary kernel budget registers state s registers″ state″
+      → (r ≡ s) × (registers′ ≡ registers″) × (state′ ≡ state″)
