@@ -1,6 +1,5 @@
 -- What packing does in the code's terms, and the laws that join it to the paper's.
 pub mod Forms
-pub mod Distances
 pub mod Pieces
 pub mod Stages
 pub mod Written
