@@ -2,5 +2,6 @@
 pub mod Forms
 pub mod Pieces
 pub mod Stages
+pub mod Rewriting
 pub mod Written
 pub mod Answers

@@ -1,4 +1,7 @@
+use mathlib.Core.Path.{sym, ap, _∙_}
 use borrow.Author.Needs.{needs}
+use Rattle.distances.specs.Distances.{distancesIs}
+use Rattle.kernel.specs.Jumps.{none-lands, one-lands}
 use Rattle.kernel.proofs.jumps.jump_lands.Statement.{statement}
 use Rattle.kernel.proofs.jumps.jump_lands.Tie as tie
 use Rattle.kernel.proofs.jumps.jump_lands.Reads as reads
@@ -33,11 +36,11 @@ target-lands-requires c κs = search needs
 
 -- src/jumps.rt:46:1
 returns : tie.Need-returns
-returns c = ?
+returns c = none-lands _ _ _ _ (sym (c .before .before .distances-in .ensures) ∙ ap distancesIs (c .enum-told .given .1))
 
 -- src/jumps.rt:46:1
 returns-2 : tie.Need-returns-2
-returns-2 c = ?
+returns-2 c = c .target-lands .ensures ∙ one-lands _ _ _ _ _ (sym (c .before .before .before .before .before .distances-in .ensures) ∙ ap distancesIs (c .before .before .before .held .given .1)) _ (c .before .reach .ensures)
 
 pub jump-lands-spec : {M : Type 1} → statement M
 jump-lands-spec =

@@ -19,7 +19,7 @@ enum-told c = search needs
 
 -- src/jumps.rt:36:1
 returns : tie.Need-returns
-returns c = ?
+returns c = rw (c .before .before .t .given .1) (c .is-marked .ensures)
 
 -- src/jumps.rt:36:1
 returns-2 : tie.Need-returns-2
