@@ -104,19 +104,18 @@ park-others c mask place h = each-same c (bit (65535 - mask)) (λ k. not (bit ma
 -- ---- the answers that the code makes
 
 module _ (r : Forked) (c : Channels) (ways : Ways) (same : r .channels ≡ c) where
+  -- One that chooses between two places that fit lands.
+  lands : (t : Bool) (p q : ℕ) → p < 65536 → q < 65536 → r .place ≡ cond t p q → Sane c → Landed r
+  lands t p q h g e s = record { sane = rw same s; fits = rw e (cond-at (λ (p : ℕ). p < 65536) t p q h g) }
+
   -- One that forks.
-  pub forks : (cs : List Channel) → channelsIs c ≡ cs → r .place ≡ onward ways (channelsIs c)
-      → (st : Store) → forkedIs st r ≡ fork ways st cs
+  pub forks : (cs : List Channel) → channelsIs c ≡ cs → r .place ≡ onward ways (channelsIs c) → (st : Store) → forkedIs st r ≡ fork ways st cs
   forks cs e p st = λ i. record { store = st; channels = (ap channelsIs same ∙ e) i; place = (p ∙ ap (onward ways) e) i }
 
   -- It lands.
   pub fork-lands : r .place ≡ onward ways (channelsIs c) → Sane c → SaneWays ways → Landed r
   unfolding onward
-  fork-lands e s h =
-      record {
-        sane = rw same s;
-        fits = rw e (cond-at (λ (p : ℕ). p < 65536) (someone (λ _ ch. isAwake ch || waitsAt (ways .next) ch) 0 (channelsIs c)) (ways .next) (ways .jump) (h .next) (h .jump));
-      }
+  fork-lands e s h = lands (someone (λ _ ch. isAwake ch || waitsAt (ways .next) ch) 0 (channelsIs c)) (ways .next) (ways .jump) (h .next) (h .jump) e s
 
   -- One that jumps.
   pub jumps : (mask : ℕ) → r .place ≡ cond (bit mask 0) (ways .jump) (ways .next)
@@ -126,4 +125,4 @@ module _ (r : Forked) (c : Channels) (ways : Ways) (same : r .channels ≡ c) wh
 
   -- It lands.
   pub jump-lands : (mask : ℕ) → r .place ≡ cond (bit mask 0) (ways .jump) (ways .next) → Sane c → SaneWays ways → Landed r
-  jump-lands mask e s h = record { sane = rw same s; fits = rw e (cond-at (λ (p : ℕ). p < 65536) (bit mask 0) (ways .jump) (ways .next) (h .jump) (h .next)) }
+  jump-lands mask e s h = lands (bit mask 0) (ways .jump) (ways .next) (h .jump) (h .next) e s
