@@ -1,48 +1,35 @@
+-- What is no branch has none; a branch has its own. Assumes nothing.
 use borrow.Author.Needs.{needs}
 use Rattle.distances.proofs.branch.distances_in.Statement.{statement}
 use Rattle.distances.proofs.branch.distances_in.Tie as tie
-use Rattle.distances.proofs.branch.distances_in.Reads as reads
-use Rattle.distances.proofs.branch.distances_in.Lts as lts
-use Rattle.distances.proofs.branch.of_branch.Reads as of-branch-reads
-use Rattle.words.proofs.fields.operation.Reads as operation-reads
 
--- src/branch.rt:37:9
 operation-requires : tie.Need-operation-requires
 operation-requires c κs = search needs
 
--- src/branch.rt:39:32
 enum-told : tie.Need-enum-told
 enum-told c = search needs
 
--- src/branch.rt:40:27
 enum-told-2 : tie.Need-enum-told-2
 enum-told-2 c = search needs
 
--- src/branch.rt:41:26
 enum-known-o : tie.Need-enum-known-o
 enum-known-o c = search needs
 
--- src/branch.rt:41:32
 of-branch-requires : tie.Need-of-branch-requires
 of-branch-requires c κs = search needs
 
--- src/branch.rt:42:32
 enum-told-3 : tie.Need-enum-told-3
 enum-told-3 c = search needs
 
--- src/branch.rt:34:1
 returns : tie.Need-returns
 returns c = rw (← (c .before .before .operation .ensures), c .enum-told .given .1)
 
--- src/branch.rt:34:1
 returns-2 : tie.Need-returns-2
 returns-2 c = rw (← (c .before .before .operation .ensures), c .enum-told2 .given .1)
 
--- src/branch.rt:34:1
 returns-3 : tie.Need-returns-3
 returns-3 c = rw (← (c .before .before .before .before .operation .ensures), c .before .before .o .given .1) (c .of-branch .ensures)
 
--- src/branch.rt:34:1
 returns-4 : tie.Need-returns-4
 returns-4 c = rw (← (c .before .before .operation .ensures), c .enum-told3 .given .1)
 

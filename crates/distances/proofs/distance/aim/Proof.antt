@@ -1,3 +1,4 @@
+-- The difference, modulo what the bits can tell. Assumes nothing.
 use native.Mathlib.Nat.{mod-lt}
 use native.Mathlib.Omega.{arith}
 use lib.Pow.{pow-pos}
@@ -5,44 +6,31 @@ use borrow.Author.Needs.{needs}
 use Rattle.distances.specs.Distances.{distanceIs, base-most}
 use Rattle.distances.proofs.distance.aim.Statement.{statement}
 use Rattle.distances.proofs.distance.aim.Tie as tie
-use Rattle.distances.proofs.distance.aim.Reads as reads
-use Rattle.distances.proofs.distance.aim.Lts as lts
-use Rattle.distances.proofs.distance.base.Reads as base-reads
-use Rattle.distances.proofs.distance.half.Reads as half-reads
-use Rattle.distances.proofs.distance.with_field.Reads as with-field-reads
 
--- src/distance.rt:105:9
 base-requires : tie.Need-base-requires
 base-requires c κs = search needs
 
--- src/distance.rt:106:20
 half-requires : tie.Need-half-requires
 half-requires c κs = search needs
 
--- src/distance.rt:106:16
 mul-span : tie.Need-mul-span
 mul-span c = search needs
 
--- src/distance.rt:107:23
 add-with-field : tie.Need-add-with-field
 add-with-field c = search needs
 
--- src/distance.rt:107:23
 sub-with-field : tie.Need-sub-with-field
 sub-with-field c =
     let s = c .before .before in
     let b = base-most (distanceIs (s .args .d) .base) (s .pre .0) (s .pre .1) in
     omega (arith, b, c .before .base .ensures .0, c .half .ensures .2)
 
--- src/distance.rt:107:22
 rem-with-field : tie.Need-rem-with-field
 rem-with-field c = search needs
 
--- src/distance.rt:107:5
 with-field-requires : tie.Need-with-field-requires
 with-field-requires c κs = rw (c .half .ensures .1) (mod-lt _ (pow-pos _))
 
--- src/distance.rt:101:1
 returns : tie.Need-returns
 returns c = rw (c .with-field .ensures, c .before .half .ensures .1, c .before .before .base .ensures .0)
 

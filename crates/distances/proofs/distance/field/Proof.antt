@@ -1,33 +1,24 @@
+-- Each distance stands where the definition says. Assumes nothing.
 use native.Mathlib.Omega.{arith}
 use borrow.Author.Needs.{needs}
 use Rattle.distances.proofs.distance.field.Statement.{statement}
 use Rattle.distances.proofs.distance.field.Tie as tie
-use Rattle.distances.proofs.distance.field.Reads as reads
-use Rattle.distances.proofs.distance.field.Lts as lts
-use Rattle.words.proofs.fields.long_distance.Reads as long-distance-reads
-use Rattle.words.proofs.fields.short_distance.Reads as short-distance-reads
 
--- src/distance.rt:30:27
 enum-told : tie.Need-enum-told
 enum-told c = search needs
 
--- src/distance.rt:30:27
 short-distance-requires : tie.Need-short-distance-requires
 short-distance-requires c κs = search needs
 
--- src/distance.rt:31:26
 enum-told-2 : tie.Need-enum-told-2
 enum-told-2 c = search needs
 
--- src/distance.rt:31:26
 long-distance-requires : tie.Need-long-distance-requires
 long-distance-requires c κs = search needs
 
--- src/distance.rt:26:1
 returns : tie.Need-returns
 returns c = rw (c .before .enum-told .given .1) (c .short-distance .ensures .0, omega (arith, c .short-distance .ensures .1))
 
--- src/distance.rt:26:1
 returns-2 : tie.Need-returns-2
 returns-2 c = rw (c .before .enum-told2 .given .1) (c .long-distance .ensures .0, c .long-distance .ensures .1)
 

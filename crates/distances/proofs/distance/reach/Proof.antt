@@ -1,3 +1,4 @@
+-- The three cases are those of a signed distance. Assumes nothing.
 use mathlib.Core.Path.{_≡_, sym, _∙_}
 use borrow.Author.Needs.{needs}
 use Rattle.paper.specs.Jump.{reach}
@@ -25,47 +26,36 @@ leads c =
 base-requires : tie.Need-base-requires
 base-requires c κs = search needs
 
--- src/distance.rt:62:9
 field-requires : tie.Need-field-requires
 field-requires c κs = search needs
 
--- src/distance.rt:63:9
 half-requires : tie.Need-half-requires
 half-requires c κs = search needs
 
--- src/distance.rt:65:30
 add-t9 : tie.Need-add-t9
 add-t9 c = search needs
 
--- src/distance.rt:65:9
 returns : tie.Need-returns
 returns c = sym (from-forward _ _ _ _ _ (c .if1 .taken)) ∙ leads (c .before)
 
--- src/distance.rt:67:8
 add-if2 : tie.Need-add-if2
 add-if2 c = search needs
 
--- src/distance.rt:67:26
 mul-if2 : tie.Need-mul-if2
 mul-if2 c = search needs
 
--- src/distance.rt:68:9
 returns-2 : tie.Need-returns-2
 returns-2 c = sym (from-below _ _ _ _ _ (c .before .if1 .left) (c .if2 .taken)) ∙ leads (c .before .before)
 
--- src/distance.rt:70:19
 add-t10 : tie.Need-add-t10
 add-t10 c = search needs
 
--- src/distance.rt:70:37
 mul-t11 : tie.Need-mul-t11
 mul-t11 c = search needs
 
--- src/distance.rt:70:19
 sub-t12 : tie.Need-sub-t12
 sub-t12 c = search needs
 
--- src/distance.rt:57:1
 returns-3 : tie.Need-returns-3
 returns-3 c = sym (from-back _ _ _ _ _ (c .before .if1 .left) (c .if2 .left)) ∙ leads (c .before .before)
 

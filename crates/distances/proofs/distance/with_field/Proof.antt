@@ -1,32 +1,23 @@
+-- Each distance is written where it stands. Assumes nothing.
 use borrow.Author.Needs.{needs}
 use Rattle.distances.proofs.distance.with_field.Statement.{statement}
 use Rattle.distances.proofs.distance.with_field.Tie as tie
-use Rattle.distances.proofs.distance.with_field.Reads as reads
-use Rattle.distances.proofs.distance.with_field.Lts as lts
-use Rattle.distances.proofs.distance.with_far.Reads as with-far-reads
-use Rattle.distances.proofs.distance.with_near.Reads as with-near-reads
 
--- src/distance.rt:111:27
 enum-told : tie.Need-enum-told
 enum-told c = search needs
 
--- src/distance.rt:111:27
 with-near-requires : tie.Need-with-near-requires
 with-near-requires c κs = rw (c .enum-told .given .1) at (c .before .before .pre)
 
--- src/distance.rt:112:26
 enum-told-2 : tie.Need-enum-told-2
 enum-told-2 c = search needs
 
--- src/distance.rt:112:26
 with-far-requires : tie.Need-with-far-requires
 with-far-requires c κs = rw (c .enum-told2 .given .1) at (c .before .before .pre)
 
--- src/distance.rt:106:1
 returns : tie.Need-returns
 returns c = rw (c .before .enum-told .given .1) (c .with-near .ensures)
 
--- src/distance.rt:106:1
 returns-2 : tie.Need-returns-2
 returns-2 c = rw (c .before .enum-told2 .given .1) (c .with-far .ensures)
 

@@ -1,44 +1,32 @@
+-- By the distances that the word holds. Assumes nothing.
 use mathlib.Core.Path.{sym, ap, _∙_}
 use borrow.Author.Needs.{needs}
 use Rattle.distances.specs.Distances.{distancesIs}
 use Rattle.kernel.specs.Jumps.{none-lands, one-lands}
 use Rattle.kernel.proofs.jumps.jump_lands.Statement.{statement}
 use Rattle.kernel.proofs.jumps.jump_lands.Tie as tie
-use Rattle.kernel.proofs.jumps.jump_lands.Reads as reads
-use Rattle.kernel.proofs.jumps.jump_lands.Lts as lts
-use Rattle.distances.proofs.branch.distances_in.Reads as distances-in-reads
-use Rattle.distances.proofs.distance.reach.Reads as reach-reads
-use Rattle.kernel.proofs.jumps.target_lands.Reads as target-lands-reads
 
--- src/jumps.rt:50:9
 distances-in-requires : tie.Need-distances-in-requires
 distances-in-requires c κs = search needs
 
--- src/jumps.rt:52:31
 enum-told : tie.Need-enum-told
 enum-told c = search needs
 
--- src/jumps.rt:53:24
 enum-known-held : tie.Need-enum-known-held
 enum-known-held c = search needs
 
--- src/jumps.rt:53:68
 add-reach : tie.Need-add-reach
 add-reach c = search needs
 
--- src/jumps.rt:53:50
 reach-requires : tie.Need-reach-requires
 reach-requires c κs = search needs
 
--- src/jumps.rt:53:30
 target-lands-requires : tie.Need-target-lands-requires
 target-lands-requires c κs = search needs
 
--- src/jumps.rt:46:1
 returns : tie.Need-returns
 returns c = none-lands _ _ _ _ (sym (c .before .before .distances-in .ensures) ∙ ap distancesIs (c .enum-told .given .1))
 
--- src/jumps.rt:46:1
 returns-2 : tie.Need-returns-2
 returns-2 c = c .target-lands .ensures ∙ one-lands _ _ _ _ _ (sym (c .before .before .before .before .before .distances-in .ensures) ∙ ap distancesIs (c .before .before .before .held .given .1)) _ (c .before .reach .ensures)
 

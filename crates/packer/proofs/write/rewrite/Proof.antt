@@ -1,3 +1,4 @@
+-- The new place of each distance is looked up at its old one. Assumes nothing.
 use mathlib.Core.Path.{sym, ap, _∙_}
 use native.Mathlib.Omega.{arith}
 use borrow.Author.Needs.{needs}
@@ -6,65 +7,48 @@ use Rattle.distances.specs.Distances.{distanceIs, distancesIs}
 use Rattle.packer.specs.Rewriting.{none-rewritten, one-reaches, one-rewritten}
 use Rattle.packer.proofs.write.rewrite.Statement.{statement}
 use Rattle.packer.proofs.write.rewrite.Tie as tie
-use Rattle.packer.proofs.write.rewrite.Reads as reads
-use Rattle.packer.proofs.write.rewrite.Lts as lts
-use Rattle.distances.proofs.branch.distances_in.Reads as distances-in-reads
-use Rattle.distances.proofs.distance.aim.Reads as aim-reads
-use Rattle.distances.proofs.distance.place_of.Reads as place-of-reads
-use Rattle.distances.proofs.distance.reach.Reads as reach-reads
 
--- src/write.rt:45:9
 distances-in-requires : tie.Need-distances-in-requires
 distances-in-requires c κs = search needs
 
--- src/write.rt:47:31
 enum-told : tie.Need-enum-told
 enum-told c = search needs
 
--- src/write.rt:48:24
 enum-known-held : tie.Need-enum-known-held
 enum-known-held c = search needs
 
--- src/write.rt:49:50
 add-reach : tie.Need-add-reach
 add-reach c = search needs
 
--- src/write.rt:49:32
 reach-requires : tie.Need-reach-requires
 reach-requires c κs = search needs
 
--- src/write.rt:49:23
 place-of-requires : tie.Need-place-of-requires
 place-of-requires c κs = search needs
 
--- src/write.rt:50:23
 mul-new : tie.Need-mul-new
 mul-new c =
     let a = c .before .before .before .before .before .before .args in
     let r = one-reaches (a .places .now) (toWord (a .w)) (a .here) (a .size) (a .to) (a .next) (distanceIs (c .before .before .before .held .given .0 .0)) (sym (c .before .before .before .before .before .distances-in .ensures) ∙ ap distancesIs (c .before .before .before .held .given .1)) _ (c .before .reach .ensures) (c .before .before .before .before .before .before .pre .4) in
     omega (arith, c .place-of .ensures, r .0)
 
--- src/write.rt:50:23
 element-copy-out-new : tie.Need-element-copy-out-new
 element-copy-out-new c =
     let a = c .before .before .before .before .before .before .args in
     let r = one-reaches (a .places .now) (toWord (a .w)) (a .here) (a .size) (a .to) (a .next) (distanceIs (c .before .before .before .held .given .0 .0)) (sym (c .before .before .before .before .before .distances-in .ensures) ∙ ap distancesIs (c .before .before .before .held .given .1)) _ (c .before .reach .ensures) (c .before .before .before .before .before .before .pre .4) in
     rw (c .place-of .ensures) (r .0)
 
--- src/write.rt:51:13
 aim-requires : tie.Need-aim-requires
 aim-requires c κs =
     let a = c .before .before .before .before .before .before .before .args in
     let r = one-reaches (a .places .now) (toWord (a .w)) (a .here) (a .size) (a .to) (a .next) (distanceIs (c .before .before .before .before .held .given .0 .0)) (sym (c .before .before .before .before .before .before .distances-in .ensures) ∙ ap distancesIs (c .before .before .before .before .held .given .1)) _ (c .before .before .reach .ensures) (c .before .before .before .before .before .before .before .pre .4) in
     (search needs, search needs, rw (c .before .place-of .ensures) (omega (arith, r .1)))
 
--- src/write.rt:41:1
 returns : tie.Need-returns
 returns c =
     let a = c .before .before .before .args in
     none-rewritten (a .places .now) (toWord (a .w)) (a .here) (a .size) (a .to) (a .next) (sym (c .before .before .distances-in .ensures) ∙ ap distancesIs (c .enum-told .given .1))
 
--- src/write.rt:41:1
 returns-2 : tie.Need-returns-2
 returns-2 c =
     let a = c .before .before .before .before .before .before .before .before .args in
