@@ -8,9 +8,9 @@ use native.Mathlib.Omega.{arith}
 use lib.ListN.{length}
 use Rattle.paper.specs.Dictionary.{Dictionary}
 use Rattle.paper.specs.Kernel.{Instr, Forms}
-use Rattle.paper.specs.Jump.{targetOf}
+use Rattle.paper.specs.Jump.{targetsOf}
 use Rattle.kernel.specs.Standing.{Whole, Fetches, Stands, Standing, Next, stands-next, stands-end}
-use Rattle.kernel.specs.Jumps.{landsBy, firstOut, instrOf, FirstOut}
+use Rattle.kernel.specs.Jumps.{landBy, firstOut, instrOf, FirstOut}
 use Rattle.kernel.specs.declared.jumps.Astray.the-variants.{Nowhere, Branch}
 
 -- For whatever instructions stand in the bytes, those that stand from `from` on have the answer.
@@ -22,11 +22,11 @@ Left D kernel land from =
 pub left-start : (D : Dictionary) (kernel : List ℕ) (land : ℕ → Bool) → Left D kernel land 0
 left-start D kernel land forms k s = (k, s, refl)
 
-first-out : (land : ℕ → Bool) (i : Instr) (rest : List Instr) → landsBy land (targetOf i) ≡ false → firstOut land (i ∷ rest) ≡ some (8 * i .place)
+first-out : (land : ℕ → Bool) (i : Instr) (rest : List Instr) → landBy land (targetsOf i) ≡ false → firstOut land (i ∷ rest) ≡ some (8 * i .place)
 unfolding firstOut
 first-out land i rest e = rw e
 
-first-in : (land : ℕ → Bool) (i : Instr) (rest : List Instr) → landsBy land (targetOf i) ≡ true → firstOut land (i ∷ rest) ≡ firstOut land rest
+first-in : (land : ℕ → Bool) (i : Instr) (rest : List Instr) → landBy land (targetsOf i) ≡ true → firstOut land (i ∷ rest) ≡ firstOut land rest
 unfolding firstOut
 first-in land i rest e = rw e
 
@@ -57,7 +57,7 @@ module _ (D : Dictionary) (kernel : List ℕ) (land : ℕ → Bool) (from : ℕ)
           λ j. record { place = p j; size = q j; word = r j }
 
       -- It goes astray.
-      pub left-out : from % 8 ≡ 0 → landsBy land (targetOf (instrOf (from / 8) size w)) ≡ false → FirstOut D kernel land (Branch from)
+      pub left-out : from % 8 ≡ 0 → landBy land (targetsOf (instrOf (from / 8) size w)) ≡ false → FirstOut D kernel land (Branch from)
       left-out aligned e forms k s =
           let l = left forms k s in
           let n = stands-next forms D kernel from (l .0) (l .1) inside in
@@ -68,7 +68,7 @@ module _ (D : Dictionary) (kernel : List ℕ) (land : ℕ → Bool) (from : ℕ)
           ∙ first-out land (instrOf (from / 8) size w) (n .later) e ∙ ap some same)
 
       -- It lands.
-      pub left-on : landsBy land (targetOf (instrOf (from / 8) size w)) ≡ true → Left D kernel land (from + 8 * size)
+      pub left-on : landBy land (targetsOf (instrOf (from / 8) size w)) ≡ true → Left D kernel land (from + 8 * size)
       left-on e forms k s =
           let l = left forms k s in
           let n = stands-next forms D kernel from (l .0) (l .1) inside in

@@ -2,8 +2,6 @@
 pub mod Judging
 pub mod Standing
 pub mod Marks
-pub mod Reach
 pub mod Jumps
-pub mod Targets
 pub mod Accepting
 pub mod Answers

@@ -1,8 +1,7 @@
 -- A kernel of long words, laid out anew and then with every word long again, is the kernel itself. Assumes nothing.
 use mathlib.Core.Path.{_≡_, refl, ap, ap₂, sym, _∙_}
 use mathlib.Core.Bool.{Bool, true, false, false≢true}
-use mathlib.Core.List.{List, [], _∷_}
-use mathlib.Core.Option.{some}
+use mathlib.Core.List.{List, [], _∷_, map, map-map}
 use Prim.Native.Nat.{ℕ, zero, suc, _+_, _*_, _-_, _^_, _%_, _<_, _≤_}
 use native.Mathlib.Omega.{arith}
 use native.Mathlib.Nat.{add-mod-right, mod-eq-of-lt, mod-lt}
@@ -12,15 +11,15 @@ use lib.Dec.{ltb}
 use lib.IntN.{ℤ, pos, negsuc, subℕ, _+ℤ_, pos-ne-negsuc}
 use borrow.Author.Tests.{ltb-false, lt-ltb}
 use Rattle.paper.specs.Bits.{bits, put}
-use Rattle.paper.specs.Operation.{Operation, plain, nop, branch, unlisted, operation}
+use Rattle.paper.specs.Operation.{operation}
 use Rattle.paper.specs.Kernel.{Instr}
-use Rattle.paper.specs.Jump.{nextOf, Distance, distanceOf, baseOf, signedOf, reach, jumpOf, targetOf, endFrom, jumpLands}
-use Rattle.paper.specs.Machine.{placeOf}
-use Rattle.paper.specs.Packing.{index, Piece, Form, piece, newSize, startOf, distanceTo, newTarget, aimed, rewritten}
-use Rattle.laws.specs.Names.{Laid, AllLand, Sound, AllLong, longForm, piecesOf, newEnd, movedTo, moved, relaidBy}
+use Rattle.paper.specs.Jump.{nextOf, Distance, distances, baseOf, signedOf, reach, reached, targetsOf, placeOf, endFrom, jumpLands, targetsLand}
+use Rattle.paper.specs.Packing.{index, Piece, Form, piece, newSize, startOf, newTargets, aimed, rewritten}
+use Rattle.laws.specs.Names.{Laid, AllLand, Sound, goalOf, AllLong, longForm, piecesOf, newEnd, movedTo, moved, relaidBy}
 use Rattle.laws.specs.Put.{put-put, put-same}
 use Rattle.laws.specs.Places.{at, here, there, index-here, index-there, index-le, Names, lands-names, place-lands}
-use Rattle.laws.specs.Moved.{distance-fits, rewritten-operation, first-ends, moved-goal, relaid-length}
+use Rattle.laws.specs.Truth.{both-true}
+use Rattle.laws.specs.Moved.{Clears, clear-more, clears, distance-fits, aim, aimed-put, rewritten-operation, first-ends, moved-goals, relaid-length}
 
 -- ---- a distance comes back
 
@@ -49,34 +48,35 @@ distance-back n a d t h e = go (ltb d (2 ^ (n - 1))) refl
         let r : a ≡ t + suc (2 ^ n - suc d) = sub-back a (suc (2 ^ n - suc d)) t q in
         ap (λ (x : ℕ). x % 2 ^ n) (omega arith) ∙ mod-eq-of-lt h
 
--- A word aimed at the place that it reaches already is the word itself.
-aimed-same : (k : List Instr) (o : Operation) (i : Instr) → jumpLands k (jumpOf o i) ≡ true
-    → aimed o (i .word) (i .place) (nextOf i) (placeOf (jumpOf o i)) ≡ i .word
-unfolding aimed jumpOf
-aimed-same k (plain p) i e = refl
-aimed-same k nop i e = refl
-aimed-same k (branch b) i e = go (reach f (i .word) (i .place) (nextOf i)) refl e
+-- Words aimed at the places that they reach already are the words themselves.
+aimed-same : (k : List Instr) (fs : List Distance) (i : Instr) → targetsLand k (reached fs i) ≡ true
+    → aimed fs (i .word) (i .place) (nextOf i) (map placeOf (reached fs i)) ≡ i .word
+unfolding aimed
+aimed-same k [] i e = refl
+aimed-same k (f ∷ fs) i e =
+    let h = both-true (jumpLands k (reach f (i .word) (i .place) (nextOf i))) (targetsLand k (reached fs i)) e in
+    ap (λ (x : ℕ). aimed fs x (i .place) (nextOf i) (map placeOf (reached fs i))) (go (reach f (i .word) (i .place) (nextOf i)) refl (h .0))
+    ∙ aimed-same k fs i (h .1)
   where
-    f : Distance
-    f = distanceOf b
-
-    go : (z : ℤ) → reach f (i .word) (i .place) (nextOf i) ≡ z → jumpLands k (some z) ≡ true
-        → put (i .word) (f .lo) (f .width) (distanceTo f (baseOf (f .base) (i .place) (nextOf i)) (placeOf (some z))) ≡ i .word
+    go : (z : ℤ) → reach f (i .word) (i .place) (nextOf i) ≡ z → jumpLands k z ≡ true → aim f (i .word) (i .place) (nextOf i) (placeOf z) ≡ i .word
     go (pos t) q h =
         ap (put (i .word) (f .lo) (f .width))
         (distance-back (f .width) (baseOf (f .base) (i .place) (nextOf i)) (bits (i .word) (f .lo) (f .width)) t (mod-lt _ (pow-pos (f .width))) q)
         ∙ put-same (i .word) (f .lo) (f .width)
     go (negsuc t) q h = absurd (false≢true h)
-aimed-same k unlisted i e = refl
 
 -- Of two aims the last counts.
-aimed-again : (o : Operation) (w a m t b n u : ℕ) → aimed o (aimed o w a m t) b n u ≡ aimed o w b n u
+aimed-again : (fs : List Distance) → Clears fs → (w a m : ℕ) (ts : List ℕ) (b n : ℕ) (us : List ℕ) → length ts ≡ length us
+    → aimed fs (aimed fs w a m ts) b n us ≡ aimed fs w b n us
 unfolding aimed
-aimed-again (plain p) w a m t b n u = refl
-aimed-again nop w a m t b n u = refl
-aimed-again (branch c) w a m t b n u =
-    put-put w (distanceOf c .lo) (distanceOf c .width) _ _ (distance-fits (distanceOf c) (baseOf (distanceOf c .base) a m) t)
-aimed-again unlisted w a m t b n u = refl
+aimed-again [] c w a m ts b n us e = refl
+aimed-again (f ∷ fs) c w a m [] b n us e = refl
+aimed-again (f ∷ fs) c w a m (t ∷ ts) b n [] e = absurd (omega arith)
+aimed-again (f ∷ fs) (clear-more c apart cs) w a m (t ∷ ts) b n (u ∷ us) e =
+    ap (λ (x : ℕ). aimed fs x b n us)
+    (aimed-put f fs apart (aim f w a m t) a m ts _ (distance-fits f (baseOf (f .base) b n) u)
+    ∙ ap (λ (x : ℕ). aimed fs x a m ts) (put-put w (f .lo) (f .width) _ _ (distance-fits f (baseOf (f .base) a m) t)))
+    ∙ aimed-again fs cs (aim f w b n u) a m ts b n us (omega arith)
 
 -- ---- a place comes back
 
@@ -117,22 +117,31 @@ module _ (form : Form) (k : List Instr) (sound : Sound k) (long : AllLong k) (en
       long-start 0 (relaidBy form k) (index k p) (omega (arith, index-le k p, relaid-length form k))
       ∙ sym (long-place 0 k p (sound .laid) long (h .last))
 
-  module _ (a : ℕ) (i : Instr) (inside : a + newSize (piece form i) ≤ 2 ^ 15) (land : jumpLands k (targetOf i) ≡ true) where
-    -- So an instruction that lands is aimed at its old target again.
-    target-back : newTarget (relaidBy form k) (longPieces form k) (movedBy form k a i) ≡ placeOf (targetOf i)
-    target-back =
-        ap (startOf 0 (longPieces form k))
-        (moved-goal k (sound .laid) (piecesOf form k) (length-map k (piece form)) end a (piece form i) inside)
-        ∙ place-back (placeOf (targetOf i)) (lands-names k (sound .laid) (placeOf (targetOf i)) (place-lands k (sound .laid) (targetOf i) land))
+  -- So targets that land come to stand where they stood.
+  places-back : (zs : List ℤ) → targetsLand k zs ≡ true → map (λ j. startOf 0 (longPieces form k) j) (map (goalOf k) zs) ≡ map placeOf zs
+  places-back [] e = refl
+  places-back (z ∷ zs) e =
+      let h = both-true (jumpLands k z) (targetsLand k zs) e in
+      ap₂ {C = List ℕ} (λ x y. x ∷ y) (place-back (placeOf z) (lands-names k (sound .laid) (placeOf z) (place-lands k z (h .0)))) (places-back zs (h .1))
+
+  module _ (a : ℕ) (i : Instr) (inside : a + newSize (piece form i) ≤ 2 ^ 15) (land : targetsLand k (targetsOf i) ≡ true) where
+    -- So an instruction that lands is aimed at its old targets again.
+    targets-back : newTargets (relaidBy form k) (longPieces form k) (movedBy form k a i) ≡ map placeOf (targetsOf i)
+    targets-back =
+        sym (map-map (λ (j : ℕ). startOf 0 (longPieces form k) j) (goalOf (relaidBy form k)) (targetsOf (movedBy form k a i)))
+        ∙ ap (map (λ (j : ℕ). startOf 0 (longPieces form k) j))
+        (moved-goals k (sound .laid) (piecesOf form k) (length-map k (piece form)) end a (piece form i) inside)
+        ∙ places-back (targetsOf i) land
 
     -- So its word comes back.
     word-back : i .size ≡ 2 → rewritten (relaidBy form k) (longPieces form k) (i .place) (piece longForm (movedBy form k a i)) ≡ i .word
     word-back s =
-        let o : Operation = operation (i .word) in
+        let fs : List Distance = distances (operation (i .word)) in
         let w : ℕ = movedBy form k a i .word in
-        (λ j. aimed (rewritten-operation k (piecesOf form k) a (piece form i) j) w (i .place) (i .place + sym s j) (target-back j))
-        ∙ aimed-again o (i .word) a (a + newSize (piece form i)) (newTarget k (piecesOf form k) i) (i .place) (nextOf i) (placeOf (targetOf i))
-        ∙ aimed-same k o i land
+        (λ j. aimed (distances (rewritten-operation k (piecesOf form k) a (piece form i) j)) w (i .place) (i .place + sym s j) (targets-back j))
+        ∙ aimed-again fs (clears (operation (i .word))) (i .word) a (a + newSize (piece form i)) (newTargets k (piecesOf form k) i) (i .place) (nextOf i)
+        (map placeOf (targetsOf i)) (length-map (targetsOf i) _ ∙ sym (length-map (targetsOf i) placeOf))
+        ∙ aimed-same k fs i land
 
     -- So it comes back whole, where it stood.
     instr-back : (b : ℕ) → i .place ≡ b → i .size ≡ 2

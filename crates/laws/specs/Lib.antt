@@ -1,4 +1,5 @@
 -- Theorems about the paper's definitions.
+pub mod Truth
 pub mod Bits
 pub mod Rows
 pub mod Dictionary

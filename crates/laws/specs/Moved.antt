@@ -16,13 +16,13 @@ use borrow.Author.Tests.{eq-eqb, ltb-true, ltb-false, leb-true, leb-false, lt-lt
 use Rattle.paper.specs.Bits.{bits, put}
 use Rattle.paper.specs.Operation.{Branch, jmpi, if, else, endif, while, Operation, plain, nop, branch, unlisted, operationOf, operation, isBranch}
 use Rattle.paper.specs.Kernel.{Instr}
-use Rattle.paper.specs.Jump.{Base, ownStart, ownEnd, Distance, distanceOf, baseOf, signedOf, reach, jumpOf, targetOf}
-use Rattle.paper.specs.Jump.{fetch, endFrom, endOf, found, lands, jumpLands}
-use Rattle.paper.specs.Machine.{placeOf}
-use Rattle.paper.specs.Packing.{index, Piece, Form, piece, placesTaken, newSize, startOf, distanceTo, newTarget, aimed, rewritten}
-use Rattle.laws.specs.Names.{Laid, AllLand, Sound, blanked, blank, Line, lineOf, program, piecesOf, newEnd, movedTo, moved, relaidBy}
-use Rattle.laws.specs.Put.{put-below, put-at, put-put, put-fits}
-use Rattle.laws.specs.Places.{index-here, index-there, index-le, start-zero, none-length}
+use Rattle.paper.specs.Jump.{Base, ownStart, ownEnd, Distance, distancesOf, distances, baseOf, signedOf, reach, reached, targetsOf, placeOf}
+use Rattle.paper.specs.Jump.{fetch, endFrom, endOf, found, lands, targetsLand}
+use Rattle.paper.specs.Packing.{index, Piece, Form, piece, placesTaken, newSize, startOf, distanceTo, newTargets, aimed, rewritten}
+use Rattle.laws.specs.Names.{Laid, AllLand, Sound, blanked, blank, goalOf, Line, lineOf, program, piecesOf, newEnd, movedTo, moved, relaidBy}
+use Rattle.laws.specs.Put.{put-below, put-above, put-at, put-put, put-fits, put-apart}
+use Rattle.laws.specs.Rename.{AtPlaces}
+use Rattle.laws.specs.Places.{index-here, index-there, index-le, none-length}
 
 -- ---- where distances stand
 
@@ -33,13 +33,40 @@ pub record Clear (f : Distance) : Type 0 where
   pub top : f .lo + f .width ≤ 128
   pub beside : (f .lo + f .width ≤ 89) ⊎ (90 ≤ f .lo)
 
--- Every branch's distance is so.
-pub clear : (b : Branch) → Clear (distanceOf b)
-clear jmpi = record { low = omega arith; wide = omega arith; top = omega arith; beside = inr (omega arith) }
-clear if = record { low = omega arith; wide = omega arith; top = omega arith; beside = inl (omega arith) }
-clear else = record { low = omega arith; wide = omega arith; top = omega arith; beside = inl (omega arith) }
-clear endif = record { low = omega arith; wide = omega arith; top = omega arith; beside = inl (omega arith) }
-clear while = record { low = omega arith; wide = omega arith; top = omega arith; beside = inl (omega arith) }
+-- Two distances have no bit in common.
+abbrev Beside : Distance → Distance → Type 0
+Beside f g = (f .lo + f .width ≤ g .lo) ⊎ (g .lo + g .width ≤ f .lo)
+
+-- A distance has no bit in common with any of a list.
+abbrev Apart : Distance → List Distance → Type 0
+Apart f [] = Unit {0}
+Apart f (g ∷ gs) = Beside f g × Apart f gs
+
+-- Distances that stand so, each apart from the others.
+pub data Clears : List Distance → Type 0 where
+  clear-none : Clears []
+  clear-more : {f : Distance} {fs : List Distance} → Clear f → Apart f fs → Clears fs → Clears (f ∷ fs)
+
+-- 63:48 and 127:96 are such places.
+near-clear : Clear (record { lo = 48; width = 16; base = ownStart })
+near-clear = record { low = omega arith; wide = omega arith; top = omega arith; beside = inl (omega arith) }
+
+far-clear : Clear (record { lo = 96; width = 32; base = ownEnd })
+far-clear = record { low = omega arith; wide = omega arith; top = omega arith; beside = inr (omega arith) }
+
+-- So the distances of every branch stand so, and what is no branch has none.
+pub clear : (b : Branch) → Clears (distancesOf b)
+clear jmpi = clear-more far-clear tt clear-none
+clear if = clear-more near-clear tt clear-none
+clear else = clear-more near-clear tt clear-none
+clear endif = clear-more near-clear tt clear-none
+clear while = clear-more near-clear tt clear-none
+
+pub clears : (o : Operation) → Clears (distances o)
+clears (plain p) = clear-none
+clears nop = clear-none
+clears (branch b) = clear b
+clears unlisted = clear-none
 
 -- ---- what a distance reaches
 
@@ -91,82 +118,116 @@ reaches f wide w here next to a b h =
     low ownStart = a
     low ownEnd = b
 
--- ---- a word with another distance
+-- ---- a word with other distances
+
+-- A word with the distance f that leads to a place.
+abbrev pub aim : Distance → ℕ → ℕ → ℕ → ℕ → ℕ
+aim f w here next to = put w (f .lo) (f .width) (distanceTo f (baseOf (f .base) here next) to)
+
+-- Every place of a list is one that 15 bits can tell.
+abbrev pub AllNear : List ℕ → Type 0
+AllNear ts = AtPlaces (λ t. t < 2 ^ 15) ts
 
 -- Fields below bit 48 stay, the opcode among them.
-pub aimed-below : (o : Operation) (w here next to lo n : ℕ) → lo + n ≤ 48 → bits (aimed o w here next to) lo n ≡ bits w lo n
+pub aimed-below : (fs : List Distance) → Clears fs → (w here next : ℕ) (to : List ℕ) (lo n : ℕ) → lo + n ≤ 48 → bits (aimed fs w here next to) lo n ≡ bits w lo n
 unfolding aimed
-aimed-below (plain p) w here next to lo n h = refl
-aimed-below nop w here next to lo n h = refl
-aimed-below (branch b) w here next to lo n h =
-    put-below w (distanceOf b .lo) (distanceOf b .width) _ lo n (omega (arith, clear b .low))
-aimed-below unlisted w here next to lo n h = refl
+aimed-below [] c w here next to lo n h = refl
+aimed-below (f ∷ fs) c w here next [] lo n h = refl
+aimed-below (f ∷ fs) (clear-more c a cs) w here next (t ∷ to) lo n h =
+    aimed-below fs cs (aim f w here next t) here next to lo n h ∙ put-below w (f .lo) (f .width) _ lo n (omega (arith, c .low))
 
 -- So the operation stays.
-pub aimed-operation : (o : Operation) (w here next to : ℕ) → operation (aimed o w here next to) ≡ operation w
-aimed-operation o w here next to = ap operationOf (aimed-below o w here next to 0 7 (omega arith))
+pub aimed-operation : (fs : List Distance) → Clears fs → (w here next : ℕ) (to : List ℕ) → operation (aimed fs w here next to) ≡ operation w
+aimed-operation fs c w here next to = ap operationOf (aimed-below fs c w here next to 0 7 (omega arith))
 
 -- A long word stays one.
-pub aimed-fits : (o : Operation) (w here next to : ℕ) → w < 2 ^ 128 → aimed o w here next to < 2 ^ 128
+pub aimed-fits : (fs : List Distance) → Clears fs → (w here next : ℕ) (to : List ℕ) → w < 2 ^ 128 → aimed fs w here next to < 2 ^ 128
 unfolding aimed
-aimed-fits (plain p) w here next to h = h
-aimed-fits nop w here next to h = h
-aimed-fits (branch b) w here next to h =
-    put-fits w (distanceOf b .lo) (distanceOf b .width) _ 128 h
-    (distance-fits (distanceOf b) (baseOf (distanceOf b .base) here next) to) (clear b .top)
-aimed-fits unlisted w here next to h = h
+aimed-fits [] c w here next to h = h
+aimed-fits (f ∷ fs) c w here next [] h = h
+aimed-fits (f ∷ fs) (clear-more c a cs) w here next (t ∷ to) h =
+    aimed-fits fs cs (aim f w here next t) here next to
+    (put-fits w (f .lo) (f .width) _ 128 h (distance-fits f (baseOf (f .base) here next) t) (c .top))
 
 -- What is no branch stays as it is.
-pub aimed-plain : (o : Operation) (w here next to : ℕ) → isBranch o ≡ false → aimed o w here next to ≡ w
+pub aimed-plain : (o : Operation) (w here next : ℕ) (to : List ℕ) → isBranch o ≡ false → aimed (distances o) w here next to ≡ w
 unfolding aimed
 aimed-plain (plain p) w here next to e = refl
 aimed-plain nop w here next to e = refl
 aimed-plain (branch b) w here next to e = absurd (false≢true (sym e))
 aimed-plain unlisted w here next to e = refl
 
--- Without its distance the word is what it was without its distance.
-aimed-blank : (o : Operation) (w here next to : ℕ) → blanked o (aimed o w here next to) ≡ blanked o w
+-- A field that has no bit in common with the distances stays.
+put-beside : (f g : Distance) → Beside f g → (w v : ℕ) → v < 2 ^ g .width → bits (put w (g .lo) (g .width) v) (f .lo) (f .width) ≡ bits w (f .lo) (f .width)
+put-beside f g (inl h) w v fits = put-below w (g .lo) (g .width) v (f .lo) (f .width) h
+put-beside f g (inr h) w v fits = put-above w (g .lo) (g .width) v (f .lo) (f .width) fits h
+
+aimed-beside : (f : Distance) (fs : List Distance) → Apart f fs → (w here next : ℕ) (to : List ℕ)
+    → bits (aimed fs w here next to) (f .lo) (f .width) ≡ bits w (f .lo) (f .width)
+unfolding aimed
+aimed-beside f [] a w here next to = refl
+aimed-beside f (g ∷ fs) a w here next [] = refl
+aimed-beside f (g ∷ fs) a w here next (t ∷ to) =
+    aimed-beside f fs (a .1) (aim g w here next t) here next to
+    ∙ put-beside f g (a .0) w _ (distance-fits g (baseOf (g .base) here next) t)
+
+-- So it is written before them or after them.
+put-commutes : (f g : Distance) → Beside f g → (w u v : ℕ) → u < 2 ^ f .width → v < 2 ^ g .width
+    → put (put w (g .lo) (g .width) v) (f .lo) (f .width) u ≡ put (put w (f .lo) (f .width) u) (g .lo) (g .width) v
+put-commutes f g (inl h) w u v a b = put-apart w (f .lo) (f .width) u (g .lo) (g .width) v a h
+put-commutes f g (inr h) w u v a b = sym (put-apart w (g .lo) (g .width) v (f .lo) (f .width) u b h)
+
+pub aimed-put : (f : Distance) (fs : List Distance) → Apart f fs → (w here next : ℕ) (to : List ℕ) (v : ℕ) → v < 2 ^ f .width
+    → put (aimed fs w here next to) (f .lo) (f .width) v ≡ aimed fs (put w (f .lo) (f .width) v) here next to
+unfolding aimed
+aimed-put f [] a w here next to v h = refl
+aimed-put f (g ∷ fs) a w here next [] v h = refl
+aimed-put f (g ∷ fs) a w here next (t ∷ to) v h =
+    aimed-put f fs (a .1) (aim g w here next t) here next to v h
+    ∙ ap (λ (x : ℕ). aimed fs x here next to) (put-commutes f g (a .0) w v _ h (distance-fits g (baseOf (g .base) here next) t))
+
+-- Without its distances the word is what it was without its distances.
+aimed-blank : (fs : List Distance) → Clears fs → (w here next : ℕ) (to : List ℕ) → blanked fs (aimed fs w here next to) ≡ blanked fs w
 unfolding aimed blanked
-aimed-blank (plain p) w here next to = refl
-aimed-blank nop w here next to = refl
-aimed-blank (branch b) w here next to =
-    put-put w (distanceOf b .lo) (distanceOf b .width) _ 0 (distance-fits (distanceOf b) (baseOf (distanceOf b .base) here next) to)
-aimed-blank unlisted w here next to = refl
+aimed-blank [] c w here next to = refl
+aimed-blank (f ∷ fs) c w here next [] = refl
+aimed-blank (f ∷ fs) (clear-more c a cs) w here next (t ∷ to) =
+    ap (blanked fs)
+    (aimed-put f fs a (aim f w here next t) here next to 0 (pow-pos (f .width))
+    ∙ ap (λ (x : ℕ). aimed fs x here next to) (put-put w (f .lo) (f .width) _ 0 (distance-fits f (baseOf (f .base) here next) t)))
+    ∙ aimed-blank fs cs (put w (f .lo) (f .width) 0) here next to
 
--- What a jump reaches once it is aimed at `to`: `to`, if it is a branch, and else nothing.
-onto : Operation → ℕ → Option ℤ
-onto (plain p) to = none
-onto nop to = none
-onto (branch b) to = some (pos to)
-onto unlisted to = none
-
--- A jump aimed at a place below 2^15, from below 2^15, reaches it.
-aimed-jump : (o : Operation) (w here size to : ℕ) → here ≤ 2 ^ 15 → here + size ≤ 2 ^ 15 → to < 2 ^ 15
-    → jumpOf o (record { place = here; size = size; word = aimed o w here (here + size) to }) ≡ onto o to
-unfolding aimed jumpOf onto
-aimed-jump (plain p) w here size to a b h = refl
-aimed-jump nop w here size to a b h = refl
-aimed-jump (branch c) w here size to a b h = ap {B = Option ℤ} some (reaches (distanceOf c) (clear c .wide) w here (here + size) to a b h)
-aimed-jump unlisted w here size to a b h = refl
+-- Distances aimed at places below 2^15, from below 2^15, reach them, one each.
+aimed-reach : (fs : List Distance) → Clears fs → (w here next : ℕ) (to : List ℕ) → here ≤ 2 ^ 15 → next ≤ 2 ^ 15 → AllNear to → length to ≡ length fs
+    → map (λ f. reach f (aimed fs w here next to) here next) fs ≡ map pos to
+unfolding aimed
+aimed-reach [] c w here next [] p q h e = refl
+aimed-reach [] c w here next (t ∷ to) p q h e = absurd (omega arith)
+aimed-reach (f ∷ fs) c w here next [] p q h e = absurd (omega arith)
+aimed-reach (f ∷ fs) (clear-more c a cs) w here next (t ∷ to) p q h e =
+    ap₂ {C = List ℤ} (λ x y. x ∷ y)
+    (ap (λ (x : ℕ). pos (baseOf (f .base) here next) +ℤ signedOf (f .width) x) (aimed-beside f fs a (aim f w here next t) here next to)
+    ∙ reaches f (c .wide) w here next t p q (h .0))
+    (aimed-reach fs cs (aim f w here next t) here next to p q (h .1) (omega arith))
 
 -- ---- the rewritten words
 
 module _ (k : List Instr) (ps : List Piece) (a : ℕ) (p : Piece) where
   -- Rewriting keeps the operation.
   pub rewritten-operation : operation (rewritten k ps a p) ≡ operation (p .instr .word)
-  rewritten-operation = aimed-operation (operation (p .instr .word)) (p .instr .word) a (a + newSize p) (newTarget k ps (p .instr))
+  rewritten-operation = aimed-operation _ (clears (operation (p .instr .word))) (p .instr .word) a (a + newSize p) (newTargets k ps (p .instr))
 
   -- What is no branch is kept whole.
   pub rewritten-plain : isBranch (operation (p .instr .word)) ≡ false → rewritten k ps a p ≡ p .instr .word
-  rewritten-plain e = aimed-plain (operation (p .instr .word)) (p .instr .word) a (a + newSize p) (newTarget k ps (p .instr)) e
+  rewritten-plain e = aimed-plain (operation (p .instr .word)) (p .instr .word) a (a + newSize p) (newTargets k ps (p .instr)) e
 
   -- A long word stays one.
   pub rewritten-fits : p .instr .word < 2 ^ 128 → rewritten k ps a p < 2 ^ 128
-  rewritten-fits h = aimed-fits (operation (p .instr .word)) (p .instr .word) a (a + newSize p) (newTarget k ps (p .instr)) h
+  rewritten-fits h = aimed-fits _ (clears (operation (p .instr .word))) (p .instr .word) a (a + newSize p) (newTargets k ps (p .instr)) h
 
   -- Every field below bit 48 is kept.
   pub rewritten-below : (lo n : ℕ) → lo + n ≤ 48 → bits (rewritten k ps a p) lo n ≡ bits (p .instr .word) lo n
-  rewritten-below lo n h = aimed-below (operation (p .instr .word)) (p .instr .word) a (a + newSize p) (newTarget k ps (p .instr)) lo n h
+  rewritten-below lo n h = aimed-below _ (clears (operation (p .instr .word))) (p .instr .word) a (a + newSize p) (newTargets k ps (p .instr)) lo n h
 
 -- ---- where pieces start
 
@@ -253,77 +314,53 @@ module _ (k : List Instr) (ps : List Piece) where
 
 -- ---- their jumps
 
--- A branch reaches what it is aimed at.
-onto-branch : (o : Operation) (to : ℕ) → isBranch o ≡ true → onto o to ≡ some (pos to)
-unfolding onto
-onto-branch (plain p) to e = absurd (false≢true e)
-onto-branch nop to e = absurd (false≢true e)
-onto-branch (branch b) to e = refl
-onto-branch unlisted to e = absurd (false≢true e)
-
--- A jump aimed at a place that lands, lands.
-onto-lands : (k : List Instr) (o : Operation) (to : ℕ) → lands k to ≡ true → jumpLands k (onto o to) ≡ true
-unfolding onto
-onto-lands k (plain p) to e = refl
-onto-lands k nop to e = refl
-onto-lands k (branch b) to e = e
-onto-lands k unlisted to e = refl
-
 module _ (k : List Instr) (ps : List Piece) (end : startOf 0 ps (length ps) < 2 ^ 15) where
-  -- A new target is a place that a distance of 16 bits can reach.
-  pub target-fits : (i : Instr) → newTarget k ps i < 2 ^ 15
-  target-fits i = omega (arith, start-high 0 ps (index k (placeOf (targetOf i))))
+  -- New targets are places that a distance of 16 bits can reach.
+  pub targets-near : (zs : List ℤ) → AllNear (map (λ z. startOf 0 ps (index k (placeOf z))) zs)
+  targets-near [] = tt
+  targets-near (z ∷ zs) = (omega (arith, start-high 0 ps (index k (placeOf z))), targets-near zs)
 
-  module _ (a : ℕ) (p : Piece) (inside : a + newSize p ≤ 2 ^ 15) where
-    -- A moved jump reaches what it is aimed at.
-    moved-onto : targetOf (movedTo k ps a p) ≡ onto (operation (p .instr .word)) (newTarget k ps (p .instr))
-    moved-onto =
-        ap (λ (o : Operation). jumpOf o (movedTo k ps a p)) (rewritten-operation k ps a p)
-        ∙ aimed-jump (operation (p .instr .word)) (p .instr .word) a (newSize p) (newTarget k ps (p .instr)) (omega arith) inside
-        (target-fits (p .instr))
-
-    -- A moved branch reaches exactly the place at which its old target comes to stand.
-    pub moved-reaches : isBranch (operation (p .instr .word)) ≡ true → targetOf (movedTo k ps a p) ≡ some (pos (newTarget k ps (p .instr)))
-    moved-reaches e = moved-onto ∙ onto-branch (operation (p .instr .word)) (newTarget k ps (p .instr)) e
+  -- A moved instruction reaches exactly the places at which its old targets come to stand.
+  pub moved-reaches : (a : ℕ) (p : Piece) → a + newSize p ≤ 2 ^ 15 → targetsOf (movedTo k ps a p) ≡ map pos (newTargets k ps (p .instr))
+  moved-reaches a p inside =
+      let w : ℕ = p .instr .word in
+      ap (λ (o : Operation). reached (distances o) (movedTo k ps a p)) (rewritten-operation k ps a p)
+      ∙ aimed-reach (distances (operation w)) (clears (operation w)) w a (a + newSize p) (newTargets k ps (p .instr)) (omega arith) inside
+      (targets-near (targetsOf (p .instr)))
+      (length-map (targetsOf (p .instr)) _ ∙ length-map (distances (operation w)) _)
 
 module _ (k : List Instr) (laid : Laid 0 k) (ps : List Piece) (whole : length ps ≡ length k) (end : startOf 0 ps (length ps) < 2 ^ 15) where
-  -- What is no branch leads to place 0, before and after.
-  onto-place : (o : Operation) (i : Instr)
-      → let to : ℕ = startOf 0 ps (index k (placeOf (jumpOf o i))) in placeOf (onto o to) ≡ to
-  unfolding onto jumpOf startOf
-  onto-place (plain p) i = sym (ap (startOf 0 ps) (start-zero 0 k laid))
-  onto-place nop i = sym (ap (startOf 0 ps) (start-zero 0 k laid))
-  onto-place (branch b) i = refl
-  onto-place unlisted i = sym (ap (startOf 0 ps) (start-zero 0 k laid))
+  -- An old target's number is that of a piece, or of the end.
+  old-index : (z : ℤ) → goalOf k z ≤ length ps
+  old-index z = omega (arith, index-le k (placeOf z))
+
+  -- The new places of some targets have the numbers that the targets had, and land.
+  goals-kept : (zs : List ℤ)
+      → map (goalOf (moved k ps 0 ps)) (map pos (map (λ z. startOf 0 ps (goalOf k z)) zs)) ≡ map (goalOf k) zs
+  goals-kept [] = refl
+  goals-kept (z ∷ zs) = ap₂ {C = List ℕ} (λ x y. x ∷ y) (moved-index k ps 0 ps (goalOf k z) (old-index z)) (goals-kept zs)
+
+  goals-land : (zs : List ℤ) → targetsLand (moved k ps 0 ps) (map pos (map (λ z. startOf 0 ps (goalOf k z)) zs)) ≡ true
+  goals-land [] = refl
+  goals-land (z ∷ zs) = rw (start-lands k ps (goalOf k z) (old-index z)) (goals-land zs)
 
   module _ (a : ℕ) (p : Piece) (inside : a + newSize p ≤ 2 ^ 15) where
-    -- The place to which the machine goes by a moved instruction's jump.
-    pub moved-place : placeOf (targetOf (movedTo k ps a p)) ≡ newTarget k ps (p .instr)
-    moved-place = ap placeOf (moved-onto k ps end a p inside) ∙ onto-place (operation (p .instr .word)) (p .instr)
+    -- A moved instruction leads to what it led to.
+    pub moved-goals : map (goalOf (moved k ps 0 ps)) (targetsOf (movedTo k ps a p)) ≡ map (goalOf k) (targetsOf (p .instr))
+    moved-goals = ap (map (goalOf (moved k ps 0 ps))) (moved-reaches k ps end a p inside) ∙ goals-kept (targetsOf (p .instr))
 
-    -- The old target's number is that of a piece, or of the end.
-    old-index : index k (placeOf (targetOf (p .instr))) ≤ length ps
-    old-index = omega (arith, index-le k (placeOf (targetOf (p .instr))))
-
-    -- It has the number that the old target had.
-    pub moved-goal : index (moved k ps 0 ps) (placeOf (targetOf (movedTo k ps a p))) ≡ index k (placeOf (targetOf (p .instr)))
-    moved-goal = ap (index (moved k ps 0 ps)) moved-place ∙ moved-index k ps 0 ps (index k (placeOf (targetOf (p .instr)))) old-index
-
-    -- A moved instruction has its old line.
+    -- So it has its old line.
     moved-line : lineOf (moved k ps 0 ps) (movedTo k ps a p) ≡ lineOf k (p .instr)
     moved-line =
-        let o : Operation = operation (p .instr .word) in
-        let e : blank (rewritten k ps a p) ≡ blank (p .instr .word) =
-        ap (λ (x : Operation). blanked x (rewritten k ps a p)) (rewritten-operation k ps a p)
-        ∙ aimed-blank o (p .instr .word) a (a + newSize p) (newTarget k ps (p .instr)) in
-        λ j. record { word = e j; goal = moved-goal j }
+        let w : ℕ = p .instr .word in
+        let e : blank (rewritten k ps a p) ≡ blank w =
+        ap (λ (o : Operation). blanked (distances o) (rewritten k ps a p)) (rewritten-operation k ps a p)
+        ∙ aimed-blank (distances (operation w)) (clears (operation w)) w a (a + newSize p) (newTargets k ps (p .instr)) in
+        λ j. record { word = e j; goals = moved-goals j }
 
-    -- A moved instruction's jump lands.
-    moved-lands : jumpLands (moved k ps 0 ps) (targetOf (movedTo k ps a p)) ≡ true
-    moved-lands =
-        ap (jumpLands (moved k ps 0 ps)) (moved-onto k ps end a p inside)
-        ∙ onto-lands (moved k ps 0 ps) (operation (p .instr .word)) (newTarget k ps (p .instr))
-        (start-lands k ps (index k (placeOf (targetOf (p .instr)))) old-index)
+    -- Its jumps land.
+    moved-lands : targetsLand (moved k ps 0 ps) (targetsOf (movedTo k ps a p)) ≡ true
+    moved-lands = ap (targetsLand (moved k ps 0 ps)) (moved-reaches k ps end a p inside) ∙ goals-land (targetsOf (p .instr))
 
   -- So for each of them.
   moved-lines : (a : ℕ) (rest : List Piece) → startOf a rest (length rest) < 2 ^ 15

@@ -4,12 +4,13 @@ use mathlib.Core.Bool.{true}
 use mathlib.Core.List.{List, [], _∷_, map}
 use mathlib.Core.Option.{none}
 use Prim.Native.Nat.{ℕ, _+_, _<_}
+use lib.IntN.{ℤ}
 use lib.ListN.{length}
 use Rattle.paper.specs.Bits.{put}
-use Rattle.paper.specs.Operation.{Operation, plain, nop, branch, unlisted, operation}
+use Rattle.paper.specs.Operation.{operation}
 use Rattle.paper.specs.Kernel.{Instr}
-use Rattle.paper.specs.Jump.{nextOf, distanceOf, targetOf, jumpLands}
-use Rattle.paper.specs.Machine.{Channel, off, awake, waiting, State, Outcome, placeOf}
+use Rattle.paper.specs.Jump.{nextOf, Distance, distances, targetsOf, placeOf, targetsLand}
+use Rattle.paper.specs.Machine.{Channel, off, awake, waiting, State, Outcome}
 use Rattle.paper.specs.Packing.{index, Piece, Form, piece, newSize, startOf, rewritten}
 
 -- ---- sound kernels
@@ -19,10 +20,10 @@ unfoldable pub Laid : ℕ → List Instr → Type 0
 Laid a [] = Unit {0}
 Laid a (i ∷ rest) = (i .place ≡ a) × (0 < i .size) × Laid (nextOf i) rest
 
--- Each jump of the instructions `rest` lands in kernel k: on an instruction's start, or on the end.
+-- Each jump of the instructions `rest` lands in kernel k, by each of its targets: on an instruction's start, or on the end.
 unfoldable pub AllLand : List Instr → List Instr → Type 0
 AllLand k [] = Unit {0}
-AllLand k (i ∷ rest) = (jumpLands k (targetOf i) ≡ true) × AllLand k rest
+AllLand k (i ∷ rest) = (targetsLand k (targetsOf i) ≡ true) × AllLand k rest
 
 -- What a check leaves: the instructions stand one after the other from place 0, and every jump lands.
 pub record Sound (k : List Instr) : Type 0 where
@@ -51,23 +52,26 @@ namedOutcome k o = record { verdict = o .verdict; steps = o .steps; state = name
 
 -- ---- programs
 
--- A branch with its distance replaced by 0; any other word as it is.
-unfoldable pub blanked : Operation → ℕ → ℕ
-blanked (plain p) w = w
-blanked nop w = w
-blanked (branch b) w = put w (distanceOf b .lo) (distanceOf b .width) 0
-blanked unlisted w = w
+-- A word with some distances replaced by 0.
+unfoldable pub blanked : List Distance → ℕ → ℕ
+blanked [] w = w
+blanked (f ∷ fs) w = blanked fs (put w (f .lo) (f .width) 0)
 
+-- A word without its distances; what is no branch has none, and stays as it is.
 abbrev pub blank : ℕ → ℕ
-blank w = blanked (operation w) w
+blank w = blanked (distances (operation w)) w
 
--- An instruction without its place: its word without its distance, and the number of the instruction that it leads to.
+-- The number of the instruction at which a jump lands.
+abbrev pub goalOf : List Instr → ℤ → ℕ
+goalOf k z = index k (placeOf z)
+
+-- An instruction without its place: its word without its distances, and the numbers of the instructions that they lead to.
 pub record Line : Type 0 where
   pub word : ℕ
-  pub goal : ℕ
+  pub goals : List ℕ
 
 abbrev pub lineOf : List Instr → Instr → Line
-lineOf k i = record { word = blank (i .word); goal = index k (placeOf (targetOf i)) }
+lineOf k i = record { word = blank (i .word); goals = map (goalOf k) (targetsOf i) }
 
 -- A kernel without its places.
 abbrev pub program : List Instr → List Line

@@ -17,7 +17,7 @@ use Rattle.paper.specs.Dictionary.{Dictionary}
 use Rattle.paper.specs.Expand.{expand, isShort}
 use Rattle.paper.specs.Operation.{operation, isListed}
 use Rattle.paper.specs.Kernel.{Instr, Forms, longOnly, takesShort, Judged, passed, judgeAt, Parsed, bad, good, walk, parse}
-use Rattle.paper.specs.Jump.{nextOf, endFrom, endOf, targetOf, jumpLands, firstAstray, astray, withJumps}
+use Rattle.paper.specs.Jump.{nextOf, endFrom, endOf, targetsOf, targetsLand, firstAstray, astray, withJumps}
 use Rattle.laws.specs.Bytes.{number-lt, bytesOf-number, bytes-drop, numberAt-halves}
 use Rattle.laws.specs.Expand.{expand-fits, expand-operation, expand-reserved}
 use Rattle.laws.specs.Names.{Laid, AllLand, Sound}
@@ -88,10 +88,10 @@ module _ (forms : Forms) (D : Dictionary) (kernel : List ℕ) (bytes : areBytes 
 all-land : (k rest : List Instr) → firstAstray k rest ≡ none → AllLand k rest
 unfolding firstAstray AllLand
 all-land k [] e = tt
-all-land k (i ∷ rest) e = go (jumpLands k (targetOf i)) refl (all-land k rest) e
+all-land k (i ∷ rest) e = go (targetsLand k (targetsOf i)) refl (all-land k rest) e
   where
-    go : (t : Bool) → jumpLands k (targetOf i) ≡ t → (firstAstray k rest ≡ none → AllLand k rest)
-        → cond t (firstAstray k rest) (some (8 * i .place)) ≡ none → (jumpLands k (targetOf i) ≡ true) × AllLand k rest
+    go : (t : Bool) → targetsLand k (targetsOf i) ≡ t → (firstAstray k rest ≡ none → AllLand k rest)
+        → cond t (firstAstray k rest) (some (8 * i .place)) ≡ none → (targetsLand k (targetsOf i) ≡ true) × AllLand k rest
     go true h ih e = (h, ih e)
     go false h ih e = let z : _≡_ {A = ℕ} 0 1 = cc in absurd (omega arith)
 

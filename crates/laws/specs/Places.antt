@@ -10,10 +10,11 @@ use lib.IntN.{ℤ, pos, negsuc}
 use lib.ListN.{length, getElem?}
 use borrow.Author.Tests.{eqb-true, eqb-false, eq-eqb, ne-eqb}
 use Rattle.paper.specs.Kernel.{Instr}
-use Rattle.paper.specs.Jump.{nextOf, fetch, endFrom, lands, jumpLands, targetOf}
-use Rattle.paper.specs.Machine.{placeOf}
+use Rattle.paper.specs.Jump.{nextOf, fetch, endFrom, lands, jumpLands, targetsLand, targetsOf, placeOf}
 use Rattle.paper.specs.Packing.{index}
 use Rattle.laws.specs.Names.{Laid, AllLand}
+use Rattle.laws.specs.Rename.{AtPlaces}
+use Rattle.laws.specs.Truth.{both-true}
 
 -- The clauses of `fetch` and `index` at a place that the first instruction has, and has not.
 pub fetch-here : (i : Instr) (k : List Instr) (p : ℕ) → i .place ≡ p → fetch (i ∷ k) p ≡ some i
@@ -182,13 +183,13 @@ lands-names k l p e = go (fetch k p) refl
 pub next-names : (k : List Instr) (p : ℕ) (i : Instr) → Found 0 k p i → Names k (nextOf i)
 next-names k p i f = record { last = f .last }
 
--- Each instruction that starts at some place has a jump that lands, if all have.
-pub jump-lands : (k r : List Instr) (p : ℕ) (i : Instr) → AllLand k r → fetch r p ≡ some i → jumpLands k (targetOf i) ≡ true
+-- Each instruction that starts at some place has targets that land, if all have.
+pub jump-lands : (k r : List Instr) (p : ℕ) (i : Instr) → AllLand k r → fetch r p ≡ some i → targetsLand k (targetsOf i) ≡ true
 unfolding AllLand fetch
 jump-lands k [] p i l e = absurd (Option·none-ne-some i e)
 jump-lands k (j ∷ r) p i l e =
     elim (at j p) [
-      | here h ↦ subst (λ x. jumpLands k (targetOf x) ≡ true) (Option·some-injective j i (sym (fetch-here j r p h) ∙ e)) (l .0)
+      | here h ↦ subst (λ x. targetsLand k (targetsOf x) ≡ true) (Option·some-injective j i (sym (fetch-here j r p h) ∙ e)) (l .0)
       | there h ↦ jump-lands k r p i (l .1) (sym (fetch-there j r p h) ∙ e)
     ]
 
@@ -198,8 +199,14 @@ unfolding Laid lands endFrom fetch
 zero-lands [] l = refl
 zero-lands (i ∷ k) l = rw (fetch-here i k 0 (l .0))
 
--- The place that the machine goes to by a jump that lands is an instruction's start or the end; so is that of no jump, place 0.
-pub place-lands : (k : List Instr) → Laid 0 k → (o : Option ℤ) → jumpLands k o ≡ true → lands k (placeOf o) ≡ true
-place-lands k l none e = zero-lands k l
-place-lands k l (some (pos p)) e = e
-place-lands k l (some (negsuc p)) e = absurd (false≢true e)
+-- The place of a jump that lands is an instruction's start or the end.
+pub place-lands : (k : List Instr) (z : ℤ) → jumpLands k z ≡ true → lands k (placeOf z) ≡ true
+place-lands k (pos p) e = e
+place-lands k (negsuc p) e = absurd (false≢true e)
+
+-- So is each of a list of targets that land, and names something.
+pub targets-name : (k : List Instr) → Laid 0 k → (zs : List ℤ) → targetsLand k zs ≡ true → AtPlaces (Names k) (map placeOf zs)
+targets-name k l [] e = tt
+targets-name k l (z ∷ zs) e =
+    let h = both-true (jumpLands k z) (targetsLand k zs) e in
+    (lands-names k l (placeOf z) (place-lands k z (h .0)), targets-name k l zs (h .1))

@@ -104,3 +104,72 @@ put-fits w lo n v m h g l =
     let p : 2 ^ m ≡ 2 ^ c * 2 ^ n * 2 ^ lo =
     ap (λ (k : ℕ). 2 ^ k) (omega arith) ∙ pow-add 2 (c + n) lo ∙ ap (λ (k : ℕ). k * 2 ^ lo) (pow-add 2 c n) in
     rw (put-form w lo n v, p) (omega arith)
+
+-- ---- two fields of one word
+
+-- A number c shifted up by b + k bits is c shifted up by k, and then by b.
+up : (c b k : ℕ) → c * 2 ^ (b + k) ≡ c * 2 ^ k * 2 ^ b
+up c b k = ap (λ (x : ℕ). c * x) (pow-add 2 b k ∙ mul-comm (2 ^ b) (2 ^ k)) ∙ sym (mul-assoc c (2 ^ k) (2 ^ b))
+
+-- A word of two parts: r below bit b, and x from there on.
+module _ (r x b : ℕ) (small : r < 2 ^ b) where
+  -- What stands from bit b + k on is what stands in x from bit k on.
+  part-above : (k : ℕ) → (r + x * 2 ^ b) / 2 ^ (b + k) ≡ x / 2 ^ k
+  part-above k =
+      ap (λ (m : ℕ). (r + x * 2 ^ b) / m) (pow-add 2 b k)
+      ∙ sym (div-div-eq-div-mul (r + x * 2 ^ b) (2 ^ b) (2 ^ k))
+      ∙ ap (λ (y : ℕ). y / 2 ^ k) (add-mul-div-right r x (pow-pos b) ∙ ap (λ (y : ℕ). y + x) (div-eq-of-lt small) ∙ zero-add x)
+
+  -- What stands below it is r, and what stands in x below bit k.
+  part-below : (k : ℕ) → (r + x * 2 ^ b) % 2 ^ (b + k) ≡ r + x % 2 ^ k * 2 ^ b
+  part-below k =
+      let e = mod-add-div' (r + x * 2 ^ b) (2 ^ (b + k)) in
+      let f : (r + x * 2 ^ b) / 2 ^ (b + k) * 2 ^ (b + k) ≡ x / 2 ^ k * 2 ^ k * 2 ^ b =
+      ap (λ (y : ℕ). y * 2 ^ (b + k)) (part-above k) ∙ up (x / 2 ^ k) b k in
+      let g : x * 2 ^ b ≡ x % 2 ^ k * 2 ^ b + x / 2 ^ k * 2 ^ k * 2 ^ b =
+      ap (λ (y : ℕ). y * 2 ^ b) (sym (mod-add-div' x (2 ^ k))) ∙ add-mul (x % 2 ^ k) (x / 2 ^ k * 2 ^ k) (2 ^ b) in
+      omega (arith, e, f, g)
+
+  -- To write a field of the part above is to write it in x.
+  put-part : (lo n v : ℕ) → put (r + x * 2 ^ b) (b + lo) n v ≡ r + put x lo n v * 2 ^ b
+  put-part lo n v =
+      let a = part-below lo in
+      let c : (r + x * 2 ^ b) / 2 ^ (b + lo + n) * 2 ^ (b + lo + n) ≡ x / 2 ^ (lo + n) * 2 ^ (lo + n) * 2 ^ b =
+      ap (λ (k : ℕ). (r + x * 2 ^ b) / 2 ^ k * 2 ^ k) (omega arith)
+      ∙ ap (λ (y : ℕ). y * 2 ^ (b + (lo + n))) (part-above (lo + n))
+      ∙ up (x / 2 ^ (lo + n)) b (lo + n) in
+      let d = up v b lo in
+      let e = add-mul (x % 2 ^ lo + v * 2 ^ lo) (x / 2 ^ (lo + n) * 2 ^ (lo + n)) (2 ^ b) in
+      let f = add-mul (x % 2 ^ lo) (v * 2 ^ lo) (2 ^ b) in
+      omega (arith, a, c, d, e, f)
+
+-- To write the topmost field of the part below leaves x as it is.
+put-under : (r x lo n u : ℕ) → r < 2 ^ (lo + n) → put (r + x * 2 ^ (lo + n)) lo n u ≡ r % 2 ^ lo + u * 2 ^ lo + x * 2 ^ (lo + n)
+put-under r x lo n u small =
+    let a : (r + x * 2 ^ (lo + n)) % 2 ^ lo ≡ r % 2 ^ lo =
+    ap (λ (y : ℕ). (r + y) % 2 ^ lo) (up x lo n) ∙ add-mul-mod-self-right r (x * 2 ^ n) (2 ^ lo) in
+    let b : (r + x * 2 ^ (lo + n)) / 2 ^ (lo + n) * 2 ^ (lo + n) ≡ x * 2 ^ (lo + n) =
+    ap (λ (y : ℕ). y * 2 ^ (lo + n)) (add-mul-div-right r x (pow-pos (lo + n)) ∙ ap (λ (y : ℕ). y + x) (div-eq-of-lt small) ∙ zero-add x) in
+    omega (arith, a, b)
+
+-- Two fields, the first wholly below the second, are written in either order.
+pub put-apart : (w lo n u hi m v : ℕ) → u < 2 ^ n → lo + n ≤ hi → put (put w hi m v) lo n u ≡ put (put w lo n u) hi m v
+put-apart w lo n u hi m v fits apart =
+    let b : ℕ = lo + n in
+    let c : ℕ = hi - b in
+    let r : ℕ = w % 2 ^ b in
+    let x : ℕ = w / 2 ^ b in
+    let s : ℕ = r % 2 ^ lo + u * 2 ^ lo in
+    let small : r < 2 ^ b = mod-lt w (pow-pos b) in
+    let low : s < 2 ^ b =
+    let d : u * 2 ^ lo + r % 2 ^ lo < 2 ^ n * 2 ^ lo = digits-lt fits (mod-lt r (pow-pos lo)) in
+    let p : 2 ^ b ≡ 2 ^ n * 2 ^ lo = pow-add 2 lo n ∙ mul-comm (2 ^ lo) (2 ^ n) in
+    omega arith in
+    let place : hi ≡ b + c = omega arith in
+    let parts : r + x * 2 ^ b ≡ w = mod-add-div' w (2 ^ b) in
+    let first : put w hi m v ≡ r + put x c m v * 2 ^ b = (λ i. put (sym parts i) (place i) m v) ∙ put-part r x b small c m v in
+    let second : put w lo n u ≡ s + x * 2 ^ b = ap (λ (y : ℕ). put y lo n u) (sym parts) ∙ put-under r x lo n u small in
+    ap (λ (y : ℕ). put y lo n u) first
+    ∙ put-under r (put x c m v) lo n u small
+    ∙ sym (put-part s x b low c m v)
+    ∙ (λ i. put (sym second i) (sym place i) m v)

@@ -9,7 +9,7 @@ use Rattle.paper.specs.Operation.{Branch, jmpi, if, else, endif, while, Operati
 use Rattle.paper.specs.Enable.{Store, holds}
 use Rattle.paper.specs.Effect.{effect}
 use Rattle.paper.specs.Machine.{Channel, off, awake, waiting, State, Ways, wake, park, isAwake, waitsAt, each, someone}
-use Rattle.paper.specs.Machine.{onward, fork, act, pass, perform, stepAt}
+use Rattle.paper.specs.Machine.{onward, fork, act, pass, perform, stepAt, lastOf, leads}
 use Rattle.laws.specs.Names.{renameC, rename}
 
 -- A function of a choice is the choice of the function's values.
@@ -31,11 +31,35 @@ AtChannels P (c ∷ cs) = AtChannel P c × AtChannels P cs
 -- P holds of the places to which an instruction leads.
 pub record AtWays (P : ℕ → Type 0) (ways : Ways) : Type 0 where
   pub next : P (ways .next)
-  pub target : P (ways .target)
+  pub jump : P (ways .jump)
+  pub wait : P (ways .wait)
 
 -- Ways with φ of each place.
 abbrev pub renameWays : (ℕ → ℕ) → Ways → Ways
-renameWays φ ways = record { next = φ (ways .next); target = φ (ways .target) }
+renameWays φ ways = record { next = φ (ways .next); jump = φ (ways .jump); wait = φ (ways .wait) }
+
+-- P holds of each place of a list.
+abbrev pub AtPlaces : (ℕ → Type 0) → List ℕ → Type 0
+AtPlaces P [] = Unit {0}
+AtPlaces P (t ∷ ts) = P t × AtPlaces P ts
+
+-- P holds of the ways of an instruction if it holds of its next place and of its targets, and of 0, which stands for what is not there.
+pub leads-at : (P : ℕ → Type 0) (next : ℕ) (ts : List ℕ) → P next → P 0 → AtPlaces P ts → AtWays P (leads next ts)
+leads-at P next [] n z a = record { next = n; jump = z; wait = z }
+leads-at P next (t ∷ ts) n z a = record { next = n; jump = a .0; wait = last t ts (a .0) (a .1) }
+  where
+    last : (t : ℕ) (ts : List ℕ) → P t → AtPlaces P ts → P (lastOf t ts)
+    last t [] p a = p
+    last t (u ∷ ts) p a = last u ts (a .0) (a .1)
+
+-- The ways of renamed targets are the renamed ways, if 0 keeps its name.
+pub leads-rename : (φ : ℕ → ℕ) → φ 0 ≡ 0 → (next : ℕ) (ts : List ℕ) → renameWays φ (leads next ts) ≡ leads (φ next) (map φ ts)
+leads-rename φ z next [] = λ i. record { next = φ next; jump = z i; wait = z i }
+leads-rename φ z next (t ∷ ts) = λ i. record { next = φ next; jump = φ t; wait = last t ts i }
+  where
+    last : (t : ℕ) (ts : List ℕ) → φ (lastOf t ts) ≡ lastOf (φ t) (map φ ts)
+    last t [] = refl
+    last t (u ∷ ts) = last u ts
 
 -- ---- what holds for every φ
 
@@ -111,7 +135,7 @@ module _ (φ : ℕ → ℕ) (P : ℕ → Type 0) (apart : (p q : ℕ) → P p �
   unfolding onward
   onward-rename ways h cs v =
       rw (some-rename (ways .next) h 0 cs v)
-      (cond-ap φ (someone (λ _ c. isAwake c || waitsAt (ways .next) c) 0 cs) (ways .next) (ways .target))
+      (cond-ap φ (someone (λ _ c. isAwake c || waitsAt (ways .next) c) 0 cs) (ways .next) (ways .jump))
 
   -- A fork commutes with renaming.
   fork-rename : (ways : Ways) → AtWays P ways → (st : Store) (cs ds : List Channel) → AtChannels P cs → map (renameC φ) cs ≡ ds
@@ -155,20 +179,20 @@ module _ (P : ℕ → Type 0) where
   fork-at : (ways : Ways) → AtWays P ways → (st : Store) (cs : List Channel) → AtChannels P cs → AtState P (fork ways st cs)
   unfolding onward
   fork-at ways a st cs v =
-      record { current = cond-at P (someone (λ _ c. isAwake c || waitsAt (ways .next) c) 0 cs) _ _ (a .next) (a .target); waits = v }
+      record { current = cond-at P (someone (λ _ c. isAwake c || waitsAt (ways .next) c) 0 cs) _ _ (a .next) (a .jump); waits = v }
 
   -- So does every branch.
   act-at : (b : Branch) (w : ℕ) (ways : Ways) → AtWays P ways → (st : Store) (cs : List Channel) → AtChannels P cs
       → AtState P (act b w ways st cs)
   unfolding act
-  act-at if w ways a st cs v = fork-at ways a st _ (each-at (λ m. not (holds w st m)) (ways .target) (a .target) 0 cs v)
-  act-at else w ways a st cs v = fork-at ways a st _ (each-at (λ _. true) (ways .target) (a .target) 0 cs v)
+  act-at if w ways a st cs v = fork-at ways a st _ (each-at (λ m. not (holds w st m)) (ways .wait) (a .wait) 0 cs v)
+  act-at else w ways a st cs v = fork-at ways a st _ (each-at (λ _. true) (ways .wait) (a .wait) 0 cs v)
   act-at endif w ways a st cs v = fork-at ways a st cs v
   act-at while w ways a st cs v =
       cond-at (AtState P) (someone (λ n c. isAwake c && holds w st n) 0 cs) _ _
-      (record { current = a .target; waits = each-at (λ m. not (holds w st m)) (ways .next) (a .next) 0 cs v })
+      (record { current = a .jump; waits = each-at (λ m. not (holds w st m)) (ways .next) (a .next) 0 cs v })
       (record { current = a .next; waits = v })
-  act-at jmpi w ways a st cs v = record { current = cond-at P (holds w st 0) _ _ (a .target) (a .next); waits = v }
+  act-at jmpi w ways a st cs v = record { current = cond-at P (holds w st 0) _ _ (a .jump) (a .next); waits = v }
 
   -- So does every instruction.
   perform-at : (o : Operation) (w : ℕ) (ways : Ways) → AtWays P ways → (st : Store) (cs : List Channel) → AtChannels P cs
@@ -189,17 +213,17 @@ module _ (φ : ℕ → ℕ) (P : ℕ → Type 0) (apart : (p q : ℕ) → P p �
       → rename φ (act b w ways st cs) ≡ act b w (renameWays φ ways) st (map (renameC φ) cs)
   unfolding act
   act-rename if w ways a st cs v =
-      fork-rename φ P apart ways a st _ _ (each-at P (λ m. not (holds w st m)) (ways .target) (a .target) 0 cs v)
-      (each-park φ (λ m. not (holds w st m)) (ways .target) 0 cs)
+      fork-rename φ P apart ways a st _ _ (each-at P (λ m. not (holds w st m)) (ways .wait) (a .wait) 0 cs v)
+      (each-park φ (λ m. not (holds w st m)) (ways .wait) 0 cs)
   act-rename else w ways a st cs v =
-      fork-rename φ P apart ways a st _ _ (each-at P (λ _. true) (ways .target) (a .target) 0 cs v) (each-park φ (λ _. true) (ways .target) 0 cs)
+      fork-rename φ P apart ways a st _ _ (each-at P (λ _. true) (ways .wait) (a .wait) 0 cs v) (each-park φ (λ _. true) (ways .wait) 0 cs)
   act-rename endif w ways a st cs v = fork-rename φ P apart ways a st cs _ v refl
   act-rename while w ways a st cs v =
       cond-two (rename φ) _ _ _ _ (some-awake φ (holds w st) 0 cs)
-      (λ i. record { store = st; channels = each-park φ (λ m. not (holds w st m)) (ways .next) 0 cs i; place = φ (ways .target) })
+      (λ i. record { store = st; channels = each-park φ (λ m. not (holds w st m)) (ways .next) 0 cs i; place = φ (ways .jump) })
       refl
   act-rename jmpi w ways a st cs v =
-      λ i. record { store = st; channels = map (renameC φ) cs; place = cond-ap φ (holds w st 0) (ways .target) (ways .next) i }
+      λ i. record { store = st; channels = map (renameC φ) cs; place = cond-ap φ (holds w st 0) (ways .jump) (ways .next) i }
 
   -- So does what is no branch: it reads the mask of awake channels and no place.
   pass-rename : (w : ℕ) (ways : Ways) (st : Store) (cs : List Channel)

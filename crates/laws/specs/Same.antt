@@ -1,8 +1,8 @@
 -- Demand 3: two sound kernels with one program run alike, and so does a kernel and the same laid out anew. Assumes nothing.
 use mathlib.Core.Path.{_≡_, refl, ap, ap₂, sym, _∙_}
 use mathlib.Core.Logic.{_⊎_, inl, inr}
-use mathlib.Core.Bool.{Bool, true, false, not, _&&_, cond, false≢true}
-use mathlib.Core.List.{List, [], _∷_, map}
+use mathlib.Core.Bool.{Bool, true, false, not, _&&_, cond}
+use mathlib.Core.List.{List, [], _∷_, map, map-map}
 use mathlib.Core.Option.{Option, none, some, Option·map}
 use Prim.Native.Nat.{ℕ, zero, suc, _+_, _^_, _<_, _≤_}
 use native.Mathlib.Omega.{arith}
@@ -13,17 +13,18 @@ use Rattle.paper.specs.Bits.{bits, bit, put}
 use Rattle.paper.specs.Operation.{Branch, jmpi, if, else, endif, while, Operation, plain, nop, branch, unlisted, operationOf, operation}
 use Rattle.paper.specs.Enable.{Store, holds}
 use Rattle.paper.specs.Kernel.{Instr}
-use Rattle.paper.specs.Jump.{Distance, distanceOf, targetOf, fetch, lands}
+use Rattle.paper.specs.Jump.{nextOf, Distance, distancesOf, distances, targetsOf, placeOf, fetch, lands}
 use Rattle.paper.specs.Machine.{Channel, off, awake, waiting, State, Ways, wake, park, isAwake, each, someone, fork, act, perform, stepAt}
-use Rattle.paper.specs.Machine.{placeOf, waysOf, stepOn, step, stopsOn, stops, runWith, run, startFrom, start}
+use Rattle.paper.specs.Machine.{leads, waysOf, stepOn, step, stopsOn, stops, runWith, run, startFrom, start}
 use Rattle.paper.specs.State.{waitsLand, stateLands}
 use Rattle.paper.specs.Packing.{index, Form}
-use Rattle.laws.specs.Names.{Laid, Sound, renameC, named, namedOutcome, blanked, blank, Line, lineOf, program, newEnd, relaidBy}
+use Rattle.laws.specs.Names.{Laid, Sound, renameC, named, namedOutcome, blanked, blank, goalOf, Line, lineOf, program, newEnd, relaidBy}
 use Rattle.laws.specs.Put.{put-below, put-above}
-use Rattle.laws.specs.Rename.{cond-ap, AtState, AtChannels, AtWays, stepAt-at, stepAt-rename}
-use Rattle.laws.specs.Places.{Names, apart, found, fetch-index, start-zero, zero-lands, lands-names, next-names, jump-lands, place-lands}
+use Rattle.laws.specs.Rename.{cond-ap, AtState, AtChannels, AtWays, renameWays, leads-at, leads-rename, stepAt-at, stepAt-rename}
+use Rattle.laws.specs.Places.{Names, apart, found, fetch-index, start-zero, zero-lands, lands-names, next-names, jump-lands, targets-name}
 use Rattle.laws.specs.Runs.{run-carried}
-use Rattle.laws.specs.Moved.{Clear, clear, relaid-program, relaid-sound}
+use Rattle.laws.specs.Moved.{Clears, clear-more, clear, clears, relaid-program, relaid-sound}
+use Rattle.laws.specs.Truth.{both-true}
 
 -- ---- a step reads no distance but by its target
 
@@ -34,26 +35,23 @@ record Alike (v w : ℕ) : Type 0 where
   inv : bits v 20 1 ≡ bits w 20 1
   choice : bits v 89 1 ≡ bits w 89 1
 
--- A branch without its distance keeps its flag choice.
+-- A word without a distance keeps its flag choice.
 put-choice : (f : Distance) (w : ℕ) → (f .lo + f .width ≤ 89) ⊎ (90 ≤ f .lo) → bits (put w (f .lo) (f .width) 0) 89 1 ≡ bits w 89 1
 put-choice f w (inl h) = put-above w (f .lo) (f .width) 0 89 1 (pow-pos (f .width)) h
 put-choice f w (inr h) = put-below w (f .lo) (f .width) 0 89 1 (omega arith)
 
--- A word and the same without its distance agree so.
-blank-alike : (o : Operation) (w : ℕ) → Alike (blanked o w) w
+-- A word and the same without some distances agree so.
+blank-alike : (fs : List Distance) → Clears fs → (w : ℕ) → Alike (blanked fs w) w
 unfolding blanked
-blank-alike (plain p) w = record { op = refl; ctrl = refl; inv = refl; choice = refl }
-blank-alike nop w = record { op = refl; ctrl = refl; inv = refl; choice = refl }
-blank-alike (branch b) w =
-    let f : Distance = distanceOf b in
-    let c : Clear f = clear b in
+blank-alike [] c w = record { op = refl; ctrl = refl; inv = refl; choice = refl }
+blank-alike (f ∷ fs) (clear-more c a cs) w =
+    let r = blank-alike fs cs (put w (f .lo) (f .width) 0) in
     record {
-      op = put-below w (f .lo) (f .width) 0 0 7 (omega arith);
-      ctrl = put-below w (f .lo) (f .width) 0 16 4 (omega arith);
-      inv = put-below w (f .lo) (f .width) 0 20 1 (omega arith);
-      choice = put-choice f w (c .beside);
+      op = r .op ∙ put-below w (f .lo) (f .width) 0 0 7 (omega (arith, c .low));
+      ctrl = r .ctrl ∙ put-below w (f .lo) (f .width) 0 16 4 (omega (arith, c .low));
+      inv = r .inv ∙ put-below w (f .lo) (f .width) 0 20 1 (omega (arith, c .low));
+      choice = r .choice ∙ put-choice f w (c .beside);
     }
-blank-alike unlisted w = record { op = refl; ctrl = refl; inv = refl; choice = refl }
 
 -- The predicate by its three fields.
 predicate : ℕ → ℕ → ℕ → Store → ℕ → Bool
@@ -69,30 +67,31 @@ alike-holds v w st a = λ i n. predicate (a .ctrl i) (a .inv i) (a .choice i) st
 -- A branch depends on its word by the predicate alone.
 act-alike : (b : Branch) (v w : ℕ) (ways : Ways) (st : Store) (cs : List Channel) → holds v st ≡ holds w st → act b v ways st cs ≡ act b w ways st cs
 unfolding act
-act-alike if v w ways st cs e = ap (λ (f : ℕ → Bool). fork ways st (each (λ n. park (not (f n)) (ways .target)) 0 cs)) e
+act-alike if v w ways st cs e = ap (λ (f : ℕ → Bool). fork ways st (each (λ n. park (not (f n)) (ways .wait)) 0 cs)) e
 act-alike else v w ways st cs e = refl
 act-alike endif v w ways st cs e = refl
 act-alike while v w ways st cs e =
     ap {B = State} (λ (f : ℕ → Bool). cond (someone (λ n c. isAwake c && f n) 0 cs)
-    (record { store = st; channels = each (λ n. park (not (f n)) (ways .next)) 0 cs; place = ways .target })
+    (record { store = st; channels = each (λ n. park (not (f n)) (ways .next)) 0 cs; place = ways .jump })
     (record { store = st; channels = cs; place = ways .next })) e
 act-alike jmpi v w ways st cs e =
-    ap {B = State} (λ (f : ℕ → Bool). record { store = st; channels = cs; place = cond (f 0) (ways .target) (ways .next) }) e
+    ap {B = State} (λ (f : ℕ → Bool). record { store = st; channels = cs; place = cond (f 0) (ways .jump) (ways .next) }) e
 
--- An instruction does what it does without its distance, if it leads to the same places.
-blank-performs : (o : Operation) (w : ℕ) (ways : Ways) (st : Store) (cs : List Channel) → perform o (blanked o w) ways st cs ≡ perform o w ways st cs
+-- An instruction does what it does without its distances, if it leads to the same places.
+blank-performs : (o : Operation) (w : ℕ) (ways : Ways) (st : Store) (cs : List Channel)
+    → perform o (blanked (distances o) w) ways st cs ≡ perform o w ways st cs
 unfolding perform blanked
 blank-performs (plain p) w ways st cs = refl
 blank-performs nop w ways st cs = refl
 blank-performs (branch b) w ways st cs =
-    act-alike b (blanked (branch b) w) w ways st cs (alike-holds (blanked (branch b) w) w st (blank-alike (branch b) w))
+    act-alike b (blanked (distancesOf b) w) w ways st cs (alike-holds (blanked (distancesOf b) w) w st (blank-alike (distancesOf b) (clear b) w))
 blank-performs unlisted w ways st cs = refl
 
 -- So for a whole step.
 blank-step : (w here : ℕ) (ways : Ways) (s : State) → stepAt (blank w) here ways s ≡ stepAt w here ways s
 blank-step w here ways s =
     let cs : List Channel = map (wake here) (s .channels) in
-    ap (λ (o : Operation). perform o (blank w) ways (s .store) cs) (ap operationOf (blank-alike (operation w) w .op))
+    ap (λ (o : Operation). perform o (blank w) ways (s .store) cs) (ap operationOf (blank-alike (distances (operation w)) (clears (operation w)) w .op))
     ∙ blank-performs (operation w) w ways (s .store) cs
 
 -- ---- a kernel's steps, by its program
@@ -100,7 +99,7 @@ blank-step w here ways s =
 -- The machine of a program, whose places are the lines' numbers: what a line does, if there is one.
 lineOn : Option Line → State → State
 lineOn none s = s
-lineOn (some l) s = stepAt (l .word) (s .place) (record { next = suc (s .place); target = l .goal }) s
+lineOn (some l) s = stepAt (l .word) (s .place) (leads (suc (s .place)) (l .goals)) s
 
 -- A step by the program: the line that the state stands at, if there is one.
 lineStep : List Line → State → State
@@ -115,14 +114,18 @@ lineStops : List Line → State → Option ℕ
 lineStops q s = lineStopsOn (getElem? q (s .place))
 
 module _ (k : List Instr) (sound : Sound k) where
-  -- A sound kernel's jumps lead to what names an instruction or the end.
-  target-names : (p : ℕ) (i : Instr) → fetch k p ≡ some i → Names k (placeOf (targetOf i))
-  target-names p i e =
-      lands-names k (sound .laid) (placeOf (targetOf i)) (place-lands k (sound .laid) (targetOf i) (jump-lands k k p i (sound .land) e))
-
-  -- So do all the ways of its instructions.
+  -- The ways of a sound kernel's instructions lead to what names an instruction or the end.
   ways-names : (p : ℕ) (i : Instr) → fetch k p ≡ some i → AtWays (Names k) (waysOf i)
-  ways-names p i e = record { next = next-names k p i (found 0 k p i (sound .laid) e); target = target-names p i e }
+  ways-names p i e =
+      leads-at (Names k) (nextOf i) (map placeOf (targetsOf i)) (next-names k p i (found 0 k p i (sound .laid) e))
+      (lands-names k (sound .laid) 0 (zero-lands k (sound .laid)))
+      (targets-name k (sound .laid) (targetsOf i) (jump-lands k k p i (sound .land) e))
+
+  -- Read by instruction numbers, they are the ways of its line.
+  ways-named : (i : Instr) → renameWays (index k) (waysOf i) ≡ leads (index k (nextOf i)) (map (goalOf k) (targetsOf i))
+  ways-named i =
+      leads-rename (index k) (start-zero 0 k (sound .laid)) (nextOf i) (map placeOf (targetsOf i))
+      ∙ ap (leads (index k (nextOf i))) (map-map (index k) placeOf (targetsOf i))
 
   -- So a step from places that name something leads to such places.
   pub step-names : (s : State) → AtState (Names k) s → AtState (Names k) (step k s)
@@ -143,8 +146,9 @@ module _ (k : List Instr) (sound : Sound k) where
       go (some i) e =
           let f = found 0 k (s .place) i (sound .laid) e in
           let h : Names k (i .place) = rw (f .starts) (v .current) in
-          let ways : ℕ → Ways = (λ n. record { next = n; target = index k (placeOf (targetOf i)) }) in
+          let ways : ℕ → Ways = (λ n. leads n (map (goalOf k) (targetsOf i))) in
           stepAt-rename (index k) (Names k) (apart k) (i .word) (i .place) (waysOf i) h (ways-names (s .place) i e) s v
+          ∙ ap (λ (x : Ways). stepAt (i .word) (index k (i .place)) x (named k s)) (ways-named i)
           ∙ (λ j. stepAt (i .word) (index k (f .starts j)) (ways (f .next j)) (named k s))
           ∙ sym (blank-step (i .word) (index k (s .place)) (ways (suc (index k (s .place)))) (named k s))
 
@@ -164,15 +168,6 @@ module _ (k : List Instr) (sound : Sound k) where
       run-carried (named k) (stops k) (lineStops (program k)) (step k) (lineStep (program k)) (AtState (Names k))
       step-names stops-named step-named n s v
 
--- Of a conjunction that holds, both parts hold.
-and-left : (a b : Bool) → (a && b) ≡ true → a ≡ true
-and-left true b e = refl
-and-left false b e = e
-
-and-right : (a b : Bool) → (a && b) ≡ true → b ≡ true
-and-right true b e = e
-and-right false b e = absurd (false≢true e)
-
 -- Waiting places that land name something.
 waits-names : (k : List Instr) → Laid 0 k → (cs : List Channel) → waitsLand k cs ≡ true → AtChannels (Names k) cs
 unfolding waitsLand
@@ -180,14 +175,13 @@ waits-names k l [] e = tt
 waits-names k l (off ∷ cs) e = (tt, waits-names k l cs e)
 waits-names k l (awake ∷ cs) e = (tt, waits-names k l cs e)
 waits-names k l (waiting p ∷ cs) e =
-    (lands-names k l p (and-left (lands k p) (waitsLand k cs) e), waits-names k l cs (and-right (lands k p) (waitsLand k cs) e))
+    let h = both-true (lands k p) (waitsLand k cs) e in (lands-names k l p (h .0), waits-names k l cs (h .1))
 
 -- So do all the places of a state that lands.
 pub state-names : (k : List Instr) → Sound k → (s : State) → stateLands k s ≡ true → AtState (Names k) s
-state-names k a s e = record {
-  current = lands-names k (a .laid) (s .place) (and-left (lands k (s .place)) (waitsLand k (s .channels)) e);
-  waits = waits-names k (a .laid) (s .channels) (and-right (lands k (s .place)) (waitsLand k (s .channels)) e);
-}
+state-names k a s e =
+    let h = both-true (lands k (s .place)) (waitsLand k (s .channels)) e in
+    record { current = lands-names k (a .laid) (s .place) (h .0); waits = waits-names k (a .laid) (s .channels) (h .1) }
 
 -- ---- runs
 

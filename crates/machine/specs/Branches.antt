@@ -13,12 +13,19 @@ use Rattle.lanes.specs.BitLaws.{bit-not, bit-ones}
 use Rattle.lanes.specs.MaskLaws.{predicateOf, bit-predicate}
 use Rattle.machine.specs.declared.channels.Channels.{Channels}
 use Rattle.machine.specs.declared.branch.Forked.{Forked}
+use Rattle.machine.specs.declared.ways.Ways as code
 use Rattle.machine.specs.Numbered.{same-numbered, each-numbered, some-same}
 use Rattle.machine.specs.Channels.{channelIs, channelsIs, Sane}
 
 -- Where an instruction leads.
-abbrev pub waysTo : ℕ → ℕ → Ways
-waysTo next target = record { next = next; target = target }
+abbrev pub waysIs : code.Ways → Ways
+waysIs ways = record { next = ways .next; jump = ways .jump; wait = ways .wait }
+
+-- It leads to places of 16 bits.
+pub record SaneWays (ways : Ways) : Type 0 where
+  pub next : ways .next < 65536
+  pub jump : ways .jump < 65536
+  pub wait : ways .wait < 65536
 
 -- The paper's state after a branch, with the store that it had before.
 abbrev pub forkedIs : Store → Forked → State
@@ -31,14 +38,14 @@ pub record Landed (r : Forked) : Type 0 where
 
 -- A branch, by a test that says of which channels the predicate holds.
 unfoldable pub actBy : Branch → (ℕ → Bool) → Ways → Store → List Channel → State
-actBy if f ways st cs = fork ways st (each (λ n. park (not (f n)) (ways .target)) 0 cs)
-actBy else f ways st cs = fork ways st (each (λ _. park true (ways .target)) 0 cs)
+actBy if f ways st cs = fork ways st (each (λ n. park (not (f n)) (ways .wait)) 0 cs)
+actBy else f ways st cs = fork ways st (each (λ _. park true (ways .wait)) 0 cs)
 actBy endif f ways st cs = fork ways st cs
 actBy while f ways st cs =
     cond (someone (λ n c. isAwake c && f n) 0 cs)
-    (record { store = st; channels = each (λ n. park (not (f n)) (ways .next)) 0 cs; place = ways .target })
+    (record { store = st; channels = each (λ n. park (not (f n)) (ways .next)) 0 cs; place = ways .jump })
     (record { store = st; channels = cs; place = ways .next })
-actBy jmpi f ways st cs = record { store = st; channels = cs; place = cond (f 0) (ways .target) (ways .next) }
+actBy jmpi f ways st cs = record { store = st; channels = cs; place = cond (f 0) (ways .jump) (ways .next) }
 
 -- It is the paper's branch, by the paper's predicate.
 pub act-by : (b : Branch) (w : ℕ) (ways : Ways) (st : Store) (cs : List Channel) → act b w ways st cs ≡ actBy b (holds w st) ways st cs
@@ -70,7 +77,7 @@ pub act-same : (c : Channels) (f g : ℕ → Bool) (e : (k : ℕ) → k < 16 →
     → actBy b f ways st (channelsIs c) ≡ actBy b g ways st (channelsIs c)
 unfolding actBy
 act-same c f g e if ways st =
-    ap (fork ways st) (each-same c (λ k. not (f k)) (λ k. not (g k)) (λ k q. ap not (e k q)) (ways .target))
+    ap (fork ways st) (each-same c (λ k. not (f k)) (λ k. not (g k)) (λ k q. ap not (e k q)) (ways .wait))
 act-same c f g e else ways st = refl
 act-same c f g e endif ways st = refl
 act-same c f g e while ways st =
@@ -96,27 +103,26 @@ park-others c mask place h = each-same c (bit (65535 - mask)) (λ k. not (bit ma
 
 -- ---- the answers that the code makes
 
-module _ (r : Forked) (c : Channels) (next target : ℕ) (same : r .channels ≡ c) where
+module _ (r : Forked) (c : Channels) (ways : Ways) (same : r .channels ≡ c) where
+  -- One that chooses between two places that fit lands.
+  lands : (t : Bool) (p q : ℕ) → p < 65536 → q < 65536 → r .place ≡ cond t p q → Sane c → Landed r
+  lands t p q h g e s = record { sane = rw same s; fits = rw e (cond-at (λ (p : ℕ). p < 65536) t p q h g) }
+
   -- One that forks.
-  pub forks : (cs : List Channel) → channelsIs c ≡ cs → r .place ≡ onward (waysTo next target) (channelsIs c)
-      → (st : Store) → forkedIs st r ≡ fork (waysTo next target) st cs
-  forks cs e p st = λ i. record { store = st; channels = (ap channelsIs same ∙ e) i; place = (p ∙ ap (onward (waysTo next target)) e) i }
+  pub forks : (cs : List Channel) → channelsIs c ≡ cs → r .place ≡ onward ways (channelsIs c) → (st : Store) → forkedIs st r ≡ fork ways st cs
+  forks cs e p st = λ i. record { store = st; channels = (ap channelsIs same ∙ e) i; place = (p ∙ ap (onward ways) e) i }
 
   -- It lands.
-  pub fork-lands : r .place ≡ onward (waysTo next target) (channelsIs c) → Sane c → next < 65536 → target < 65536 → Landed r
+  pub fork-lands : r .place ≡ onward ways (channelsIs c) → Sane c → SaneWays ways → Landed r
   unfolding onward
-  fork-lands e s h g =
-      record {
-        sane = rw same s;
-        fits = rw e (cond-at (λ (p : ℕ). p < 65536) (someone (λ _ ch. isAwake ch || waitsAt next ch) 0 (channelsIs c)) next target h g);
-      }
+  fork-lands e s h = lands (someone (λ _ ch. isAwake ch || waitsAt (ways .next) ch) 0 (channelsIs c)) (ways .next) (ways .jump) (h .next) (h .jump) e s
 
   -- One that jumps.
-  pub jumps : (mask : ℕ) → r .place ≡ cond (bit mask 0) target next
-      → (st : Store) → forkedIs st r ≡ actBy jmpi (bit mask) (waysTo next target) st (channelsIs c)
+  pub jumps : (mask : ℕ) → r .place ≡ cond (bit mask 0) (ways .jump) (ways .next)
+      → (st : Store) → forkedIs st r ≡ actBy jmpi (bit mask) ways st (channelsIs c)
   unfolding actBy
   jumps mask e st = λ i. record { store = st; channels = ap channelsIs same i; place = e i }
 
   -- It lands.
-  pub jump-lands : (mask : ℕ) → r .place ≡ cond (bit mask 0) target next → Sane c → next < 65536 → target < 65536 → Landed r
-  jump-lands mask e s h g = record { sane = rw same s; fits = rw e (cond-at (λ (p : ℕ). p < 65536) (bit mask 0) target next g h) }
+  pub jump-lands : (mask : ℕ) → r .place ≡ cond (bit mask 0) (ways .jump) (ways .next) → Sane c → SaneWays ways → Landed r
+  jump-lands mask e s h = lands (bit mask 0) (ways .jump) (ways .next) (h .jump) (h .next) e s

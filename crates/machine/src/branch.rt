@@ -3,6 +3,7 @@ use crate::channels::Channels;
 use crate::channels::park;
 use crate::channels::someone_awake;
 use crate::channels::someone_here;
+use crate::ways::Ways;
 use execute::enable::predicate_of;
 use execute::flags::Flags;
 use lanes::mask::bit;
@@ -20,7 +21,7 @@ ghost use Rattle.words.specs.Words.{toWord};
 ghost use Rattle.words.specs.Operations.{branchIs};
 ghost use Rattle.execute.specs.Stores.{storeOf};
 ghost use Rattle.machine.specs.Channels.{channelsIs, Sane};
-ghost use Rattle.machine.specs.Branches.{waysTo, forkedIs, Landed, actBy};
+ghost use Rattle.machine.specs.Branches.{waysIs, SaneWays, forkedIs, Landed, actBy};
 
 // The channels after a branch, and the place that it leads to.
 pub struct Forked {
@@ -28,83 +29,82 @@ pub struct Forked {
     pub place: u64,
 }
 
-// To the next place, but to the target if no channel is awake and none waits at the next place.
-fn fork(c: Channels, next: u64, target: u64) -> Forked
+// To the next place, but to the jump if no channel is awake and none waits at the next place.
+fn fork(c: Channels, ways: Ways) -> Forked
     requires { ⌜ Sane c ⌝ }
-    ensures { λ r. ⌜ (r .channels ≡ c) × (r .place ≡ onward (waysTo next target) (channelsIs c)) ⌝ }
+    ensures { λ r. ⌜ (r .channels ≡ c) × (r .place ≡ onward (waysIs ways) (channelsIs c)) ⌝ }
 {
-    if someone_here(c, next) {
-        return Forked {
-            channels: c,
-            place: next,
-        };
-    }
+    let place = if someone_here(c, ways.next) {
+        ways.next
+    } else {
+        ways.jump
+    };
     Forked {
         channels: c,
-        place: target,
+        place: place,
     }
 }
 
-// jmpi: to the target if bit 0 of the predicate is 1. It looks at no channel.
-fn jump(c: Channels, predicate: u64, next: u64, target: u64) -> Forked
-    ensures { λ r. ⌜ (r .channels ≡ c) × (r .place ≡ cond (bit predicate 0) target next) ⌝ }
+// jmpi: it jumps if bit 0 of the predicate is 1. It looks at no channel.
+fn jump(c: Channels, predicate: u64, ways: Ways) -> Forked
+    ensures { λ r. ⌜ (r .channels ≡ c) × (r .place ≡ cond (bit predicate 0) (ways .jump) (ways .next)) ⌝ }
 {
     if bit(predicate, 0) {
         return Forked {
             channels: c,
-            place: target,
+            place: ways.jump,
         };
     }
     Forked {
         channels: c,
-        place: next,
+        place: ways.next,
     }
 }
 
-// while: if some awake channel's predicate holds, the other awake ones wait at the next place, and the target is taken; otherwise go on.
-fn repeat(c: Channels, predicate: u64, next: u64, target: u64) -> Forked
-    requires { ⌜ Sane c × (predicate < 65536) × (next < 65536) × (target < 65536) ⌝ }
-    ensures { λ r. ⌜ ((st : Store) → forkedIs st r ≡ actBy while (bit predicate) (waysTo next target) st (channelsIs c)) × Landed r ⌝ }
+// while: if some awake channel's predicate holds, the other awake ones wait at the next place, and it jumps; otherwise go on.
+fn repeat(c: Channels, predicate: u64, ways: Ways) -> Forked
+    requires { ⌜ Sane c × (predicate < 65536) × SaneWays (waysIs ways) ⌝ }
+    ensures { λ r. ⌜ ((st : Store) → forkedIs st r ≡ actBy while (bit predicate) (waysIs ways) st (channelsIs c)) × Landed r ⌝ }
 {
     if someone_awake(c, predicate) {
-        let after = park(c, 65535 - predicate, next);
+        let after = park(c, 65535 - predicate, ways.next);
         return Forked {
             channels: after,
-            place: target,
+            place: ways.jump,
         };
     }
     Forked {
         channels: c,
-        place: next,
+        place: ways.next,
     }
 }
 
 // A branch, by the mask of the channels whose predicate holds.
-fn act_by(b: Branch, predicate: u64, next: u64, target: u64, c: Channels) -> Forked
-    requires { ⌜ Sane c × (predicate < 65536) × (next < 65536) × (target < 65536) ⌝ }
-    ensures { λ r. ⌜ ((st : Store) → forkedIs st r ≡ actBy (branchIs b) (bit predicate) (waysTo next target) st (channelsIs c)) × Landed r ⌝ }
+fn act_by(b: Branch, predicate: u64, ways: Ways, c: Channels) -> Forked
+    requires { ⌜ Sane c × (predicate < 65536) × SaneWays (waysIs ways) ⌝ }
+    ensures { λ r. ⌜ ((st : Store) → forkedIs st r ≡ actBy (branchIs b) (bit predicate) (waysIs ways) st (channelsIs c)) × Landed r ⌝ }
 {
     match b {
-        Branch::Jmpi => jump(c, predicate, next, target),
+        Branch::Jmpi => jump(c, predicate, ways),
         Branch::If => {
-            let after = park(c, 65535 - predicate, target);
-            fork(after, next, target)
+            let after = park(c, 65535 - predicate, ways.wait);
+            fork(after, ways)
         }
         Branch::Else => {
-            let after = park(c, 65535, target);
-            fork(after, next, target)
+            let after = park(c, 65535, ways.wait);
+            fork(after, ways)
         }
-        Branch::Endif => fork(c, next, target),
-        Branch::While => repeat(c, predicate, next, target),
+        Branch::Endif => fork(c, ways),
+        Branch::While => repeat(c, predicate, ways),
     }
 }
 
 // A branch, once the channels that wait at its place are awake. It reads the flags, and neither reads nor writes registers.
-pub fn act(b: Branch, w: Word, next: u64, target: u64, flags: Flags, c: Channels) -> Forked
-    requires { ⌜ Sane c × (next < 65536) × (target < 65536) ⌝ }
+pub fn act(b: Branch, w: Word, ways: Ways, flags: Flags, c: Channels) -> Forked
+    requires { ⌜ Sane c × SaneWays (waysIs ways) ⌝ }
     ensures { λ r. ⌜ ((registers : List ℕ) → forkedIs (storeOf registers flags) r
-        ≡ act (branchIs b) (toWord w) (waysTo next target) (storeOf registers flags) (channelsIs c)) × Landed r ⌝ }
+        ≡ act (branchIs b) (toWord w) (waysIs ways) (storeOf registers flags) (channelsIs c)) × Landed r ⌝ }
 {
     let predicate = predicate_of(w, flags);
-    act_by(b, predicate, next, target, c)
+    act_by(b, predicate, ways, c)
 }

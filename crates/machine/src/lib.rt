@@ -5,3 +5,4 @@ pub mod masks;
 pub mod start;
 pub mod state;
 pub mod step;
+pub mod ways;

@@ -3,6 +3,7 @@ use crate::branch::act;
 use crate::channels::Channels;
 use crate::channels::wake;
 use crate::state::State;
+use crate::ways::Ways;
 use execute::execute::execute;
 use execute::flags::Flags;
 use words::bytes::Word;
@@ -19,23 +20,22 @@ ghost use Rattle.words.specs.Words.{toWord};
 ghost use Rattle.words.specs.Operations.{operationIs};
 ghost use Rattle.execute.specs.Stores.{storeOf};
 ghost use Rattle.machine.specs.Channels.{channelsIs, Sane};
-ghost use Rattle.machine.specs.Branches.{waysTo};
+ghost use Rattle.machine.specs.Branches.{waysIs, SaneWays};
 ghost use Rattle.machine.specs.States.{stateIs, SaneState};
 
 // An instruction, once the channels that wait at its place are awake: a branch forks; what is no branch acts on registers and flags, and goes on.
 fn perform(
     o: Operation,
     w: Word,
-    next: u64,
-    target: u64,
+    ways: Ways,
     registers: &mut [u8],
     flags: Flags,
     c: Channels,
 ) -> State
     requires { ⌜ (operationIs o ≡ operation (toWord w)) × (refusalOf (toWord w) ≡ 0) × (length (now registers) ≡ registerBytes) ⌝ }
-    requires { ⌜ Sane c × (flags .flag0 < 65536) × (flags .flag1 < 65536) × (next < 65536) × (target < 65536) ⌝ }
+    requires { ⌜ Sane c × (flags .flag0 < 65536) × (flags .flag1 < 65536) × SaneWays (waysIs ways) ⌝ }
     ensures { λ r. ⌜ stateIs (now (registers .exit)) r
-        ≡ perform (operationIs o) (toWord w) (waysTo next target) (storeOf (now (registers .entry)) flags) (channelsIs c) ⌝ }
+        ≡ perform (operationIs o) (toWord w) (waysIs ways) (storeOf (now (registers .entry)) flags) (channelsIs c) ⌝ }
     ensures { λ r. ⌜ SaneState r ⌝ }
 {
     match o {
@@ -44,16 +44,16 @@ fn perform(
             State {
                 flags: after,
                 channels: c,
-                place: next,
+                place: ways.next,
             }
         }
         Operation::Nop => State {
             flags: flags,
             channels: c,
-            place: next,
+            place: ways.next,
         },
         Operation::Jumps(b) => {
-            let forked = act(b, w, next, target, flags, c);
+            let forked = act(b, w, ways, flags, c);
             let channels = forked.channels;
             State {
                 flags: flags,
@@ -64,19 +64,19 @@ fn perform(
         Operation::Unlisted => State {
             flags: flags,
             channels: c,
-            place: next,
+            place: ways.next,
         },
     }
 }
 
 // One step at the place `here`, where an accepted word stands; it first wakes the channels that wait there.
-pub fn step_at(w: Word, here: u64, next: u64, target: u64, registers: &mut [u8], s: State) -> State
-    requires { ⌜ (refusalOf (toWord w) ≡ 0) × (length (now registers) ≡ registerBytes) × (next < 65536) × (target < 65536) × SaneState s ⌝ }
-    ensures { λ r. ⌜ stateIs (now (registers .exit)) r ≡ stepAt (toWord w) here (waysTo next target) (stateIs (now (registers .entry)) s) ⌝ }
+pub fn step_at(w: Word, here: u64, ways: Ways, registers: &mut [u8], s: State) -> State
+    requires { ⌜ (refusalOf (toWord w) ≡ 0) × (length (now registers) ≡ registerBytes) × SaneWays (waysIs ways) × SaneState s ⌝ }
+    ensures { λ r. ⌜ stateIs (now (registers .exit)) r ≡ stepAt (toWord w) here (waysIs ways) (stateIs (now (registers .entry)) s) ⌝ }
     ensures { λ r. ⌜ SaneState r ⌝ }
 {
     let flags = s.flags;
     let channels = s.channels;
     let woken = wake(channels, here);
-    perform(operation(w), w, next, target, registers, flags, woken)
+    perform(operation(w), w, ways, registers, flags, woken)
 }

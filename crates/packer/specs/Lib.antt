@@ -1,7 +1,7 @@
 -- What packing does in the code's terms, and the laws that join it to the paper's.
 pub mod Forms
-pub mod Distances
 pub mod Pieces
 pub mod Stages
+pub mod Rewriting
 pub mod Written
 pub mod Answers

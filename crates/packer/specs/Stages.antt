@@ -1,24 +1,26 @@
 -- A pass over an accepted kernel, instruction by instruction: where it stands in the old bytes and in the new, and which new places it has stored.
 -- Assumes nothing.
 use mathlib.Core.Bool.{Bool, true, false}
-use mathlib.Core.List.{List}
+use mathlib.Core.List.{List, [], _∷_, map}
 use mathlib.Core.Option.{Option, none, some, Option·map}
-use mathlib.Core.Path.{_≡_, refl, sym, ap, _∙_, subst}
+use mathlib.Core.Path.{_≡_, refl, sym, ap, ap₂, _∙_, subst}
 use Prim.Native.Nat.{ℕ, suc, _+_, _*_, _/_, _<_, _≤_}
 use native.Mathlib.Omega.{arith}
 use lib.Dec.{eqb}
+use lib.IntN.{ℤ}
 use lib.ListN.{length, getD, set, getElem?, length-map}
 use lib.Seq.{getD-set-same, getD-set-other}
 use borrow.Author.Tests.{eqb-true, eqb-false, eq-eqb}
 use Rattle.paper.specs.Dictionary.{dictionaryOf}
 use Rattle.paper.specs.Kernel.{Instr, Forms}
-use Rattle.paper.specs.Jump.{nextOf, targetOf, fetch, endOf, lands}
-use Rattle.paper.specs.Machine.{placeOf}
-use Rattle.paper.specs.Packing.{index, Form, piece, placesTaken, startOf, newTarget}
+use Rattle.paper.specs.Jump.{nextOf, targetsOf, placeOf, fetch, endOf, lands, jumpLands, targetsLand}
+use Rattle.paper.specs.Packing.{index, Form, piece, placesTaken, startOf, newTargets}
 use Rattle.laws.specs.Names.{piecesOf, newEnd}
 use Rattle.laws.specs.Moved.{start-high}
 use Rattle.laws.specs.Places.{apart, index-le, start-zero, none-length, fetch-index, lands-names, jump-lands, zero-lands, place-lands}
 use Rattle.laws.specs.Places as places
+use Rattle.laws.specs.Rename.{AtPlaces}
+use Rattle.laws.specs.Truth.{both-true}
 use Rattle.laws.specs.Relay.{newEnd-near}
 use Rattle.kernel.specs.Standing.{Whole, Fetches}
 use Rattle.kernel.specs.Jumps.{instrOf}
@@ -33,9 +35,13 @@ Placed form k news = (p : ℕ) → lands k p ≡ true → getD news p 0 ≡ star
 abbrev pub PlacedTo : Form → List Instr → List ℕ → ℕ → Type 0
 PlacedTo form k news q = (p : ℕ) → lands k p ≡ true → index k p < index k q → getD news p 0 ≡ startOf 0 (piecesOf form k) (index k p)
 
--- The new place of what instruction i leads to is there.
+-- The new places of what instruction i leads to, as they are stored.
+abbrev pub newPlaces : List ℕ → Instr → List ℕ
+newPlaces news i = map (λ z. getD news (placeOf z) 0) (targetsOf i)
+
+-- They are there.
 abbrev pub Reaches : List ℕ → Instr → Type 0
-Reaches news i = (placeOf (targetOf i) < 2049) × (getD news (placeOf (targetOf i)) 0 ≤ 4096)
+Reaches news i = AtPlaces (λ p. (p < 2049) × (getD news p 0 ≤ 4096)) (map placeOf (targetsOf i))
 
 -- A pass stands at byte `from`, where an instruction starts or the kernel ends, and that comes to stand at place `to`.
 pub record Stage (form : Form) (k : List Instr) (from to : ℕ) : Type 0 where
@@ -80,6 +86,28 @@ module _ (forms : Forms) (dictionary kernel : List ℕ) (k : List Instr) (h : Ac
 
   pub end-few : newEnd form k ≤ 2048
   end-few = newEnd-near form k (h .few)
+
+  -- ---- where jumps that land come to lead, by the stored places
+
+  module _ (news : List ℕ) (placed : Placed form k news) where
+    all-placed : (zs : List ℤ) → targetsLand k zs ≡ true
+        → map (λ z. getD news (placeOf z) 0) zs ≡ map (λ z. startOf 0 (piecesOf form k) (index k (placeOf z))) zs
+    all-placed [] e = refl
+    all-placed (z ∷ zs) e =
+        let t = both-true (jumpLands k z) (targetsLand k zs) e in
+        ap₂ {C = List ℕ} (λ x y. x ∷ y) (placed (placeOf z) (place-lands k z (t .0))) (all-placed zs (t .1))
+
+    all-reach : (zs : List ℤ) → targetsLand k zs ≡ true → AtPlaces (λ p. (p < 2049) × (getD news p 0 ≤ 4096)) (map placeOf zs)
+    all-reach [] e = tt
+    all-reach (z ∷ zs) e =
+        let t = both-true (jumpLands k z) (targetsLand k zs) e in
+        let l = place-lands k z (t .0) in (
+          (
+            omega (arith, lands-low (placeOf z) l, h .sizes .kernel-most),
+            omega (arith, placed (placeOf z) l, start-few (index k (placeOf z)), end-few),
+          ),
+          all-reach zs (t .1),
+        )
 
   -- ---- a pass
 
@@ -154,19 +182,16 @@ module _ (forms : Forms) (dictionary kernel : List ℕ) (k : List Instr) (h : Ac
         pub stage-next : (o : Option ℕ) (taken : ℕ) → o ≡ form w → taken ≡ placesTaken o → Stage form k (from + 8 * size) (to + taken)
         stage-next o taken e f = rw (f, e) further
 
-        -- The instruction's jump lands.
-        pub target-lands : lands k (placeOf (targetOf instr)) ≡ true
-        target-lands = place-lands k (h .sound .laid) (targetOf instr) (jump-lands k k (from / 8) instr (h .sound .land) stage-fetch)
+        -- The instruction's jumps land.
+        jumps-land : targetsLand k (targetsOf instr) ≡ true
+        jumps-land = jump-lands k k (from / 8) instr (h .sound .land) stage-fetch
 
-        -- So the new place of what it leads to is there.
-        pub target-is : (news : List ℕ) → Placed form k news → getD news (placeOf (targetOf instr)) 0 ≡ newTarget k (piecesOf form k) instr
-        target-is news placed = placed (placeOf (targetOf instr)) target-lands
+        -- So the new places of what it leads to are there.
+        pub targets-are : (news : List ℕ) → Placed form k news → newPlaces news instr ≡ newTargets k (piecesOf form k) instr
+        targets-are news placed = all-placed news placed (targetsOf instr) jumps-land
 
-        pub target-reaches : (news : List ℕ) → Placed form k news → Reaches news instr
-        target-reaches news placed = (
-          omega (arith, lands-low (placeOf (targetOf instr)) target-lands, h .sizes .kernel-most),
-          omega (arith, target-is news placed, start-few (index k (placeOf (targetOf instr))), end-few),
-        )
+        pub targets-reach : (news : List ℕ) → Placed form k news → Reaches news instr
+        targets-reach news placed = all-reach news placed (targetsOf instr) jumps-land
 
   -- ---- the places stored
 

@@ -4,13 +4,12 @@ use mathlib.Core.Option.{Option}
 use mathlib.Core.Path.{_≡_, sym, ap, _∙_}
 use Prim.Native.Nat.{ℕ, _+_, _*_, _/_, _<_, _≤_}
 use native.Mathlib.Omega.{arith}
-use lib.ListN.{length, getD, take, drop, length-append, length-drop, length-map}
+use lib.ListN.{length, take, drop, length-append, length-drop, length-map}
 use lib.Seq.{drop-drop, take-append-seam, drop-append-add, take-length}
 use Rattle.paper.specs.Dictionary.{dictionaryOf}
 use Rattle.paper.specs.Operation.{operation}
 use Rattle.paper.specs.Kernel.{Instr, Forms}
-use Rattle.paper.specs.Jump.{targetOf}
-use Rattle.paper.specs.Machine.{placeOf}
+use Rattle.paper.specs.Jump.{distances}
 use Rattle.paper.specs.Packing.{index, Form, piece, placesTaken, startOf, aimed, rewritten, encode, layFrom, relay}
 use Rattle.laws.specs.Names.{piecesOf, newEnd}
 use Rattle.laws.specs.Places.{start-zero}
@@ -18,7 +17,7 @@ use Rattle.kernel.specs.Standing.{Fetches}
 use Rattle.kernel.specs.Jumps.{instrOf}
 use Rattle.kernel.specs.Accepting.{AcceptedKernel}
 use Rattle.packer.specs.Pieces.{lay-length, lay-next}
-use Rattle.packer.specs.Stages.{Placed, Stage, stage-end, stage-piece, next-index, end-to, target-is}
+use Rattle.packer.specs.Stages.{Placed, newPlaces, Stage, stage-end, stage-piece, next-index, end-to, targets-are}
 
 -- The bytes of the instructions before the one that starts at byte `from`.
 abbrev pub before : Form → List Instr → ℕ → List ℕ
@@ -60,13 +59,13 @@ module _ (forms : Forms) (dictionary kernel : List ℕ) (k : List Instr) (h : Ac
         holds ∙ rw (all, to-is, take-length (piecesOf form k))
 
     module _ (inside : from < length kernel) (size w : ℕ) (f : Fetches (dictionaryOf dictionary) kernel from size w) where
-      -- The word that is written, its distance looked up in the stored places.
+      -- The word that is written, its distances looked up in the stored places.
       abbrev stored : List ℕ → ℕ
-      stored news = aimed (operation w) w to (to + placesTaken (form w)) (getD news (placeOf (targetOf (instrOf (from / 8) size w))) 0)
+      stored news = aimed (distances (operation w)) w to (to + placesTaken (form w)) (newPlaces news (instrOf (from / 8) size w))
 
       stored-is : (news : List ℕ) → Placed form k news
           → stored news ≡ rewritten k (piecesOf form k) (startOf 0 (piecesOf form k) (index k (from / 8))) (piece form (instrOf (from / 8) size w))
-      stored-is news placed = rw (target-is forms dictionary kernel k h form from to s inside size w f news placed, ← (s .to-is))
+      stored-is news placed = rw (targets-are forms dictionary kernel k h form from to s inside size w f news placed, ← (s .to-is))
 
       -- One instruction more.
       one-more : (news after : List ℕ) → Placed form k news
@@ -83,9 +82,9 @@ module _ (forms : Forms) (dictionary kernel : List ℕ) (k : List Instr) (h : Ac
           ∙ behind (before form k from) (encode (form w) (stored news)) out (8 * to) (8 * placesTaken (form w)) before-length
           )
 
-      -- As the code writes it: the word's form is o, which takes `taken` places, and v is the word with its distance looked up.
+      -- As the code writes it: the word's form is o, which takes `taken` places, and v is the word with its distances looked up.
       pub holds-next : (o : Option ℕ) (taken v : ℕ) (news after : List ℕ) → Placed form k news → o ≡ form w → taken ≡ placesTaken o
-          → v ≡ aimed (operation w) w to (to + taken) (getD news (placeOf (targetOf (instrOf (from / 8) size w))) 0)
+          → v ≡ aimed (distances (operation w)) w to (to + taken) (newPlaces news (instrOf (from / 8) size w))
           → after ≡ take (8 * to) now ++ (encode o v ++ drop (8 * to + 8 * placesTaken o) now)
           → Holds form k out (from + 8 * size) (to + taken) after
       holds-next o taken v news after placed e f g a =

@@ -1,5 +1,4 @@
 // Packing and unpacking: a kernel's instructions laid out anew, each distance rewritten.
-pub mod distance;
 pub mod form;
 pub mod pack;
 pub mod place;

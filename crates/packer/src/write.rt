@@ -1,9 +1,12 @@
 // The second pass: the instructions written where they come to stand.
-use crate::distance::aim;
 use crate::form::form;
 use crate::form::places_taken;
+use distances::branch::Distances;
+use distances::branch::distances_in;
+use distances::distance::aim;
+use distances::distance::place_of;
+use distances::distance::reach;
 use kernel::fetch::word_at;
-use kernel::reach::target_of;
 use short::shorten::Shorter;
 use words::bytes::Word;
 use words::bytes::write8;
@@ -11,17 +14,16 @@ use words::bytes::write16;
 ghost use mathlib.Core.List.{_++_};
 ghost use mathlib.Core.Path.{_≡_};
 ghost use Prim.Native.Nat.{_+_, _*_, _<_, _≤_};
-ghost use lib.ListN.{length, getD, take, drop};
+ghost use lib.ListN.{length, take, drop};
 ghost use Rattle.paper.specs.Dictionary.{dictionaryOf};
 ghost use Rattle.paper.specs.Operation.{operation};
-ghost use Rattle.paper.specs.Jump.{targetOf};
-ghost use Rattle.paper.specs.Machine.{placeOf};
+ghost use Rattle.paper.specs.Jump.{distances};
 ghost use Rattle.paper.specs.Packing.{placesTaken, encode, aimed};
 ghost use Rattle.short.specs.Shorter.{shorterIs};
 ghost use Rattle.words.specs.Words.{toWord};
 ghost use Rattle.kernel.specs.Jumps.{instrOf};
 ghost use Rattle.packer.specs.Forms.{formOf, kernelOf, Taken, resultOf, resultEnd};
-ghost use Rattle.packer.specs.Stages.{Placed, Reaches};
+ghost use Rattle.packer.specs.Stages.{Placed, newPlaces, Reaches};
 
 // Stores a word in its form from byte `from` on.
 fn write_word(a: Shorter, w: Word, out: &mut [u8], from: usize)
@@ -35,15 +37,20 @@ fn write_word(a: Shorter, w: Word, out: &mut [u8], from: usize)
     }
 }
 
-// The word w of an instruction of `size` places from the old place `here` on, which comes to stand from `to` to `next`, with its distance rewritten.
+// The word w of an instruction of `size` places from the old place `here` on, which comes to stand from `to` to `next`, with its distances rewritten.
 fn rewrite(places: &[u64; 2049], w: Word, here: u64, size: u64, to: u64, next: u64) -> Word
     requires { ⌜ (here < 65536) × (size < 65536) × (to ≤ 4096) × (next ≤ 4096) × Reaches (now places) (instrOf here size (toWord w)) ⌝ }
-    ensures { λ r. ⌜ toWord r ≡ aimed (operation (toWord w)) (toWord w) to next
-        (getD (now (places .entry)) (placeOf (targetOf (instrOf here size (toWord w)))) 0) ⌝ }
+    ensures { λ r. ⌜ toWord r ≡ aimed (distances (operation (toWord w))) (toWord w) to next (newPlaces (now (places .entry)) (instrOf here size (toWord w))) ⌝ }
 {
-    let old = target_of(w, here, size) as usize;
-    let new = places[old];
-    aim(w, to, next, new)
+    let held = distances_in(w);
+    match held {
+        Distances::Nothing => w,
+        Distances::One(d) => {
+            let old = place_of(reach(d, w, here, here + size)) as usize;
+            let new = places[old];
+            aim(d, w, to, next, new)
+        }
+    }
 }
 
 // The kernel's instructions as the output's first bytes.

@@ -1,6 +1,6 @@
 -- Jumps: where a branch's distance stands, what it reaches, and rule 12 (the paper, "How the road forks"). Assumes nothing.
-use mathlib.Core.Bool.{Bool, true, false, cond, _||_}
-use mathlib.Core.List.{List, [], _∷_}
+use mathlib.Core.Bool.{Bool, true, false, cond, _&&_, _||_}
+use mathlib.Core.List.{List, [], _∷_, map}
 use mathlib.Core.Option.{Option, none, some}
 use Prim.Native.Nat.{ℕ, zero, suc, _+_, _-_, _*_, _^_}
 use lib.Dec.{eqb, ltb}
@@ -23,13 +23,21 @@ pub record Distance : Type 0 where
   pub width : ℕ
   pub base : Base
 
--- if, else, endif, while: bits 63:48 from their own start; jmpi: 127:96 from its end.
-abbrev pub distanceOf : Branch → Distance
-distanceOf jmpi = record { lo = 96; width = 32; base = ownEnd }
-distanceOf if = record { lo = 48; width = 16; base = ownStart }
-distanceOf else = record { lo = 48; width = 16; base = ownStart }
-distanceOf endif = record { lo = 48; width = 16; base = ownStart }
-distanceOf while = record { lo = 48; width = 16; base = ownStart }
+-- The distances of a branch, in the order in which 12 judges them: of if, else, endif and while bits 63:48 from their own start, of jmpi 127:96 from
+-- its end.
+abbrev pub distancesOf : Branch → List Distance
+distancesOf jmpi = record { lo = 96; width = 32; base = ownEnd } ∷ []
+distancesOf if = record { lo = 48; width = 16; base = ownStart } ∷ []
+distancesOf else = record { lo = 48; width = 16; base = ownStart } ∷ []
+distancesOf endif = record { lo = 48; width = 16; base = ownStart } ∷ []
+distancesOf while = record { lo = 48; width = 16; base = ownStart } ∷ []
+
+-- What is no branch has none.
+abbrev pub distances : Operation → List Distance
+distances (plain p) = []
+distances nop = []
+distances (branch b) = distancesOf b
+distances unlisted = []
 
 -- The place from which a distance counts, of an instruction from `here` to `next`.
 abbrev pub baseOf : Base → ℕ → ℕ → ℕ
@@ -44,15 +52,18 @@ signedOf n d = cond (ltb d (2 ^ (n - 1))) (pos d) (subℕ d (2 ^ n))
 abbrev pub reach : Distance → ℕ → ℕ → ℕ → ℤ
 reach f w here next = pos (baseOf (f .base) here next) +ℤ signedOf (f .width) (bits w (f .lo) (f .width))
 
--- A branch's target; what is no branch has none.
-unfoldable pub jumpOf : Operation → Instr → Option ℤ
-jumpOf (plain p) i = none
-jumpOf nop i = none
-jumpOf (branch b) i = some (reach (distanceOf b) (i .word) (i .place) (nextOf i))
-jumpOf unlisted i = none
+-- Where some distances in an instruction's word lead.
+abbrev pub reached : List Distance → Instr → List ℤ
+reached fs i = map (λ f. reach f (i .word) (i .place) (nextOf i)) fs
 
-abbrev pub targetOf : Instr → Option ℤ
-targetOf i = jumpOf (operation (i .word)) i
+-- An instruction's targets: where its distances lead.
+abbrev pub targetsOf : Instr → List ℤ
+targetsOf i = reached (distances (operation (i .word))) i
+
+-- An accepted jump's target is a place; one below 0, which no accepted kernel has, is written 0.
+abbrev pub placeOf : ℤ → ℕ
+placeOf (pos p) = p
+placeOf (negsuc p) = 0
 
 -- ---- where a jump may land
 
@@ -77,16 +88,20 @@ found (some i) = true
 unfoldable pub lands : List Instr → ℕ → Bool
 lands k p = found (fetch k p) || eqb p (endOf k)
 
--- A jump lands there too; where there is none, nothing is asked.
-abbrev pub jumpLands : List Instr → Option ℤ → Bool
-jumpLands k none = true
-jumpLands k (some (pos p)) = lands k p
-jumpLands k (some (negsuc p)) = false
+-- A jump's target lands there.
+abbrev pub jumpLands : List Instr → ℤ → Bool
+jumpLands k (pos p) = lands k p
+jumpLands k (negsuc p) = false
 
--- 12: the byte offset of the first branch, in kernel order, that lands on no instruction start and not on the end.
+-- Every target of a list does.
+abbrev pub targetsLand : List Instr → List ℤ → Bool
+targetsLand k [] = true
+targetsLand k (z ∷ zs) = jumpLands k z && targetsLand k zs
+
+-- 12: the byte offset of the first branch, in kernel order, of which a target is no instruction start and not the end.
 unfoldable pub firstAstray : List Instr → List Instr → Option ℕ
 firstAstray k [] = none
-firstAstray k (i ∷ rest) = let later = firstAstray k rest in cond (jumpLands k (targetOf i)) later (some (8 * i .place))
+firstAstray k (i ∷ rest) = let later = firstAstray k rest in cond (targetsLand k (targetsOf i)) later (some (8 * i .place))
 
 -- A kernel that has parsed, with its jumps judged.
 abbrev pub astray : List Instr → Option ℕ → Parsed

@@ -4,13 +4,12 @@ use mathlib.Core.List.{List, [], _∷_, map}
 use mathlib.Core.Option.{Option, none, some}
 use Prim.Native.Nat.{ℕ, zero, suc}
 use lib.Dec.{eqb}
-use lib.IntN.{ℤ, pos, negsuc}
 use Rattle.paper.specs.Bits.{bit}
 use Rattle.paper.specs.Operation.{Branch, jmpi, if, else, endif, while, Operation, plain, nop, branch, unlisted, operation}
 use Rattle.paper.specs.Enable.{Store, holds}
 use Rattle.paper.specs.Effect.{effect}
 use Rattle.paper.specs.Kernel.{Instr}
-use Rattle.paper.specs.Jump.{nextOf, targetOf, fetch}
+use Rattle.paper.specs.Jump.{nextOf, targetsOf, placeOf, fetch}
 
 -- A channel is off for good, awake, or waiting at a place.
 pub data Channel : Type 0 where
@@ -59,14 +58,15 @@ someone f n (c ∷ cs) = f n c || someone f (suc n) cs
 
 -- ---- one instruction
 
--- Where an instruction leads: the place after it, and its target.
+-- Where an instruction leads: the place after it, where it jumps to, and where the channels wait that it parks.
 pub record Ways : Type 0 where
   pub next : ℕ
-  pub target : ℕ
+  pub jump : ℕ
+  pub wait : ℕ
 
--- To the next place, but to the target if no channel is awake and none waits at the next place.
+-- To the next place, but to the jump if no channel is awake and none waits at the next place.
 unfoldable pub onward : Ways → List Channel → ℕ
-onward ways cs = cond (someone (λ _ c. isAwake c || waitsAt (ways .next) c) 0 cs) (ways .next) (ways .target)
+onward ways cs = cond (someone (λ _ c. isAwake c || waitsAt (ways .next) c) 0 cs) (ways .next) (ways .jump)
 
 abbrev pub fork : Ways → Store → List Channel → State
 fork ways st cs = record { store = st; channels = cs; place = onward ways cs }
@@ -74,18 +74,18 @@ fork ways st cs = record { store = st; channels = cs; place = onward ways cs }
 -- A branch, once the channels that wait at its place are awake.
 unfoldable pub act : Branch → ℕ → Ways → Store → List Channel → State
 -- awake channels whose predicate fails wait at the target
-act if w ways st cs = fork ways st (each (λ n. park (not (holds w st n)) (ways .target)) 0 cs)
+act if w ways st cs = fork ways st (each (λ n. park (not (holds w st n)) (ways .wait)) 0 cs)
 -- all awake channels wait there
-act else w ways st cs = fork ways st (each (λ _. park true (ways .target)) 0 cs)
+act else w ways st cs = fork ways st (each (λ _. park true (ways .wait)) 0 cs)
 -- none do
 act endif w ways st cs = fork ways st cs
 -- if any awake channel's predicate holds, the other awake ones wait at the next place and the target is taken; otherwise go on
 act while w ways st cs =
     cond (someone (λ n c. isAwake c && holds w st n) 0 cs)
-    (record { store = st; channels = each (λ n. park (not (holds w st n)) (ways .next)) 0 cs; place = ways .target })
+    (record { store = st; channels = each (λ n. park (not (holds w st n)) (ways .next)) 0 cs; place = ways .jump })
     (record { store = st; channels = cs; place = ways .next })
 -- taken if it has no predicate or flag bit 0, after inversion, is 1; it looks at no mask
-act jmpi w ways st cs = record { store = st; channels = cs; place = cond (holds w st 0) (ways .target) (ways .next) }
+act jmpi w ways st cs = record { store = st; channels = cs; place = cond (holds w st 0) (ways .jump) (ways .next) }
 
 -- What is no branch acts on registers and flags, and goes on.
 abbrev pub pass : ℕ → Ways → Store → List Channel → State
@@ -103,14 +103,19 @@ stepAt w here ways s = perform (operation w) w ways (s .store) (map (wake here) 
 
 -- ---- steps
 
--- An accepted jump's target is a place; what has none, and a target below 0, which no accepted kernel has, is written 0.
-abbrev pub placeOf : Option ℤ → ℕ
-placeOf none = 0
-placeOf (some (pos p)) = p
-placeOf (some (negsuc p)) = 0
+-- The last of the places t and ts.
+abbrev pub lastOf : ℕ → List ℕ → ℕ
+lastOf t [] = t
+lastOf t (u ∷ ts) = lastOf u ts
+
+-- The ways of an instruction with these targets: it jumps to the first, and the channels that it parks wait at the last. One that has none leads to the
+-- next place alone, and the other two are written 0.
+abbrev pub leads : ℕ → List ℕ → Ways
+leads next [] = record { next = next; jump = 0; wait = 0 }
+leads next (t ∷ ts) = record { next = next; jump = t; wait = lastOf t ts }
 
 abbrev pub waysOf : Instr → Ways
-waysOf i = record { next = nextOf i; target = placeOf (targetOf i) }
+waysOf i = leads (nextOf i) (map placeOf (targetsOf i))
 
 -- At the end, where no instruction starts, a step changes nothing.
 unfoldable pub stepOn : Option Instr → State → State

@@ -8,10 +8,9 @@ use lib.Dec.{eqb}
 use Rattle.paper.specs.Bits.{put, bytesOf}
 use Rattle.paper.specs.Dictionary.{Dictionary}
 use Rattle.paper.specs.Shorten.{shorten}
-use Rattle.paper.specs.Operation.{Operation, plain, nop, branch, unlisted, operation}
+use Rattle.paper.specs.Operation.{operation}
 use Rattle.paper.specs.Kernel.{Instr}
-use Rattle.paper.specs.Jump.{Distance, distanceOf, baseOf, targetOf}
-use Rattle.paper.specs.Machine.{placeOf}
+use Rattle.paper.specs.Jump.{Distance, distances, baseOf, targetsOf, placeOf}
 
 -- The number of the instruction that starts at place p, counted from 0; where none starts, how many there are.
 unfoldable pub index : List Instr → ℕ → ℕ
@@ -48,22 +47,20 @@ startOf a (p ∷ ps) (suc j) = startOf (a + newSize p) ps j
 abbrev pub distanceTo : Distance → ℕ → ℕ → ℕ
 distanceTo f from to = (to + 2 ^ f .width - from) % 2 ^ f .width
 
--- The place at which the instruction that i jumps to comes to stand.
-abbrev pub newTarget : List Instr → List Piece → Instr → ℕ
-newTarget k ps i = startOf 0 ps (index k (placeOf (targetOf i)))
+-- The places at which the instructions that i jumps to come to stand.
+abbrev pub newTargets : List Instr → List Piece → Instr → List ℕ
+newTargets k ps i = map (λ z. startOf 0 ps (index k (placeOf z))) (targetsOf i)
 
--- A branch with the distance that leads from an instruction from `here` to `next` to the place `to`; any other word as it is.
-unfoldable pub aimed : Operation → ℕ → ℕ → ℕ → ℕ → ℕ
-aimed (plain p) w here next to = w
-aimed nop w here next to = w
-aimed (branch b) w here next to =
-    let f : Distance = distanceOf b in put w (f .lo) (f .width) (distanceTo f (baseOf (f .base) here next) to)
-aimed unlisted w here next to = w
+-- Word w with its distances fs rewritten so that, from an instruction from `here` to `next`, each leads to its place of `to`.
+unfoldable pub aimed : List Distance → ℕ → ℕ → ℕ → List ℕ → ℕ
+aimed [] w here next to = w
+aimed (f ∷ fs) w here next [] = w
+aimed (f ∷ fs) w here next (t ∷ to) = aimed fs (put w (f .lo) (f .width) (distanceTo f (baseOf (f .base) here next) t)) here next to
 
 -- The word of piece p of the pieces ps of kernel k, where it starts at a.
 abbrev pub rewritten : List Instr → List Piece → ℕ → Piece → ℕ
 rewritten k ps a p =
-    let w : ℕ = p .instr .word in aimed (operation w) w a (a + newSize p) (newTarget k ps (p .instr))
+    let w : ℕ = p .instr .word in aimed (distances (operation w)) w a (a + newSize p) (newTargets k ps (p .instr))
 
 -- The bytes of a word in its form.
 abbrev pub encode : Option ℕ → ℕ → List ℕ

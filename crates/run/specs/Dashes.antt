@@ -1,6 +1,6 @@
 -- Steps of instructions that are no branches, where no channel waits: what each makes, and that a run goes on from there. Assumes nothing.
 use mathlib.Core.Bool.{Bool, true, false, not, true≢false}
-use mathlib.Core.List.{List}
+use mathlib.Core.List.{List, [], _∷_, map}
 use mathlib.Core.Option.{none}
 use mathlib.Core.Path.{_≡_, refl, sym, ap, _∙_, subst}
 use Prim.Native.Nat.{ℕ, _+_, _*_, _<_, _≤_}
@@ -9,9 +9,9 @@ use lib.ListN.{length}
 use Rattle.paper.specs.Operation.{Plain, plain, operation}
 use Rattle.paper.specs.Effect.{effect}
 use Rattle.paper.specs.Kernel.{Instr}
-use Rattle.paper.specs.Jump.{targetOf}
+use Rattle.paper.specs.Jump.{targetsOf, placeOf}
 use Rattle.paper.specs.Machine as paper
-use Rattle.paper.specs.Machine.{placeOf, perform, stepAt, stops, step}
+use Rattle.paper.specs.Machine.{Ways, leads, waysOf, perform, stepAt, stops, step}
 use Rattle.paper.specs.Dictionary.{dictionaryOf}
 use Rattle.lanes.specs.Masks.{awakeList}
 use Rattle.execute.specs.declared.flags.Flags.{Flags}
@@ -21,7 +21,6 @@ use Rattle.kernel.specs.Jumps.{instrOf}
 use Rattle.machine.specs.declared.state.State.{State}
 use Rattle.machine.specs.Channels.{Sane}
 use Rattle.machine.specs.Moves.{waitsThere, none-wakes}
-use Rattle.machine.specs.Branches.{waysTo}
 use Rattle.machine.specs.Steps.{pass-made}
 use Rattle.machine.specs.States.{stateIs, SaneState}
 use Rattle.run.specs.Running.{instructions, Running, running-on, running-steps, running-after}
@@ -56,16 +55,21 @@ onward-more k limit s steps t u o h on e budget whole n room leads =
 -- ---- one step
 
 -- What an instruction that is no branch makes where no channel wakes.
-plain-step : (w next target : ℕ) (registers registers′ : List ℕ) (s : State) (f : Flags) (p : Plain) → Sane (s .channels)
+plain-step : (w : ℕ) (ways : Ways) (registers registers′ : List ℕ) (s : State) (f : Flags) (p : Plain) → Sane (s .channels)
     → ((k : ℕ) → k < 16 → waitsThere (s .channels .waiting) (s .channels .places) (s .place) k ≡ false) → operation w ≡ plain p
     → registers′ ≡ effect w (awakeList (s .channels .awake)) (storeOf registers (s .flags)) .registers
     → (f .flag0 ≡ effect w (awakeList (s .channels .awake)) (storeOf registers (s .flags)) .flag0)
     × (f .flag1 ≡ effect w (awakeList (s .channels .awake)) (storeOf registers (s .flags)) .flag1)
-    → stateIs registers′ (dashed s f next) ≡ stepAt w (s .place) (waysTo next target) (stateIs registers s)
+    → stateIs registers′ (dashed s f (ways .next)) ≡ stepAt w (s .place) ways (stateIs registers s)
 unfolding perform
-plain-step w next target registers registers′ s f p sane clear o e g =
+plain-step w ways registers registers′ s f p sane clear o e g =
     rw (o, ← (none-wakes (s .channels) (s .place) clear))
-    (pass-made (s .channels) sane w (waysTo next target) (storeOf registers (s .flags)) (storeOf registers′ f) e g)
+    (pass-made (s .channels) sane w ways (storeOf registers (s .flags)) (storeOf registers′ f) e g)
+
+-- The next place is the one after the instruction, whatever its targets.
+leads-next : (n : ℕ) (ts : List ℕ) → leads n ts .next ≡ n
+leads-next n [] = refl
+leads-next n (t ∷ ts) = refl
 
 -- So the run goes on from there, and the state is one in the midst of the kernel.
 module _ (dictionary kernel registers registers′ : List ℕ) (s : State) (r : Running dictionary kernel registers s) (away : 8 * s .place ≡ length kernel → ⊥)
@@ -79,7 +83,10 @@ module _ (dictionary kernel registers registers′ : List ℕ) (s : State) (r : 
   pub dash-steps : stateIs registers′ (dashed s flags (s .place + size)) ≡ step (instructions dictionary kernel) (stateIs registers s)
   dash-steps =
       let st = running-steps dictionary kernel registers s r away size w f _ refl in
-      plain-step w (s .place + size) (placeOf (targetOf (instrOf (s .place) size w))) registers registers′ s flags p (r .sane .channels) clear o e g ∙ st .makes
+      let i : Instr = instrOf (s .place) size w in
+      ap (λ (n : ℕ). stateIs registers′ (dashed s flags n)) (sym (leads-next (s .place + size) (map placeOf (targetsOf i))))
+      ∙ plain-step w (waysOf i) registers registers′ s flags p (r .sane .channels) clear o e g
+      ∙ st .makes
 
   pub dash-running : Running dictionary kernel registers′ (dashed s flags (s .place + size))
   dash-running =

@@ -1,5 +1,6 @@
 -- What the code's answers and states are in the paper's terms, and the laws of an accepted kernel's steps.
 pub mod Landing
+pub mod Leading
 pub mod Running
 pub mod Outcomes
 pub mod Answers

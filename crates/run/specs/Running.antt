@@ -1,18 +1,22 @@
 -- A state in the midst of an accepted kernel: what each step needs, what it makes, and that it leaves such a state. Assumes nothing.
-use mathlib.Core.List.{List}
+use mathlib.Core.Bool.{true}
+use mathlib.Core.List.{List, [], _∷_, map}
 use mathlib.Core.Option.{Option, none, some}
 use mathlib.Core.Path.{_≡_, refl, sym, ap, _∙_}
 use Prim.Native.Nat.{ℕ, _+_, _*_, _<_}
 use native.Mathlib.Omega.{arith}
+use lib.IntN.{ℤ}
 use lib.ListN.{length}
 use Rattle.paper.specs.Limits.{registerBytes}
 use Rattle.paper.specs.Dictionary.{dictionaryOf}
 use Rattle.paper.specs.Legal.{refusalOf}
 use Rattle.paper.specs.Kernel.{Instr, longAndShort}
-use Rattle.paper.specs.Jump.{fetch, targetOf}
-use Rattle.paper.specs.Machine.{stepAt, placeOf, stepOn, step, stopsOn, stops}
+use Rattle.paper.specs.Jump.{fetch, targetsOf, placeOf, jumpLands, targetsLand}
+use Rattle.paper.specs.Machine.{Ways, waysOf, stepAt, stepOn, step, stopsOn, stops}
 use Rattle.paper.specs.Calls.{accepted}
 use Rattle.laws.specs.Judged.{Passed, asLong, asShort, judge-passed}
+use Rattle.laws.specs.Truth.{both-true}
+use Rattle.laws.specs.Rename.{AtPlaces, leads-at}
 use Rattle.laws.specs.Places.{jump-lands, place-lands}
 use Rattle.laws.specs.Lasting.{Lasting, names-lands, lands-before, step-lasting}
 use Rattle.kernel.specs.Standing.{Whole, Fetches}
@@ -20,7 +24,7 @@ use Rattle.kernel.specs.Marks.{instrsOf}
 use Rattle.kernel.specs.Jumps.{instrOf}
 use Rattle.kernel.specs.Accepting.{AcceptedKernel, accepted-fetch, lands-fetch, fetch-whole, fetch-is}
 use Rattle.machine.specs.declared.state.State.{State}
-use Rattle.machine.specs.Branches.{waysTo}
+use Rattle.machine.specs.Branches.{SaneWays}
 use Rattle.machine.specs.States.{stateIs, SaneState}
 
 -- An accepted kernel's instructions; none of a kernel that is refused.
@@ -33,13 +37,12 @@ pub record Running (dictionary kernel registers : List ℕ) (s : State) : Type 0
   pub lasts : Lasting (instructions dictionary kernel) registerBytes (stateIs registers s)
   pub sane : SaneState s
 
--- What is known of the instruction at the state's place, of which the code has the size, the word w and the target.
-pub record Steps (dictionary kernel registers : List ℕ) (s : State) (size w target : ℕ) : Type 0 where
+-- What is known of the instruction at the state's place, of which the code has the size, the word w and the ways.
+pub record Steps (dictionary kernel registers : List ℕ) (s : State) (size w : ℕ) (ways : Ways) : Type 0 where
   pub legal : refusalOf w ≡ 0
   pub near : s .place + size < 65536
-  pub far : target < 65536
-  pub makes : stepAt w (s .place) (waysTo (s .place + size) target) (stateIs registers s)
-      ≡ step (instructions dictionary kernel) (stateIs registers s)
+  pub fits : SaneWays ways
+  pub makes : stepAt w (s .place) ways (stateIs registers s) ≡ step (instructions dictionary kernel) (stateIs registers s)
 
 module _ (dictionary kernel registers : List ℕ) (s : State) (r : Running dictionary kernel registers s) where
   abbrev k : List Instr
@@ -85,22 +88,32 @@ module _ (dictionary kernel registers : List ℕ) (s : State) (r : Running dicti
       word-legal (asLong room form listed legal) = legal
       word-legal (asShort room form listed plain takes legal) = legal
 
-      target-less : placeOf (targetOf (instrOf (s .place) size w)) < 65536
-      target-less =
-          let sound = r .accepts .sound in
-          let j = jump-lands k k (s .place) (instrOf (s .place) size w) (sound .land) found in
-          let l = place-lands k (sound .laid) (targetOf (instrOf (s .place) size w)) j in
-          let b = lands-before k (sound .laid) (placeOf (targetOf (instrOf (s .place) size w))) l in
-          omega (arith, r .accepts .ends, r .accepts .sizes .kernel-most)
+      -- No target that lands lies past the kernel's end.
+      targets-less : (zs : List ℤ) → targetsLand k zs ≡ true → AtPlaces (λ p. p < 65536) (map placeOf zs)
+      targets-less [] e = tt
+      targets-less (z ∷ zs) e =
+          let t = both-true (jumpLands k z) (targetsLand k zs) e in
+          let b = lands-before k (r .accepts .sound .laid) (placeOf z) (place-lands k z (t .0)) in
+          (omega (arith, r .accepts .ends, r .accepts .sizes .kernel-most), targets-less zs (t .1))
 
-      pub running-steps : (target : ℕ) → target ≡ placeOf (targetOf (instrOf (s .place) size w)) → Steps dictionary kernel registers s size w target
+      next-less : s .place + size < 65536
+      next-less = let whole = running-whole in omega (arith, f .size-is, r .accepts .sizes .kernel-most)
+
+      ways-less : SaneWays (waysOf (instrOf (s .place) size w))
+      ways-less =
+          let i : Instr = instrOf (s .place) size w in
+          let a =
+          leads-at (λ p. p < 65536) (s .place + size) (map placeOf (targetsOf i)) next-less (omega arith)
+          (targets-less (targetsOf i) (jump-lands k k (s .place) i (r .accepts .sound .land) found)) in
+          record { next = a .next; jump = a .jump; wait = a .wait }
+
+      pub running-steps : (ways : Ways) → ways ≡ waysOf (instrOf (s .place) size w) → Steps dictionary kernel registers s size w ways
       unfolding stepOn
-      running-steps target e =
-          let whole = running-whole in
+      running-steps ways e =
           record {
             legal = word-legal passes;
-            near = omega (arith, f .size-is, r .accepts .sizes .kernel-most);
-            far = rw e target-less;
+            near = next-less;
+            fits = rw e ways-less;
             makes = rw e (sym (ap (λ (o : Option Instr). stepOn o (stateIs registers s)) found));
           }
 

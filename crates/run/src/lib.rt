@@ -3,3 +3,4 @@ pub mod calls;
 pub mod dash;
 pub mod legal;
 pub mod running;
+pub mod ways;

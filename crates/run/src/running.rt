@@ -1,7 +1,7 @@
 // Steps of an accepted kernel, which is not judged again.
 use crate::dash::dash;
+use crate::ways::ways_of;
 use kernel::fetch::word_at;
-use kernel::reach::target_of;
 use machine::state::State;
 use machine::step::step_at;
 ghost use mathlib.Core.Path.{_≡_};
@@ -39,8 +39,8 @@ pub fn advance(dictionary: &[u8], kernel: &[u8], registers: &mut [u8], s: State)
     let from = 8 * (here as usize);
     let f = word_at(dictionary, kernel, from);
     let w = f.word;
-    let target = target_of(w, here, f.size);
-    step_at(w, here, here + f.size, target, registers, s)
+    let ways = ways_of(w, here, f.size);
+    step_at(w, here, ways, registers, s)
 }
 
 // Steps until the end or until the budget is spent: one of any kind, then as many as need no look at the channels.

@@ -1,59 +1,44 @@
--- Each case is the target's definition at the word's operation. Assumes nothing.
-use Rattle.words.specs.Operations.{operationIs}
+-- By the distances that the word holds. Assumes nothing.
 use mathlib.Core.Path.{sym, ap, _∙_}
-use Rattle.paper.specs.Jump.{jumpOf}
 use borrow.Author.Needs.{needs}
+use Rattle.distances.specs.Distances.{distancesIs}
+use Rattle.kernel.specs.Jumps.{none-lands, one-lands}
 use Rattle.kernel.proofs.jumps.jump_lands.Statement.{statement}
 use Rattle.kernel.proofs.jumps.jump_lands.Tie as tie
 
-operation-requires : tie.Need-operation-requires
-operation-requires c κs = search needs
+distances-in-requires : tie.Need-distances-in-requires
+distances-in-requires c κs = search needs
 
 enum-told : tie.Need-enum-told
 enum-told c = search needs
 
-enum-told-2 : tie.Need-enum-told-2
-enum-told-2 c = search needs
+enum-known-held : tie.Need-enum-known-held
+enum-known-held c = search needs
 
-enum-known-o : tie.Need-enum-known-o
-enum-known-o c = search needs
+add-reach : tie.Need-add-reach
+add-reach c = search needs
 
-branch-lands-requires : tie.Need-branch-lands-requires
-branch-lands-requires c κs = search needs
+reach-requires : tie.Need-reach-requires
+reach-requires c κs = search needs
 
-enum-told-3 : tie.Need-enum-told-3
-enum-told-3 c = search needs
+target-lands-requires : tie.Need-target-lands-requires
+target-lands-requires c κs = search needs
 
 returns : tie.Need-returns
-unfolding jumpOf
-returns c =
-    let o = sym (c .before .before .operation .ensures) ∙ ap operationIs (c .enum-told .given .1) in rw o
+returns c = none-lands _ _ _ _ (sym (c .before .before .distances-in .ensures) ∙ ap distancesIs (c .enum-told .given .1))
 
 returns-2 : tie.Need-returns-2
-unfolding jumpOf
-returns-2 c =
-    let o = sym (c .before .before .operation .ensures) ∙ ap operationIs (c .enum-told2 .given .1) in rw o
-
-returns-3 : tie.Need-returns-3
-returns-3 c =
-    let o = sym (c .before .before .before .before .operation .ensures) ∙ ap operationIs (c .before .before .o .given .1) in rw o (c .branch-lands .ensures)
-
-returns-4 : tie.Need-returns-4
-unfolding jumpOf
-returns-4 c =
-    let o = sym (c .before .before .operation .ensures) ∙ ap operationIs (c .enum-told3 .given .1) in rw o
+returns-2 c = c .target-lands .ensures ∙ one-lands _ _ _ _ _ (sym (c .before .before .before .before .before .distances-in .ensures) ∙ ap distancesIs (c .before .before .before .held .given .1)) _ (c .before .reach .ensures)
 
 pub jump-lands-spec : {M : Type 1} → statement M
 jump-lands-spec =
     tie.close
     (tie.spec
-    operation-requires
+    distances-in-requires
     enum-told
-    enum-told-2
-    enum-known-o
-    branch-lands-requires
-    enum-told-3
+    enum-known-held
+    add-reach
+    reach-requires
+    target-lands-requires
     returns
-    returns-2
-    returns-3
-    returns-4)
+    returns-2)

@@ -10,7 +10,7 @@ use Rattle.words.specs.Words.{toWord}
 use Rattle.words.specs.Operations.{branchIs}
 use Rattle.execute.specs.Stores.{storeOf}
 use Rattle.machine.specs.Channels.{channelsIs}
-use Rattle.machine.specs.Branches.{waysTo, actBy, act-mask}
+use Rattle.machine.specs.Branches.{waysIs, actBy, act-mask}
 use borrow.Author.Needs.{needs}
 use Rattle.machine.proofs.branch.act.Statement.{statement}
 use Rattle.machine.proofs.branch.act.Tie as tie
@@ -25,7 +25,7 @@ act-by-requires c κs =
     let p = c .before .pre in
     let less : c .predicate-of .result < 65536 =
     rw (c .predicate-of .ensures) (predicateMask-less (predCtrl w) (predInv w) (chosenFlag w (storeOf [] (a .flags)))) in
-    (p .0, less, p .1, p .2)
+    (p .0, less, p .1)
 
 returns : tie.Need-returns
 returns c =
@@ -33,8 +33,8 @@ returns c =
     let e = c .act-by .ensures in (
       (λ registers. let st : Store = storeOf registers (a .flags) in
           e .0 st
-          ∙ ap (λ (m : ℕ). actBy (branchIs (a .b)) (bit m) (waysTo (a .next) (a .target)) st (channelsIs (a .c))) (c .before .predicate-of .ensures)
-          ∙ act-mask (a .c) (branchIs (a .b)) (toWord (a .w)) (waysTo (a .next) (a .target)) st),
+          ∙ ap (λ (m : ℕ). actBy (branchIs (a .b)) (bit m) (waysIs (a .ways)) st (channelsIs (a .c))) (c .before .predicate-of .ensures)
+          ∙ act-mask (a .c) (branchIs (a .b)) (toWord (a .w)) (waysIs (a .ways)) st),
       e .1,
     )
 

@@ -1,7 +1,7 @@
 -- Each arm is the paper's arm: the channels that wait are those of the mask, and the callee answers the place. Assumes nothing.
 use mathlib.Core.Path.{refl, _∙_}
 use Prim.Native.Nat.{_-_}
-use Rattle.machine.specs.Branches.{actBy, park-all, park-others, forks, fork-lands, jumps, jump-lands}
+use Rattle.machine.specs.Branches.{waysIs, actBy, park-all, park-others, forks, fork-lands, jumps, jump-lands}
 use borrow.Author.Needs.{needs}
 use Rattle.machine.proofs.branch.act_by.Statement.{statement}
 use Rattle.machine.proofs.branch.act_by.Tie as tie
@@ -51,8 +51,8 @@ returns c =
     let a = b .args in
     let e = c .jump .ensures in
     rw (c .before .enum-told .given .1) (
-      jumps (c .jump .result) (a .c) (a .next) (a .target) (e .0) (a .predicate) (e .1),
-      jump-lands (c .jump .result) (a .c) (a .next) (a .target) (e .0) (a .predicate) (e .1) (b .pre .0) (b .pre .2) (b .pre .3),
+      jumps (c .jump .result) (a .c) (waysIs (a .ways)) (e .0) (a .predicate) (e .1),
+      jump-lands (c .jump .result) (a .c) (waysIs (a .ways)) (e .0) (a .predicate) (e .1) (b .pre .0) (b .pre .2),
     )
 
 returns-2 : tie.Need-returns-2
@@ -63,9 +63,9 @@ returns-2 c =
     let e = c .fork .ensures in
     let after = c .before .park in
     rw (c .before .before .enum-told2 .given .1) (
-      forks (c .fork .result) (after .result) (a .next) (a .target) (e .0) _
-          (after .ensures .0 ∙ park-others (a .c) (a .predicate) (a .target) (b .pre .1)) (e .1),
-      fork-lands (c .fork .result) (after .result) (a .next) (a .target) (e .0) (e .1) (after .ensures .1) (b .pre .2) (b .pre .3),
+      forks (c .fork .result) (after .result) (waysIs (a .ways)) (e .0) _
+          (after .ensures .0 ∙ park-others (a .c) (a .predicate) (a .ways .wait) (b .pre .1)) (e .1),
+      fork-lands (c .fork .result) (after .result) (waysIs (a .ways)) (e .0) (e .1) (after .ensures .1) (b .pre .2),
     )
 
 returns-3 : tie.Need-returns-3
@@ -76,8 +76,8 @@ returns-3 c =
     let e = c .fork2 .ensures in
     let after = c .before .park2 in
     rw (c .before .before .enum-told3 .given .1) (
-      forks (c .fork2 .result) (after .result) (a .next) (a .target) (e .0) _ (after .ensures .0 ∙ park-all (a .c) (a .target)) (e .1),
-      fork-lands (c .fork2 .result) (after .result) (a .next) (a .target) (e .0) (e .1) (after .ensures .1) (b .pre .2) (b .pre .3),
+      forks (c .fork2 .result) (after .result) (waysIs (a .ways)) (e .0) _ (after .ensures .0 ∙ park-all (a .c) (a .ways .wait)) (e .1),
+      fork-lands (c .fork2 .result) (after .result) (waysIs (a .ways)) (e .0) (e .1) (after .ensures .1) (b .pre .2),
     )
 
 returns-4 : tie.Need-returns-4
@@ -87,8 +87,8 @@ returns-4 c =
     let a = b .args in
     let e = c .fork3 .ensures in
     rw (c .before .enum-told4 .given .1) (
-      forks (c .fork3 .result) (a .c) (a .next) (a .target) (e .0) _ refl (e .1),
-      fork-lands (c .fork3 .result) (a .c) (a .next) (a .target) (e .0) (e .1) (b .pre .0) (b .pre .2) (b .pre .3),
+      forks (c .fork3 .result) (a .c) (waysIs (a .ways)) (e .0) _ refl (e .1),
+      fork-lands (c .fork3 .result) (a .c) (waysIs (a .ways)) (e .0) (e .1) (b .pre .0) (b .pre .2),
     )
 
 returns-5 : tie.Need-returns-5

@@ -21,15 +21,15 @@ returns c =
     let b = c .before .before .before in
     let a = b .args in
     let test = sym (c .before .before .someone-awake .ensures) ∙ c .before .if1 .taken in
-    let channels = c .park .ensures .0 ∙ park-others (a .c) (a .predicate) (a .next) (b .pre .1) in
-    ((λ st. rw test (λ i. record { store = st; channels = channels i; place = a .target })), record { sane = c .park .ensures .1; fits = b .pre .3 })
+    let channels = c .park .ensures .0 ∙ park-others (a .c) (a .predicate) (a .ways .next) (b .pre .1) in
+    ((λ st. rw test (λ i. record { store = st; channels = channels i; place = a .ways .jump })), record { sane = c .park .ensures .1; fits = b .pre .2 .jump })
 
 returns-2 : tie.Need-returns-2
 unfolding actBy
 returns-2 c =
     let b = c .before .before in
     let test = sym (c .before .someone-awake .ensures) ∙ c .if1 .left in
-    ((λ st. rw test), record { sane = b .pre .0; fits = b .pre .2 })
+    ((λ st. rw test), record { sane = b .pre .0; fits = b .pre .2 .next })
 
 pub repeat-spec : {M : Type 1} → statement M
 repeat-spec = tie.close (tie.spec someone-awake-requires sub-park park-requires returns returns-2)

@@ -5,7 +5,7 @@ use Rattle.words.specs.Words.{toWord}
 use Rattle.words.specs.Operations.{operationIs}
 use Rattle.execute.specs.Stores.{storeOf}
 use Rattle.machine.specs.Channels.{channelsIs}
-use Rattle.machine.specs.Branches.{waysTo}
+use Rattle.machine.specs.Branches.{waysIs}
 use Rattle.machine.specs.Steps.{pass-made, idle-made, nop-idle, unlisted-idle}
 use borrow.Author.Needs.{needs}
 use Rattle.machine.proofs.step.perform.Statement.{statement}
@@ -45,8 +45,8 @@ returns c =
     let st = storeOf (a .registers .now) (a .flags) in
     let after = storeOf (c .before .before .execute .last .1 .1 .1 .1 .0) (c .before .before .execute .result) in (
       rw (c .before .before .before .before .before .o .given .1)
-          (pass-made (a .c) (p .1 .0) (toWord (a .w)) (waysTo (a .next) (a .target)) st after (e .0) (e .1 .0)),
-      record { channels = p .1 .0; flag0 = e .1 .1 .0; flag1 = e .1 .1 .1; place = p .1 .3 },
+          (pass-made (a .c) (p .1 .0) (toWord (a .w)) (waysIs (a .ways)) st after (e .0) (e .1 .0)),
+      record { channels = p .1 .0; flag0 = e .1 .1 .0; flag1 = e .1 .1 .1; place = p .1 .3 .next },
     )
 
 returns-2 : tie.Need-returns-2
@@ -57,9 +57,9 @@ returns-2 c =
     let p = s .pre in
     let st = storeOf (a .registers .now) (a .flags) in (
       rw (c .enum-told .given .1)
-          (idle-made (channelsIs (a .c)) (toWord (a .w)) (waysTo (a .next) (a .target)) st
+          (idle-made (channelsIs (a .c)) (toWord (a .w)) (waysIs (a .ways)) st
           (nop-idle (toWord (a .w)) _ st (sym (p .0 .0) ∙ ap operationIs (c .enum-told .given .1)))),
-      record { channels = p .1 .0; flag0 = p .1 .1; flag1 = p .1 .2; place = p .1 .3 },
+      record { channels = p .1 .0; flag0 = p .1 .1; flag1 = p .1 .2; place = p .1 .3 .next },
     )
 
 returns-3 : tie.Need-returns-3
@@ -81,9 +81,9 @@ returns-4 c =
     let p = s .pre in
     let st = storeOf (a .registers .now) (a .flags) in (
       rw (c .enum-told2 .given .1)
-          (idle-made (channelsIs (a .c)) (toWord (a .w)) (waysTo (a .next) (a .target)) st
+          (idle-made (channelsIs (a .c)) (toWord (a .w)) (waysIs (a .ways)) st
           (unlisted-idle (toWord (a .w)) _ st (sym (p .0 .0) ∙ ap operationIs (c .enum-told2 .given .1)))),
-      record { channels = p .1 .0; flag0 = p .1 .1; flag1 = p .1 .2; place = p .1 .3 },
+      record { channels = p .1 .0; flag0 = p .1 .1; flag1 = p .1 .2; place = p .1 .3 .next },
     )
 
 pub perform-spec : {M : Type 1} → statement M

@@ -6,7 +6,7 @@ use lib.ListN.{length}
 use borrow.Author.Needs.{needs}
 use Rattle.paper.specs.Dictionary.{dictionaryOf}
 use Rattle.packer.specs.Forms.{formOf, kernelOf}
-use Rattle.packer.specs.Stages.{Stage, stage-start, stage-room, stage-few, stage-whole, stage-next, target-reaches}
+use Rattle.packer.specs.Stages.{Stage, stage-start, stage-room, stage-few, stage-whole, stage-next, targets-reach}
 use Rattle.packer.specs.Written.{Holds, holds-start, holds-length, holds-next, holds-end}
 use Rattle.packer.proofs.write.write_all.Statement.{statement}
 use Rattle.packer.proofs.write.write_all.Tie as tie
@@ -48,7 +48,7 @@ rewrite-requires c κs =
       omega (arith, f .few),
       omega (arith, few),
       omega (arith, few, c .places-taken .ensures .2),
-      target-reaches _ _ _ _ k _ _ _ (l .inv .0) t _ _ f (c .before .before .before .before .before .before .before .before .args .places .now) (c .before .before .before .before .before .before .before .before .pre .1 .0),
+      targets-reach _ _ _ _ k _ _ _ (l .inv .0) t _ _ f (c .before .before .before .before .before .before .before .before .args .places .now) (c .before .before .before .before .before .before .before .before .pre .1 .0),
     )
 
 mul-at : tie.Need-mul-at Inv-loop μ-loop

@@ -1,8 +1,8 @@
 -- Bits 127:96 are the top of the high half. Assumes nothing.
 use borrow.Author.Needs.{needs}
-use Rattle.packer.specs.Distances.{put-far}
-use Rattle.packer.proofs.distance.with_far.Statement.{statement}
-use Rattle.packer.proofs.distance.with_far.Tie as tie
+use Rattle.distances.specs.Halves.{put-far}
+use Rattle.distances.proofs.distance.with_far.Statement.{statement}
+use Rattle.distances.proofs.distance.with_far.Tie as tie
 
 mul-t4 : tie.Need-mul-t4
 mul-t4 c = search needs

@@ -1,8 +1,8 @@
 -- Bits 63:48 are the top of the low half. Assumes nothing.
 use borrow.Author.Needs.{needs}
-use Rattle.packer.specs.Distances.{put-near}
-use Rattle.packer.proofs.distance.with_near.Statement.{statement}
-use Rattle.packer.proofs.distance.with_near.Tie as tie
+use Rattle.distances.specs.Halves.{put-near}
+use Rattle.distances.proofs.distance.with_near.Statement.{statement}
+use Rattle.distances.proofs.distance.with_near.Tie as tie
 
 mul-t4 : tie.Need-mul-t4
 mul-t4 c = search needs
