@@ -13,7 +13,7 @@ use borrow.Author.Tests.{ltb-true, leb-true}
 use Rattle.paper.specs.Limits.{dictionaryBytes, kernelBytes, instructionLimit}
 use Rattle.paper.specs.Dictionary.{Dictionary, dictionaryOf, inRange}
 use Rattle.paper.specs.Kernel.{Instr, Forms, longOnly, Judged, refused, passed, judgeAt, Parsed, bad, good, prepend, enter, walk, parse}
-use Rattle.paper.specs.Jump.{targetOf, jumpLands, firstAstray, astray, withJumps}
+use Rattle.paper.specs.Jump.{targetsOf, targetsLand, firstAstray, astray, withJumps}
 use Rattle.paper.specs.Calls.{sized, judgedKernel, accepted}
 use Rattle.laws.specs.Judged.{Passed, asLong, asShort, judge-passed}
 use Rattle.answers.specs.Judging.{Modest, modest-number, modest-above, judged-modest}
@@ -94,7 +94,7 @@ module _ (judge : ℕ → Judged) (end : ℕ) (modest : (from : ℕ) → Modest 
 near-astray : (end n : ℕ) (k rest : List Instr) → Near end n (good k) → Inside end rest → Near end n (astray k (firstAstray k rest))
 unfolding firstAstray Inside
 near-astray end n k [] h g = h
-near-astray end n k (i ∷ rest) h g = go (jumpLands k (targetOf i)) (near-astray end n k rest h (g .1))
+near-astray end n k (i ∷ rest) h g = go (targetsLand k (targetsOf i)) (near-astray end n k rest h (g .1))
   where
     go : (b : Bool) → Near end n (astray k (firstAstray k rest)) → Near end n (astray k (cond b (firstAstray k rest) (some (8 * i .place))))
     go true later = later
