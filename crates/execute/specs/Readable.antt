@@ -13,7 +13,7 @@ use Rattle.paper.specs.Operation.{Plain, traits, sources}
 use Rattle.paper.specs.Region.{channels, srcSize, srcElement, dstSize, dstElement}
 use Rattle.paper.specs.Legal.{anyOf, misplaced, unequalHalves, badModifier, isNull, quarterServed, conditionServed, controlServed, operandRuleBroken}
 use Rattle.paper.specs.Enable.{channelOf}
-use Rattle.laws.specs.Halfwords.{both}
+use Rattle.laws.specs.Truth.{both-true}
 use Rattle.laws.specs.Regions.{LegalPlain, source-shape, source-inside, destination-inside}
 use Rattle.lanes.specs.Served.{plain-control, plain-channels}
 use Rattle.operands.specs.Sources.{Readable}
@@ -29,9 +29,9 @@ pub record Writable (w : ℕ) : Type 0 where
 control-count : (compares saturates : Bool) (w : ℕ) → controlServed compares saturates w ≡ true → execSize w ≤ 4
 unfolding controlServed
 control-count compares saturates w e =
-    let a = both (eqb (accessMode w) 0) _ e in
-    let b = both (eqb (accWrCtrl w) 0) _ (a .1) in
-    leb-true (execSize w) 4 (both (leb (execSize w) 4) _ (b .1) .0)
+    let a = both-true (eqb (accessMode w) 0) _ e in
+    let b = both-true (eqb (accWrCtrl w) 0) _ (a .1) in
+    leb-true (execSize w) 4 (both-true (leb (execSize w) 4) _ (b .1) .0)
 
 pub legal-count : (p : Plain) (w : ℕ) → LegalPlain p w → execSize w ≤ 4
 legal-count p w l = control-count (traits p .compares) (traits p .saturates) w (plain-control p w (l .served))
@@ -75,12 +75,12 @@ legal-factors w l =
 control-saturate : (compares : Bool) (w : ℕ) → controlServed compares false w ≡ true → saturate w ≡ 0
 unfolding controlServed
 control-saturate compares w e =
-    let a = both (eqb (accessMode w) 0) _ e in
-    let b = both (eqb (accWrCtrl w) 0) _ (a .1) in
-    let c = both (leb (execSize w) 4) _ (b .1) in
-    let d = both (quarterServed w) _ (c .1) in
-    let f = both (leb (predCtrl w) 1) _ (d .1) in
-    let g = both (conditionServed compares (condModifier w)) _ (f .1) in
+    let a = both-true (eqb (accessMode w) 0) _ e in
+    let b = both-true (eqb (accWrCtrl w) 0) _ (a .1) in
+    let c = both-true (leb (execSize w) 4) _ (b .1) in
+    let d = both-true (quarterServed w) _ (c .1) in
+    let f = both-true (leb (predCtrl w) 1) _ (d .1) in
+    let g = both-true (conditionServed compares (condModifier w)) _ (f .1) in
     eqb-true (saturate w) 0 (left (eqb (saturate w) 0) (g .1))
   where
     left : (a : Bool) → (a || false) ≡ true → a ≡ true

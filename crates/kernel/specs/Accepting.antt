@@ -22,6 +22,7 @@ use Rattle.kernel.specs.declared.jumps.Astray.the-variants.{Nowhere, Bra
 use Rattle.kernel.specs.Standing.{Whole, Fetches, Fits, fits, Stands, Standing, walk-stands, stands-fetch}
 use Rattle.kernel.specs.Marks.{marked, Says, says-bad, says-refused, says-accepted}
 use Rattle.kernel.specs.Jumps.{instrOf, FirstOut, astrayIs, out-astray}
+use Rattle.laws.specs.Truth.{both-true}
 
 -- ---- 1
 
@@ -29,14 +30,9 @@ pub record RightSizes (dictionary kernel : List ℕ) : Type 0 where
   pub dictionary-is : length dictionary ≡ dictionaryBytes
   pub kernel-most : length kernel ≤ kernelBytes
 
-and-parts : (a b : Bool) → (a && b) ≡ true → (a ≡ true) × (b ≡ true)
-and-parts true true e = (refl, refl)
-and-parts true false e = (refl, e)
-and-parts false b e = absurd (true≢false (sym e))
-
 pub right-sizes : (dictionary kernel : List ℕ) → sized dictionary kernel ≡ true → RightSizes dictionary kernel
 right-sizes dictionary kernel e =
-    let p = and-parts (eqb (length dictionary) dictionaryBytes) (leb (length kernel) kernelBytes) e in
+    let p = both-true (eqb (length dictionary) dictionaryBytes) (leb (length kernel) kernelBytes) e in
     record { dictionary-is = eqb-true _ _ (p .0); kernel-most = leb-true _ _ (p .1) }
 
 -- ---- a parse, and what is then known without its list

@@ -19,7 +19,7 @@ use Rattle.paper.specs.Legal.{quarterServed, controlServed, plainServed}
 use Rattle.paper.specs.Enable.{Store, channelOf, enabled, flagAfter}
 use Rattle.paper.specs.Effect.{scattered, isOn}
 use Rattle.laws.specs.Bits.{bits-lt}
-use Rattle.laws.specs.Halfwords.{both}
+use Rattle.laws.specs.Truth.{both-true}
 use Rattle.laws.specs.Regions.{SourceShape}
 use Rattle.laws.specs.Scatter.{scattered-same}
 use Rattle.lanes.specs.Masks.{quarterMask}
@@ -71,7 +71,7 @@ quarter-ends : (quarter code : ℕ) → code ≤ 4 → (eqb quarter 0 || (eqb qu
 quarter-ends quarter code h e =
     ⊎-elim
     (λ q. omega (arith, eqb-true quarter 0 q, pow-mono {i = code} {j = 4} h))
-    (λ q. let b = both (eqb quarter 1) (eqb code 3) q in
+    (λ q. let b = both-true (eqb quarter 1) (eqb code 3) q in
     omega (arith, eqb-true quarter 1 (b .0), pow-mono {i = code} {j = 3} (omega (arith, eqb-true code 3 (b .1)))))
     (either (eqb quarter 0) (eqb quarter 1 && eqb code 3) e)
 
@@ -79,16 +79,16 @@ quarter-ends quarter code h e =
 pub served-channels : (compares saturates : Bool) (w : ℕ) → controlServed compares saturates w ≡ true → channelOf w 0 + channels w ≤ 16
 unfolding controlServed
 served-channels compares saturates w e =
-    let a = both (eqb (accessMode w) 0) _ e in
-    let b = both (eqb (accWrCtrl w) 0) _ (a .1) in
-    let c = both (leb (execSize w) 4) _ (b .1) in
-    let d = both (quarterServed w) _ (c .1) in
+    let a = both-true (eqb (accessMode w) 0) _ e in
+    let b = both-true (eqb (accWrCtrl w) 0) _ (a .1) in
+    let c = both-true (leb (execSize w) 4) _ (b .1) in
+    let d = both-true (quarterServed w) _ (c .1) in
     omega (arith, quarter-ends (qtrCtrl w) (execSize w) (leb-true (execSize w) 4 (c .0)) (d .0))
 
 -- A plain word's control fields are served.
 pub plain-control : (p : Plain) (w : ℕ) → plainServed p w ≡ true → controlServed (traits p .compares) (traits p .saturates) w ≡ true
 unfolding plainServed
-plain-control p w e = both (controlServed (traits p .compares) (traits p .saturates) w) _ e .0
+plain-control p w e = both-true (controlServed (traits p .compares) (traits p .saturates) w) _ e .0
 
 -- So its channels end before 16.
 pub plain-channels : (p : Plain) (w : ℕ) → plainServed p w ≡ true → channelOf w 0 + channels w ≤ 16

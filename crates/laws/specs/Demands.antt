@@ -30,6 +30,7 @@ use Rattle.laws.specs.Lasting.{Fit, Holds, Lasting, state-lands, step-la
 use Rattle.laws.specs.Relay.{newEnd-near, relay-length}
 use Rattle.laws.specs.Packing.{Kernel, kernel-of, long-accepted, packed-accepted, packed-sound, unpack-pack, kernel-near, accepted-parts}
 use Rattle.laws.specs.Moved.{relaid-end}
+use Rattle.laws.specs.Truth.{both-true}
 
 -- ---- what is lent to a run that is not refused
 
@@ -57,10 +58,6 @@ step-ready dictionary kernel registers bytes k r e = rw (r .sizes, r .judged, r 
 
 true-and-true : (a b : Bool) → a ≡ true → b ≡ true → (a && b) ≡ true
 true-and-true a b p q = rw (p, q)
-
-parts : (a b : Bool) → (a && b) ≡ true → (a ≡ true) × (b ≡ true)
-parts true b e = (refl, e)
-parts false b e = absurd (let z : _≡_ {A = ℕ} 0 1 = cc in omega arith)
 
 -- What a sound kernel's lasting state leaves in the lent bytes is legal again, and is that state.
 module _ (dictionary kernel : List ℕ) (k : List Instr) (sound : Sound k) (near : endOf k < 2 ^ 16)

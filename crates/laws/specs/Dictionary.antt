@@ -6,28 +6,19 @@ use native.Mathlib.Omega.{arith}
 use native.Mathlib.Decide.{decLt}
 use borrow.Author.Tests.{ltb-true, lt-ltb}
 use Rattle.paper.specs.Dictionary.{Dictionary, tableWidth, fitBelow, inRange}
-
--- The left side of a true conjunction is true.
-and-left : (a b : Bool) → (a && b) ≡ true → a ≡ true
-and-left true b e = refl
-and-left false b e = e
-
--- So is the right side.
-and-right : (a b : Bool) → (a && b) ≡ true → b ≡ true
-and-right true b e = e
-and-right false b e = absurd (true≢false (sym e))
+use Rattle.laws.specs.Truth.{both-true}
 
 -- If the test on the first n numbers is true, then each of them fits.
 fit-below : (D : Dictionary) (n : ℕ) → fitBelow D n ≡ true → (i : ℕ) → i < n → D i < 2 ^ tableWidth i
 unfolding fitBelow
 fit-below D zero e i h = absurd (omega arith)
-fit-below D (suc n) e i h = either (fit-below D n (and-left _ _ e) i) (decLt i n)
+fit-below D (suc n) e i h = either (fit-below D n (both-true (fitBelow D n) _ e .0) i) (decLt i n)
   where
     either : (i < n → D i < 2 ^ tableWidth i) → Dec (i < n) → D i < 2 ^ tableWidth i
     either before (yes l) = before l
     either before (no l) =
         let same : n ≡ i = omega arith in
-        subst (λ (j : ℕ). D j < 2 ^ tableWidth j) same (ltb-true _ _ (and-right (fitBelow D n) _ e))
+        subst (λ (j : ℕ). D j < 2 ^ tableWidth j) same (ltb-true _ _ (both-true (fitBelow D n) _ e .1))
 
 -- If each of the first n numbers fits, then the test on them is true.
 below-fit : (D : Dictionary) (n : ℕ) → ((i : ℕ) → i < n → D i < 2 ^ tableWidth i) → fitBelow D n ≡ true

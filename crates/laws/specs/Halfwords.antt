@@ -13,6 +13,7 @@ use lib.Pow.{areBytes}
 use borrow.Author.Tests.{ltb-true}
 use Rattle.paper.specs.Bits.{number, numberAt, bytesOf}
 use Rattle.paper.specs.State.{half}
+use Rattle.laws.specs.Truth.{both-true}
 
 -- The numbers of a list as bytes, two each.
 unfoldable pub halves : List ℕ → List ℕ
@@ -40,18 +41,13 @@ half-halves (v ∷ vs) (suc k) = rw (mul-suc 2 k, add-two) (half-halves vs k)
 
 -- ---- bytes below 256
 
--- Of a true conjunction both parts are true.
-pub both : (a b : Bool) → (a && b) ≡ true → (a ≡ true) × (b ≡ true)
-both true b e = (refl, e)
-both false b e = absurd (false≢true e)
-
 -- The first byte of a list of bytes is below 256,
 head-less : (b : ℕ) (bs : List ℕ) → areBytes (b ∷ bs) ≡ true → b < 256
-head-less b bs h = ltb-true b 256 (both (ltb b 256) (areBytes bs) h .0)
+head-less b bs h = ltb-true b 256 (both-true (ltb b 256) (areBytes bs) h .0)
 
 -- and the rest is a list of bytes.
 tail-bytes : (b : ℕ) (bs : List ℕ) → areBytes (b ∷ bs) ≡ true → areBytes bs ≡ true
-tail-bytes b bs h = both (ltb b 256) (areBytes bs) h .1
+tail-bytes b bs h = both-true (ltb b 256) (areBytes bs) h .1
 
 -- Two bytes write a number below 2^16.
 pub half-less : (l : List ℕ) (a : ℕ) → areBytes l ≡ true → half l a < 2 ^ 16

@@ -29,6 +29,7 @@ use Rattle.laws.specs.Items.{Item, allBytes, instrsFrom, isLong, AllForm
 use Rattle.laws.specs.Walk.{Each, Walked}
 use Rattle.laws.specs.Parse.{WordAt, parsed, jumps-good, good-jumps, longBytes, long-back}
 use Rattle.laws.specs.Relay.{Sane, AllSane, Right, itemsFrom, itemsOf, relay-items, relaid-items, relay-length, newEnd-near, short-plain, relay-parses}
+use Rattle.laws.specs.Truth.{both-true}
 
 -- ---- what an accepted kernel is
 
@@ -75,14 +76,10 @@ kernel-of forms dictionary kernel bytes k e =
 
 -- ---- a relayout is accepted
 
-and-parts : (a b : Bool) → (a && b) ≡ true → (a ≡ true) × (b ≡ true)
-and-parts true b e = (refl, e)
-and-parts false b e = absurd (false≢true e)
-
 -- An accepted kernel ends at place 2,048 at the latest.
 pub kernel-near : (forms : Forms) (dictionary kernel : List ℕ) (k : List Instr) → Kernel forms dictionary kernel k → endOf k ≤ 2048
 kernel-near forms dictionary kernel k h =
-    let p = and-parts (eqb (length dictionary) dictionaryBytes) (leb (length kernel) kernelBytes) (h .sizes) in
+    let p = both-true (eqb (length dictionary) dictionaryBytes) (leb (length kernel) kernelBytes) (h .sizes) in
     omega (arith, h .ends, leb-true (length kernel) kernelBytes (p .1))
 
 -- An accepted kernel has the right sizes, and passes what comes after them.
@@ -103,7 +100,7 @@ pub relay-accepted : (forms forms′ : Forms) (dictionary kernel : List ℕ) (k 
     → (form : Form) → Right forms′ (dictionaryOf dictionary) form → accepted forms′ dictionary (relay form k) ≡ good (relaidBy form k)
 unfolding accepted judgedKernel
 relay-accepted forms forms′ dictionary kernel k h form right =
-    let p = and-parts (eqb (length dictionary) dictionaryBytes) (leb (length kernel) kernelBytes) (h .sizes) in
+    let p = both-true (eqb (length dictionary) dictionaryBytes) (leb (length kernel) kernelBytes) (h .sizes) in
     let l : length (relay form k) ≤ kernelBytes = let e = relay-length form k in let n = newEnd-near form k (h .few) in omega arith in
     let s = relaid-sound form k (h .sound .laid) (end-bound form k (h .few)) in
     rw (p .0, le-leb (length (relay form k)) kernelBytes l, h .range, relay-parses forms′ (dictionaryOf dictionary) form right k (h .sane) (h .few))

@@ -16,7 +16,8 @@ use Rattle.paper.specs.Machine.{Channel, off, awake, waiting, isAwake, State}
 use Rattle.paper.specs.State.{half, awakeBit, waitingBit, waitingPlace, channelIn, oneOfThree, channelsIn, stateOf, allThree, isWaiting, placeIn}
 use Rattle.paper.specs.State.{maskOf, placesOf, stateBytes}
 use Rattle.laws.specs.Masks.{ofBits-less, bit-ofBits, ofBits-bit, ofBits-same}
-use Rattle.laws.specs.Halfwords.{halves, length-halves, half-halves, half-less, halves-back, both}
+use Rattle.laws.specs.Halfwords.{halves, length-halves, half-halves, half-less, halves-back}
+use Rattle.laws.specs.Truth.{both-true}
 
 -- ---- the bytes as numbers of 16 bits
 
@@ -72,7 +73,7 @@ pub each-of-three : (bytes : List ℕ) (n : ℕ) → allThree bytes n ≡ true �
 unfolding allThree
 each-of-three bytes zero h k q = absurd (omega arith)
 each-of-three bytes (suc n) h k q =
-    let b = both (allThree bytes n) (oneOfThree bytes n) h in
+    let b = both-true (allThree bytes n) (oneOfThree bytes n) h in
     ⊎-elim
     (λ e. ap (oneOfThree bytes) e ∙ b .1)
     (λ l. each-of-three bytes n (b .0) k l)

@@ -17,7 +17,8 @@ use Rattle.paper.specs.State.{channelsIn, stateOf, allThree, stateLands, stateL
 use Rattle.paper.specs.Bits.{bytesOf}
 use Rattle.paper.specs.Calls.{refusal, verdict, Changed, unchanged, changedTo, sized, allSized, judgedKernel, accepted, onState, steppedAs, stepCall, ranAs, runCall}
 use Rattle.laws.specs.Bytes.{bytes-append, bytes-bytesOf}
-use Rattle.laws.specs.Halfwords.{halves, both, half-less}
+use Rattle.laws.specs.Truth.{both-true}
+use Rattle.laws.specs.Halfwords.{halves, half-less}
 use Rattle.laws.specs.Runs.{still, orSpent, run-zero, run-stop}
 use Rattle.laws.specs.Same.{state-names}
 use Rattle.laws.specs.StateBytes.{state-halves, bytes-back}
@@ -54,7 +55,7 @@ module _ (dictionary kernel registers bytes : List ℕ) (right : areBytes kernel
   module _ (k : List Instr) (r : Ready dictionary kernel registers bytes k) where
     -- The kernel that is lent,
     abbrev sizes : (sized dictionary kernel ≡ true) × ((eqb (length registers) registerBytes && eqb (length bytes) stateLength) ≡ true)
-    sizes = both (sized dictionary kernel) _ (r .sizes)
+    sizes = both-true (sized dictionary kernel) _ (r .sizes)
 
     kernel-lent : Kernel longAndShort dictionary kernel k
     unfolding accepted
@@ -63,13 +64,13 @@ module _ (dictionary kernel registers bytes : List ℕ) (right : areBytes kernel
     -- the sizes,
     pub buffers : (length registers ≡ registerBytes) × (length bytes ≡ stateLength)
     buffers =
-        let b = both (eqb (length registers) registerBytes) _ (sizes .1) in
+        let b = both-true (eqb (length registers) registerBytes) _ (sizes .1) in
         (eqb-true (length registers) registerBytes (b .0), eqb-true (length bytes) stateLength (b .1))
 
     -- and the state.
     pub legal-parts : (allThree bytes 16 ≡ true) × (stateLands k lent ≡ true)
     unfolding stateLegal
-    legal-parts = both (allThree bytes 16) (stateLands k lent) (r .legal)
+    legal-parts = both-true (allThree bytes 16) (stateLands k lent) (r .legal)
 
     -- What is lent is the state's own writing,
     bytes-lent : stateBytes lent ≡ bytes
