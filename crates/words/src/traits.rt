@@ -5,108 +5,148 @@ ghost use Rattle.paper.specs.Operation.{traits};
 ghost use Rattle.paper.specs.Enable.{masks};
 ghost use Rattle.words.specs.Operations.{plainIs};
 ghost use Rattle.words.specs.Traits.{readsTwo};
+ghost use Rattle.words.specs.Asked.{Asked};
+
+// The operation reads two sources, and else one; Saturate is served on it; its sources may have modifiers; it is cmp, which sets flags; its
+// predicate masks its channels.
+pub struct Row {
+    pub two: bool,
+    pub saturates: bool,
+    pub modifiers: bool,
+    pub compares: bool,
+    pub masks: bool,
+}
+
+// Each operation's row.
+fn row_of(p: Plain) -> Row
+    ensures { λ r. ⌜ Asked (plainIs p) r ⌝ }
+{
+    match p {
+        Plain::Mov => Row {
+            two: false,
+            saturates: true,
+            modifiers: true,
+            compares: false,
+            masks: true,
+        },
+        Plain::Sel => Row {
+            two: true,
+            saturates: true,
+            modifiers: true,
+            compares: false,
+            masks: false,
+        },
+        Plain::Not => Row {
+            two: false,
+            saturates: false,
+            modifiers: false,
+            compares: false,
+            masks: true,
+        },
+        Plain::And => Row {
+            two: true,
+            saturates: false,
+            modifiers: false,
+            compares: false,
+            masks: true,
+        },
+        Plain::Or => Row {
+            two: true,
+            saturates: false,
+            modifiers: false,
+            compares: false,
+            masks: true,
+        },
+        Plain::Xor => Row {
+            two: true,
+            saturates: false,
+            modifiers: false,
+            compares: false,
+            masks: true,
+        },
+        Plain::Shr => Row {
+            two: true,
+            saturates: false,
+            modifiers: false,
+            compares: false,
+            masks: true,
+        },
+        Plain::Shl => Row {
+            two: true,
+            saturates: false,
+            modifiers: false,
+            compares: false,
+            masks: true,
+        },
+        Plain::Asr => Row {
+            two: true,
+            saturates: false,
+            modifiers: false,
+            compares: false,
+            masks: true,
+        },
+        Plain::Cmp => Row {
+            two: true,
+            saturates: false,
+            modifiers: true,
+            compares: true,
+            masks: true,
+        },
+        Plain::Add => Row {
+            two: true,
+            saturates: true,
+            modifiers: true,
+            compares: false,
+            masks: true,
+        },
+        Plain::Mul => Row {
+            two: true,
+            saturates: true,
+            modifiers: true,
+            compares: false,
+            masks: true,
+        },
+        Plain::Avg => Row {
+            two: true,
+            saturates: true,
+            modifiers: true,
+            compares: false,
+            masks: true,
+        },
+    }
+}
 
 // It reads two sources, and else one.
 pub fn reads_two(p: Plain) -> bool
     ensures { λ r. ⌜ r ≡ readsTwo (plainIs p) ⌝ }
 {
-    match p {
-        Plain::Mov => false,
-        Plain::Sel => true,
-        Plain::Not => false,
-        Plain::And => true,
-        Plain::Or => true,
-        Plain::Xor => true,
-        Plain::Shr => true,
-        Plain::Shl => true,
-        Plain::Asr => true,
-        Plain::Cmp => true,
-        Plain::Add => true,
-        Plain::Mul => true,
-        Plain::Avg => true,
-    }
+    row_of(p).two
 }
 
 // Saturate is served on it.
 pub fn saturates(p: Plain) -> bool
     ensures { λ r. ⌜ r ≡ traits (plainIs p) .saturates ⌝ }
 {
-    match p {
-        Plain::Mov => true,
-        Plain::Sel => true,
-        Plain::Not => false,
-        Plain::And => false,
-        Plain::Or => false,
-        Plain::Xor => false,
-        Plain::Shr => false,
-        Plain::Shl => false,
-        Plain::Asr => false,
-        Plain::Cmp => false,
-        Plain::Add => true,
-        Plain::Mul => true,
-        Plain::Avg => true,
-    }
+    row_of(p).saturates
 }
 
 // Its sources may have modifiers.
 pub fn takes_modifiers(p: Plain) -> bool
     ensures { λ r. ⌜ r ≡ traits (plainIs p) .modifiers ⌝ }
 {
-    match p {
-        Plain::Mov => true,
-        Plain::Sel => true,
-        Plain::Not => false,
-        Plain::And => false,
-        Plain::Or => false,
-        Plain::Xor => false,
-        Plain::Shr => false,
-        Plain::Shl => false,
-        Plain::Asr => false,
-        Plain::Cmp => true,
-        Plain::Add => true,
-        Plain::Mul => true,
-        Plain::Avg => true,
-    }
+    row_of(p).modifiers
 }
 
 // It is cmp, which sets flags.
 pub fn compares(p: Plain) -> bool
     ensures { λ r. ⌜ r ≡ traits (plainIs p) .compares ⌝ }
 {
-    match p {
-        Plain::Mov => false,
-        Plain::Sel => false,
-        Plain::Not => false,
-        Plain::And => false,
-        Plain::Or => false,
-        Plain::Xor => false,
-        Plain::Shr => false,
-        Plain::Shl => false,
-        Plain::Asr => false,
-        Plain::Cmp => true,
-        Plain::Add => false,
-        Plain::Mul => false,
-        Plain::Avg => false,
-    }
+    row_of(p).compares
 }
 
 // Its predicate masks its channels: sel's chooses a source instead.
 pub fn masks(p: Plain) -> bool
     ensures { λ r. ⌜ r ≡ masks (plainIs p) ⌝ }
 {
-    match p {
-        Plain::Mov => true,
-        Plain::Sel => false, // it chooses a source
-        Plain::Not => true,
-        Plain::And => true,
-        Plain::Or => true,
-        Plain::Xor => true,
-        Plain::Shr => true,
-        Plain::Shl => true,
-        Plain::Asr => true,
-        Plain::Cmp => true,
-        Plain::Add => true,
-        Plain::Mul => true,
-        Plain::Avg => true,
-    }
+    row_of(p).masks
 }
