@@ -9,7 +9,9 @@ use Rattle.paper.specs.Limits.{registerBytes}
 use Rattle.paper.specs.Word.{weCtrl, qtrCtrl}
 use Rattle.paper.specs.Operation.{Plain, plain, operation}
 use Rattle.paper.specs.Region.{channels}
-use Rattle.paper.specs.Enable.{Store, chosenFlag, channelOf, masks, flagAfter}
+use Rattle.paper.specs.Store.{Store}
+use Rattle.paper.specs.Enable.{chosenFlag, channelOf, flagAfter}
+use Rattle.paper.specs.Operation.{traits}
 use Rattle.paper.specs.Effect.{withFlag, effect}
 use Rattle.laws.specs.Regions.{LegalPlain}
 use Rattle.laws.specs.Lasting.{Fit, effect-fits}
@@ -38,7 +40,7 @@ flag-from w flag enable r n quarter mask found results en eq em ef e =
 pub record Made (p : Plain) (w awake : ℕ) (registers : List ℕ) (f : Flags) (quarter predicate enable holding working : ℕ) (results : List ℕ) : Type 0 where
   pub of-word : quarter ≡ qtrCtrl w
   pub holds : predicate ≡ predicateOf w (storeOf [] f)
-  pub enables : enable ≡ enableMask (weCtrl w) (masks p) awake predicate
+  pub enables : enable ≡ enableMask (weCtrl w) (traits p .masks) awake predicate
   pub own-holds : holding ≡ quarterMask predicate quarter
   pub own-enables : working ≡ quarterMask enable quarter
   pub makes : Makes p w holding registers results
@@ -47,7 +49,7 @@ module _ (p : Plain) (w awake : ℕ) (registers : List ℕ) (f : Flags) (quarter
     (o : operation w ≡ plain p) (legal : LegalPlain p w) (made : Made p w awake registers f quarter predicate enable holding working results) where
   -- The enabled channels and the results are the paper's.
   enabled : enable ≡ enableOf p w awake (storeOf registers f)
-  enabled = made .enables ∙ ap (enableMask (weCtrl w) (masks p) awake) (made .holds)
+  enabled = made .enables ∙ ap (enableMask (weCtrl w) (traits p .masks) awake) (made .holds)
 
   resulting : MadeOf p w (storeOf registers f) results
   resulting =

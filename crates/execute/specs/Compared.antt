@@ -16,7 +16,8 @@ use Rattle.paper.specs.Operation.{Plain}
 use Rattle.paper.specs.Value.{width, modZ, stored}
 use Rattle.paper.specs.Element.{compares, oneIf, result}
 use Rattle.paper.specs.Region.{channels}
-use Rattle.paper.specs.Enable.{Store, digit, ofBits, channelOf}
+use Rattle.paper.specs.Store.{Store}
+use Rattle.paper.specs.Enable.{digit, ofBits, channelOf}
 use Rattle.paper.specs.Effect.{operand, finds}
 use Rattle.laws.specs.Bits.{bits-mod, bits-below}
 use Rattle.laws.specs.Masks.{digit-bit, ofBits-less, bit-ofBits}

@@ -8,8 +8,9 @@ use Rattle.paper.specs.Bits.{bit}
 use Rattle.paper.specs.Word.{qtrCtrl, dstType}
 use Rattle.paper.specs.Operation.{Plain, Operation, plain, nop, branch, unlisted, operation, traits}
 use Rattle.paper.specs.Region.{channels, dstSize, dstElement}
-use Rattle.paper.specs.Legal.{isNull}
-use Rattle.paper.specs.Enable.{Store, chosenFlag, channelOf, flagAfter}
+use Rattle.paper.specs.Word.{isNull}
+use Rattle.paper.specs.Store.{Store}
+use Rattle.paper.specs.Enable.{chosenFlag, channelOf, flagAfter}
 use Rattle.paper.specs.Effect.{scattered, channelStores, isOn, registersAfter, finds, comparedFlag, plainEffect, withFlag, effect}
 use Rattle.laws.specs.Regions.{LegalPlain}
 use Rattle.laws.specs.Values.{size-patterns}

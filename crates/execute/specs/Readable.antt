@@ -11,7 +11,8 @@ use Rattle.paper.specs.Limits.{registerBytes}
 use Rattle.paper.specs.Word.{Source, src0, src1, accessMode, accWrCtrl, execSize, saturate, predCtrl, condModifier, srcType, isImmediate}
 use Rattle.paper.specs.Operation.{Plain, traits, sources}
 use Rattle.paper.specs.Region.{channels, srcSize, srcElement, dstSize, dstElement}
-use Rattle.paper.specs.Legal.{anyOf, misplaced, unequalHalves, badModifier, isNull, quarterServed, conditionServed, controlServed, operandRuleBroken}
+use Rattle.paper.specs.Word.{isNull}
+use Rattle.paper.specs.Legal.{anyOf, misplaced, unequalHalves, badModifier, quarterServed, conditionServed, controlServed, operandRuleBroken}
 use Rattle.paper.specs.Enable.{channelOf}
 use Rattle.laws.specs.Truth.{both-true}
 use Rattle.laws.specs.Regions.{LegalPlain, source-shape, source-inside, destination-inside}

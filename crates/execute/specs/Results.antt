@@ -13,7 +13,8 @@ use Rattle.paper.specs.Operation as paper
 use Rattle.paper.specs.Value.{width, modZ, clampTo, stored}
 use Rattle.paper.specs.Element.{result}
 use Rattle.paper.specs.Region.{channels}
-use Rattle.paper.specs.Enable.{Store, channelOf}
+use Rattle.paper.specs.Store.{Store}
+use Rattle.paper.specs.Enable.{channelOf}
 use Rattle.paper.specs.Effect.{operand, channelResult, channelStores}
 use Rattle.laws.specs.Regions.{LegalPlain}
 use Rattle.words.specs.Operations.{plainIs}

@@ -5,7 +5,8 @@ use mathlib.Core.List.{List, []}
 use Prim.Native.Nat.{ℕ}
 use lib.Dec.{eqb}
 use Rattle.paper.specs.Word.{flagChoice}
-use Rattle.paper.specs.Enable.{Store, chosenFlag}
+use Rattle.paper.specs.Store.{Store}
+use Rattle.paper.specs.Enable.{chosenFlag}
 use Rattle.paper.specs.Effect.{withFlag}
 use Rattle.execute.specs.declared.flags.Flags.{Flags}
 

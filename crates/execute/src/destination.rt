@@ -2,7 +2,7 @@
 ghost use mathlib.Core.Path.{_≡_};
 ghost use lib.ListN.{length};
 ghost use Rattle.paper.specs.Limits.{registerBytes};
-ghost use Rattle.paper.specs.Legal.{isNull};
+ghost use Rattle.paper.specs.Word.{isNull};
 ghost use Rattle.words.specs.Words.{toWord};
 ghost use Rattle.execute.specs.Readable.{Writable};
 ghost use Rattle.execute.specs.Effects.{written};

@@ -2,7 +2,7 @@
 ghost use mathlib.Core.List.{[]};
 ghost use mathlib.Core.Path.{_≡_};
 ghost use Rattle.paper.specs.Word.{weCtrl};
-ghost use Rattle.paper.specs.Enable.{masks};
+ghost use Rattle.paper.specs.Operation.{traits};
 ghost use Rattle.words.specs.Words.{toWord};
 ghost use Rattle.words.specs.Operations.{plainIs};
 ghost use Rattle.lanes.specs.Masks.{enableMask};
@@ -28,7 +28,7 @@ pub fn predicate_of(w: Word, flags: Flags) -> u64
 
 // The enabled channels, by those that are awake and those whose predicate holds.
 pub fn enable_of(p: Plain, w: Word, awake: u64, predicate: u64) -> u64
-    ensures { λ r. ⌜ r ≡ enableMask (weCtrl (toWord w)) (masks (plainIs p)) awake predicate ⌝ }
+    ensures { λ r. ⌜ r ≡ enableMask (weCtrl (toWord w)) (traits (plainIs p) .masks) awake predicate ⌝ }
 {
     enable_mask(awake, we_ctrl(w), masks(p), predicate)
 }

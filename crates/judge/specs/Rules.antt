@@ -6,7 +6,8 @@ use lib.Dec.{eqb, ltb, leb}
 use Rattle.paper.specs.Word.{Source, src0, src1, dstSubregister, dstStride, srcSubregister, srcWidth, srcVertStride, srcHorzStride, isImmediate}
 use Rattle.paper.specs.Operation.{Plain, Branch, Operation, plain, nop, branch, unlisted, operation, traits, sources}
 use Rattle.paper.specs.Region.{countOf, strideOf, elementAt, dstSize, dstOrigin, dstElement, srcSize, srcOrigin, srcElement}
-use Rattle.paper.specs.Legal.{anyOf, controlServed, dstServed, srcServed, plainServed, isNull}
+use Rattle.paper.specs.Word.{isNull}
+use Rattle.paper.specs.Legal.{anyOf, controlServed, dstServed, srcServed, plainServed}
 use Rattle.paper.specs.Legal.{misplaced, unequalHalves, badModifier, ownRuleBroken, operandRuleBroken}
 use Rattle.paper.specs.Legal.{someOperand, srcShapeBroken, shapeBroken, unaligned, alignmentBroken, tooFar, lastChannel, reachBroken}
 use Rattle.paper.specs.Legal.{reservedSet, branchServed, later, refusalOf}

@@ -35,7 +35,8 @@ use words::traits::compares;
 use words::traits::saturates;
 ghost use mathlib.Core.Path.{_≡_};
 ghost use Rattle.paper.specs.Operation.{jmpi};
-ghost use Rattle.paper.specs.Legal.{reservedSet, quarterServed, conditionServed, controlServed, isNull, dstServed, srcServed, plainServed, structured, ownNeeds, branchServed};
+ghost use Rattle.paper.specs.Word.{isNull};
+ghost use Rattle.paper.specs.Legal.{reservedSet, quarterServed, conditionServed, controlServed, dstServed, srcServed, plainServed, structured, ownNeeds, branchServed};
 ghost use Rattle.words.specs.Operations.{plainIs, branchIs};
 ghost use Rattle.words.specs.Words.{toWord, sourceIs};
 

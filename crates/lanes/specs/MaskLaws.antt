@@ -10,7 +10,9 @@ use lib.ListN.{getD, List·getD-map}
 use Rattle.paper.specs.Bits.{bit}
 use Rattle.paper.specs.Word.{weCtrl, qtrCtrl, predCtrl, predInv}
 use Rattle.paper.specs.Operation.{Plain}
-use Rattle.paper.specs.Enable.{Store, chosenFlag, holds, channelOf, masks, enabled}
+use Rattle.paper.specs.Store.{Store}
+use Rattle.paper.specs.Enable.{chosenFlag, holds, channelOf, enabled}
+use Rattle.paper.specs.Operation.{traits}
 use Rattle.paper.specs.Effect.{isOn}
 use Rattle.paper.specs.Machine.{Channel, off, isAwake}
 use Rattle.paper.specs.State.{maskOf}
@@ -63,14 +65,14 @@ bit-predicate w st m h = bit-ofBits _ 16 m h ∙ sym (holds-fields w st m)
 
 -- The mask that a word's fields, the awake channels' mask and the flags make.
 abbrev pub enableOf : Plain → ℕ → ℕ → Store → ℕ
-enableOf p w mask st = enableMask (weCtrl w) (masks p) mask (predicateOf w st)
+enableOf p w mask st = enableMask (weCtrl w) (traits p .masks) mask (predicateOf w st)
 
 -- Its bit m says whether channel m is enabled, for a list that agrees with the mask there.
 pub bit-enable : (p : Plain) (w : ℕ) (awake : List Bool) (mask : ℕ) (st : Store) (m : ℕ) → m < 16 → getD awake m false ≡ bit mask m
     → bit (enableOf p w mask st) m ≡ enabled p w awake st m
 unfolding enableMask enabledOf enabled
 bit-enable p w awake mask st m h e =
-    bit-ofBits (enabledOf (weCtrl w) (masks p) mask (predicateOf w st)) 16 m h
+    bit-ofBits (enabledOf (weCtrl w) (traits p .masks) mask (predicateOf w st)) 16 m h
     ∙ rw (bit-predicate w st m h, ← e)
 
 -- An instruction's channel n is enabled where bit n of the quarter's mask is 1.

@@ -16,7 +16,8 @@ use Rattle.paper.specs.Operation.{Plain, traits}
 use Rattle.paper.specs.Value.{sizeOf}
 use Rattle.paper.specs.Region.{channels, strideOf, srcOrigin}
 use Rattle.paper.specs.Legal.{quarterServed, controlServed, plainServed}
-use Rattle.paper.specs.Enable.{Store, channelOf, enabled, flagAfter}
+use Rattle.paper.specs.Store.{Store}
+use Rattle.paper.specs.Enable.{channelOf, enabled, flagAfter}
 use Rattle.paper.specs.Effect.{scattered, isOn}
 use Rattle.laws.specs.Bits.{bits-lt}
 use Rattle.laws.specs.Truth.{both-true}

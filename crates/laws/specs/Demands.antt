@@ -15,7 +15,7 @@ use Rattle.paper.specs.Bits.{bit}
 use Rattle.paper.specs.Limits.{registerBytes, stateLength, budgetLimit, kernelBytes}
 use Rattle.paper.specs.Dictionary.{Dictionary, dictionaryOf}
 use Rattle.paper.specs.Shorten.{shorten}
-use Rattle.paper.specs.Enable.{Store}
+use Rattle.paper.specs.Store.{Store}
 use Rattle.paper.specs.Kernel.{Instr, Forms, longAndShort, longOnly, Parsed, bad, good}
 use Rattle.paper.specs.Jump.{endOf, fetch}
 use Rattle.paper.specs.Machine.{Channel, off, awake, waiting, State, step, stops, Outcome, run, runWith, startFrom, start}

@@ -11,7 +11,8 @@ use lib.ListN.{length, getD, length-map}
 use borrow.Author.Tests.{eq-eqb, eqb-true}
 use Rattle.paper.specs.Word.{flagChoice}
 use Rattle.paper.specs.Operation.{Plain, Branch, jmpi, if, else, endif, while, Operation, plain, nop, branch, unlisted, operation, traits}
-use Rattle.paper.specs.Enable.{Store, chosenFlag, holds, ofBits, flagAfter}
+use Rattle.paper.specs.Store.{Store}
+use Rattle.paper.specs.Enable.{chosenFlag, holds, ofBits, flagAfter}
 use Rattle.paper.specs.Effect.{registersAfter, comparedFlag, plainEffect, effect}
 use Rattle.paper.specs.Kernel.{Instr}
 use Rattle.paper.specs.Jump.{nextOf, fetch, found, endFrom, endOf, lands}

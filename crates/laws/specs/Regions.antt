@@ -12,7 +12,8 @@ use Rattle.paper.specs.Limits.{registerBytes}
 use Rattle.paper.specs.Word.{Source, execSize, srcType, srcWidth, srcHorzStride, srcVertStride, dstType, dstStride, isImmediate}
 use Rattle.paper.specs.Operation.{Plain, plain, operation, sources}
 use Rattle.paper.specs.Region.{strideOf, channels, elementAt, srcOrigin, srcSize, srcElement, dstOrigin, dstSize, dstElement}
-use Rattle.paper.specs.Legal.{anyOf, someOperand, reservedSet, plainServed, isNull, operandRuleBroken, shapeBroken, srcShapeBroken, alignmentBroken}
+use Rattle.paper.specs.Word.{isNull}
+use Rattle.paper.specs.Legal.{anyOf, someOperand, reservedSet, plainServed, operandRuleBroken, shapeBroken, srcShapeBroken, alignmentBroken}
 use Rattle.paper.specs.Legal.{tooFar, lastChannel, reachBroken, later, refusalOf}
 use Rattle.laws.specs.Values.{size-least}
 

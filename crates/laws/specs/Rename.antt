@@ -6,7 +6,8 @@ use mathlib.Core.List.{List, [], _∷_, map}
 use Prim.Native.Nat.{ℕ, suc}
 use lib.Dec.{eqb}
 use Rattle.paper.specs.Operation.{Branch, jmpi, if, else, endif, while, Operation, plain, nop, branch, unlisted, operation}
-use Rattle.paper.specs.Enable.{Store, holds}
+use Rattle.paper.specs.Store.{Store}
+use Rattle.paper.specs.Enable.{holds}
 use Rattle.paper.specs.Effect.{effect}
 use Rattle.paper.specs.Machine.{Channel, off, awake, waiting, State, Ways, wake, park, isAwake, waitsAt, each, someone}
 use Rattle.paper.specs.Machine.{onward, fork, act, pass, perform, stepAt, lastOf, leads}

@@ -11,7 +11,8 @@ use lib.Pow.{pow-pos}
 use lib.Dec.{eqb}
 use Rattle.paper.specs.Bits.{bits, bit, put}
 use Rattle.paper.specs.Operation.{Branch, jmpi, if, else, endif, while, Operation, plain, nop, branch, unlisted, operationOf, operation}
-use Rattle.paper.specs.Enable.{Store, holds}
+use Rattle.paper.specs.Store.{Store}
+use Rattle.paper.specs.Enable.{holds}
 use Rattle.paper.specs.Kernel.{Instr}
 use Rattle.paper.specs.Jump.{nextOf, Distance, distancesOf, distances, targetsOf, placeOf, fetch, lands}
 use Rattle.paper.specs.Machine.{Channel, off, awake, waiting, State, Ways, wake, park, isAwake, each, someone, fork, act, perform, stepAt}

@@ -17,8 +17,8 @@ use Rattle.paper.specs.Limits.{registerBytes}
 use Rattle.paper.specs.Word.{dstType, saturate}
 use Rattle.paper.specs.Operation.{Plain}
 use Rattle.paper.specs.Region.{channels, dstSize, dstElement}
-use Rattle.paper.specs.Legal.{isNull}
-use Rattle.paper.specs.Enable.{Store}
+use Rattle.paper.specs.Word.{isNull}
+use Rattle.paper.specs.Store.{Store}
 use Rattle.paper.specs.Effect.{scattered, channelResult, channelStores, isOn, registersAfter}
 use Rattle.laws.specs.Values.{size-patterns, stored-fits}
 use Rattle.laws.specs.Regions.{LegalPlain, destination-inside, destination-strides, destination-apart}

@@ -6,7 +6,8 @@ use Prim.Native.Nat.{ℕ, _-_, _<_}
 use native.Mathlib.Omega.{arith}
 use Rattle.paper.specs.Bits.{bit}
 use Rattle.paper.specs.Operation.{Branch, jmpi, if, else, endif, while}
-use Rattle.paper.specs.Enable.{Store, holds}
+use Rattle.paper.specs.Store.{Store}
+use Rattle.paper.specs.Enable.{holds}
 use Rattle.paper.specs.Machine.{Channel, State, Ways, isAwake, waitsAt, park, each, someone, onward, fork, act}
 use Rattle.laws.specs.Rename.{cond-at}
 use Rattle.lanes.specs.BitLaws.{bit-not, bit-ones}

@@ -6,7 +6,7 @@ use Prim.Native.Nat.{ℕ, _<_}
 use lib.Dec.{lit<}
 use lib.ListN.{replicate, getD-replicate}
 use Rattle.paper.specs.Operation.{nop, unlisted, operation}
-use Rattle.paper.specs.Enable.{Store}
+use Rattle.paper.specs.Store.{Store}
 use Rattle.paper.specs.Effect.{effect}
 use Rattle.paper.specs.Machine.{Channel, State, Ways, isAwake, pass, startFrom}
 use Rattle.lanes.specs.Masks.{awakeList}

@@ -15,7 +15,7 @@ ghost use mathlib.Core.List.{List};
 ghost use Prim.Native.Nat.{ℕ, _<_};
 ghost use Rattle.paper.specs.Bits.{bit};
 ghost use Rattle.paper.specs.Operation.{while};
-ghost use Rattle.paper.specs.Enable.{Store};
+ghost use Rattle.paper.specs.Store.{Store};
 ghost use Rattle.paper.specs.Machine.{onward, act};
 ghost use Rattle.words.specs.Words.{toWord};
 ghost use Rattle.words.specs.Operations.{branchIs};

@@ -12,7 +12,7 @@ use Rattle.paper.specs.Dictionary.{Dictionary, dictionaryOf, inRange}
 use Rattle.paper.specs.Expand.{isShort, expand}
 use Rattle.paper.specs.Shorten.{shorten}
 use Rattle.paper.specs.Operation.{operation, isListed, isBranch}
-use Rattle.paper.specs.Enable.{Store}
+use Rattle.paper.specs.Store.{Store}
 use Rattle.paper.specs.Kernel.{Instr, Forms, longAndShort, longOnly, Judged, refused, passed, judgeAt, Parsed, bad, good, parse}
 use Rattle.paper.specs.Jump.{withJumps, fetch}
 use Rattle.paper.specs.Machine.{State, step, stops, Outcome, run, start}

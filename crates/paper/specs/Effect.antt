@@ -11,8 +11,9 @@ use Rattle.paper.specs.Operation.{Plain, Operation, plain, nop, branch, 
 use Rattle.paper.specs.Value.{width, value, modified, stored}
 use Rattle.paper.specs.Element.{compares, result}
 use Rattle.paper.specs.Region.{channels, srcSize, srcElement, dstSize, dstElement}
-use Rattle.paper.specs.Legal.{isNull}
-use Rattle.paper.specs.Enable.{Store, chosenFlag, holds, channelOf, enabled, flagAfter}
+use Rattle.paper.specs.Word.{isNull}
+use Rattle.paper.specs.Store.{Store}
+use Rattle.paper.specs.Enable.{chosenFlag, holds, channelOf, enabled, flagAfter}
 use lib.IntN.{_-ℤ_}
 
 -- What channel n of source x reads: an immediate, the same for all channels, or its element of the registers, modified.

@@ -6,13 +6,8 @@ use lib.Dec.{eqb, ltb, leb}
 use lib.ListN.{getD}
 use Rattle.paper.specs.Bits.{bit, _at_}
 use Rattle.paper.specs.Word.{weCtrl, qtrCtrl, predCtrl, predInv, flagChoice}
-use Rattle.paper.specs.Operation.{Plain}
-
--- Registers and flags.
-pub record Store : Type 0 where
-  pub registers : List ℕ
-  pub flag0 : ℕ
-  pub flag1 : ℕ
+use Rattle.paper.specs.Operation.{Plain, traits}
+use Rattle.paper.specs.Store.{Store}
 
 -- ---- the predicate
 
@@ -35,25 +30,9 @@ channelOf w n = 8 * qtrCtrl w + n
 abbrev pub unmasked : ℕ → List Bool → ℕ → Bool
 unmasked w awake m = eqb (weCtrl w) 1 || getD awake m false
 
--- sel's predicate masks nothing.
-abbrev pub masks : Plain → Bool
-masks Plain.mov = true
-masks Plain.sel = false
-masks Plain.not = true
-masks Plain.and = true
-masks Plain.or = true
-masks Plain.xor = true
-masks Plain.shr = true
-masks Plain.shl = true
-masks Plain.asr = true
-masks Plain.cmp = true
-masks Plain.add = true
-masks Plain.mul = true
-masks Plain.avg = true
-
 -- Channel m is enabled: unmasked, and its predicate, if it masks, holds.
 unfoldable pub enabled : Plain → ℕ → List Bool → Store → ℕ → Bool
-enabled p w awake st m = unmasked w awake m && (not (masks p) || holds w st m)
+enabled p w awake st m = unmasked w awake m && (not (traits p .masks) || holds w st m)
 
 -- ---- flags
 

@@ -9,7 +9,7 @@ use Rattle.paper.specs.Limits.{registerBytes}
 use Rattle.paper.specs.Word.{Source, src0, src1, accessMode, weCtrl, qtrCtrl, predCtrl, execSize, condModifier, accWrCtrl, saturate}
 use Rattle.paper.specs.Word.{dstFile, dstType, dstSubregister, dstRegister, dstStride, dstAddrMode}
 use Rattle.paper.specs.Word.{srcFile, srcType, srcSubregister, srcModifier, srcAddrMode, srcWidth, srcVertStride}
-use Rattle.paper.specs.Word.{grf, arf, isImmediate, immediateForm}
+use Rattle.paper.specs.Word.{grf, isNull, isImmediate, immediateForm}
 use Rattle.paper.specs.Operation.{Plain, Branch, jmpi, if, else, endif, while, Operation, plain, nop, branch, unlisted, operation, isBranch, traits, sources}
 use Rattle.paper.specs.Value.{isSigned}
 use Rattle.paper.specs.Region.{channels, srcOrigin, srcSize, srcElement, dstOrigin, dstSize, dstElement}
@@ -48,10 +48,6 @@ controlServed compares saturates w =
     && (leb (predCtrl w) 1
     && (conditionServed compares (condModifier w)
     && (eqb (saturate w) 0 || saturates))))))
-
--- The destination is null: file 00, register 0.
-abbrev pub isNull : ℕ → Bool
-isNull w = eqb (dstFile w) arf && eqb (dstRegister w) 0
 
 -- Registers or null, addressed directly, of a listed type.
 unfoldable pub dstServed : ℕ → Bool

@@ -6,7 +6,8 @@ use Prim.Native.Nat.{ℕ, zero, suc}
 use lib.Dec.{eqb}
 use Rattle.paper.specs.Bits.{bit}
 use Rattle.paper.specs.Operation.{Branch, jmpi, if, else, endif, while, Operation, plain, nop, branch, unlisted, operation}
-use Rattle.paper.specs.Enable.{Store, holds}
+use Rattle.paper.specs.Store.{Store}
+use Rattle.paper.specs.Enable.{holds}
 use Rattle.paper.specs.Effect.{effect}
 use Rattle.paper.specs.Kernel.{Instr}
 use Rattle.paper.specs.Jump.{nextOf, targetsOf, placeOf, fetch}

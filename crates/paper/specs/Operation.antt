@@ -58,12 +58,14 @@ isBranch (branch b) = true
 isBranch unlisted = false
 
 -- What the rules ask of an operation: the sources that it reads (what it does not read is carried, not judged), whether Saturate is served on
--- it, whether its sources may have modifiers, and whether it is cmp, which has a condition code and sets flags.
+-- it, whether its sources may have modifiers, whether it is cmp, which has a condition code and sets flags, and whether its predicate masks its channels: sel's
+-- chooses a source, and masks nothing.
 pub record Traits : Type 0 where
   pub sources : List Source
   pub saturates : Bool
   pub modifiers : Bool
   pub compares : Bool
+  pub masks : Bool
 
 abbrev one : List Source
 one = src0 ∷ []
@@ -72,19 +74,19 @@ abbrev two : List Source
 two = src0 ∷ src1 ∷ []
 
 abbrev pub traits : Plain → Traits
-traits mov = record { sources = one; saturates = true; modifiers = true; compares = false }
-traits sel = record { sources = two; saturates = true; modifiers = true; compares = false }
-traits not = record { sources = one; saturates = false; modifiers = false; compares = false }
-traits and = record { sources = two; saturates = false; modifiers = false; compares = false }
-traits or = record { sources = two; saturates = false; modifiers = false; compares = false }
-traits xor = record { sources = two; saturates = false; modifiers = false; compares = false }
-traits shr = record { sources = two; saturates = false; modifiers = false; compares = false }
-traits shl = record { sources = two; saturates = false; modifiers = false; compares = false }
-traits asr = record { sources = two; saturates = false; modifiers = false; compares = false }
-traits cmp = record { sources = two; saturates = false; modifiers = true; compares = true }
-traits add = record { sources = two; saturates = true; modifiers = true; compares = false }
-traits mul = record { sources = two; saturates = true; modifiers = true; compares = false }
-traits avg = record { sources = two; saturates = true; modifiers = true; compares = false }
+traits mov = record { sources = one; saturates = true; modifiers = true; compares = false; masks = true }
+traits sel = record { sources = two; saturates = true; modifiers = true; compares = false; masks = false }
+traits not = record { sources = one; saturates = false; modifiers = false; compares = false; masks = true }
+traits and = record { sources = two; saturates = false; modifiers = false; compares = false; masks = true }
+traits or = record { sources = two; saturates = false; modifiers = false; compares = false; masks = true }
+traits xor = record { sources = two; saturates = false; modifiers = false; compares = false; masks = true }
+traits shr = record { sources = two; saturates = false; modifiers = false; compares = false; masks = true }
+traits shl = record { sources = two; saturates = false; modifiers = false; compares = false; masks = true }
+traits asr = record { sources = two; saturates = false; modifiers = false; compares = false; masks = true }
+traits cmp = record { sources = two; saturates = false; modifiers = true; compares = true; masks = true }
+traits add = record { sources = two; saturates = true; modifiers = true; compares = false; masks = true }
+traits mul = record { sources = two; saturates = true; modifiers = true; compares = false; masks = true }
+traits avg = record { sources = two; saturates = true; modifiers = true; compares = false; masks = true }
 
 abbrev pub sources : Plain → List Source
 sources p = traits p .sources

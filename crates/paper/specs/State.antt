@@ -6,7 +6,8 @@ use Prim.Native.Nat.{ℕ, zero, suc, _+_, _*_}
 use lib.Dec.{eqb}
 use lib.ListN.{getD}
 use Rattle.paper.specs.Bits.{bit, numberAt, bytesOf}
-use Rattle.paper.specs.Enable.{Store, ofBits}
+use Rattle.paper.specs.Store.{Store}
+use Rattle.paper.specs.Enable.{ofBits}
 use Rattle.paper.specs.Kernel.{Instr}
 use Rattle.paper.specs.Jump.{lands}
 use Rattle.paper.specs.Machine.{Channel, off, awake, waiting, isAwake, State}

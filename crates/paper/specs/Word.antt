@@ -1,5 +1,5 @@
 -- The fields of the long word (the paper, "The long word"; source document 000, figure 5-1). Assumes nothing.
-use mathlib.Core.Bool.{Bool, true, false, _||_}
+use mathlib.Core.Bool.{Bool, true, false, _&&_, _||_}
 use Prim.Native.Nat.{ℕ, _+_}
 use lib.Dec.{eqb}
 use Rattle.paper.specs.Bits.{bits}
@@ -121,6 +121,10 @@ arf = 0
 
 abbrev pub imm : ℕ
 imm = 3
+
+-- The destination is null: file 00, register 0.
+abbrev pub isNull : ℕ → Bool
+isNull w = eqb (dstFile w) arf && eqb (dstRegister w) 0
 
 -- Source x is an immediate.
 abbrev pub isImmediate : Source → ℕ → Bool

@@ -1,7 +1,6 @@
 -- An operation's row in the code says what the paper's does. Assumes nothing.
 use mathlib.Core.Path.{_≡_}
 use Rattle.paper.specs.Operation.{Plain, traits}
-use Rattle.paper.specs.Enable.{masks}
 use Rattle.words.specs.Traits.{readsTwo}
 use Rattle.words.specs.declared.traits.Row.{Row}
 
@@ -10,4 +9,4 @@ pub record Asked (p : Plain) (r : Row) : Type 0 where
   pub saturates : r .saturates ≡ traits p .saturates
   pub modifiers : r .modifiers ≡ traits p .modifiers
   pub compares : r .compares ≡ traits p .compares
-  pub masks : r .masks ≡ masks p
+  pub masks : r .masks ≡ traits p .masks

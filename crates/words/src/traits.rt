@@ -2,7 +2,6 @@
 use crate::operation::Plain;
 ghost use mathlib.Core.Path.{_≡_};
 ghost use Rattle.paper.specs.Operation.{traits};
-ghost use Rattle.paper.specs.Enable.{masks};
 ghost use Rattle.words.specs.Operations.{plainIs};
 ghost use Rattle.words.specs.Traits.{readsTwo};
 ghost use Rattle.words.specs.Asked.{Asked};
@@ -146,7 +145,7 @@ pub fn compares(p: Plain) -> bool
 
 // Its predicate masks its channels: sel's chooses a source instead.
 pub fn masks(p: Plain) -> bool
-    ensures { λ r. ⌜ r ≡ masks (plainIs p) ⌝ }
+    ensures { λ r. ⌜ r ≡ traits (plainIs p) .masks ⌝ }
 {
     row_of(p).masks
 }

@@ -2,7 +2,7 @@
 use mathlib.Core.Path.{_≡_}
 use mathlib.Core.Bool.{false}
 use Rattle.paper.specs.Word.{dstType}
-use Rattle.paper.specs.Legal.{isNull}
+use Rattle.paper.specs.Word.{isNull}
 use Rattle.words.specs.Words.{toWord}
 use Rattle.lanes.specs.Served.{type-size}
 use Rattle.operands.specs.Sources.{count-channels}

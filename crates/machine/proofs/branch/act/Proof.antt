@@ -4,7 +4,8 @@ use Prim.Native.Nat.{ℕ, _<_}
 use mathlib.Core.List.{[]}
 use Rattle.paper.specs.Bits.{bit}
 use Rattle.paper.specs.Word.{predCtrl, predInv}
-use Rattle.paper.specs.Enable.{Store, chosenFlag}
+use Rattle.paper.specs.Store.{Store}
+use Rattle.paper.specs.Enable.{chosenFlag}
 use Rattle.lanes.specs.MaskLaws.{predicateMask-less}
 use Rattle.words.specs.Words.{toWord}
 use Rattle.words.specs.Operations.{branchIs}
