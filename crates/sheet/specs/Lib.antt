@@ -1,2 +1,3 @@
--- What the program's bytes hold.
+-- What the rows' bytes hold, and what their text means.
 pub mod Room
+pub mod Text

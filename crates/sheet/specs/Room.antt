@@ -13,9 +13,9 @@ use Rattle.paper.specs.Bits.{numberAt, putAt}
 unfoldable pub room : List ℕ → ℕ → ℕ → Bool
 room bytes at size = leb (at + size) (length bytes)
 
--- The number of the `size` bytes from `at` on; 0 where they are not all there.
+-- The number of the `size` bytes from `at` on; 2^32 where they are not all there.
 unfoldable pub numberIn : List ℕ → ℕ → ℕ → ℕ
-numberIn bytes at size = cond (room bytes at size) (numberAt bytes at size) 0
+numberIn bytes at size = cond (room bytes at size) (numberAt bytes at size) 4294967296
 
 -- The bytes with the number v in the `size` bytes from `at` on; unchanged where they are not all there.
 unfoldable pub putIn : List ℕ → ℕ → ℕ → ℕ → List ℕ
@@ -46,14 +46,14 @@ module _ (bytes : List ℕ) (at size : ℕ) (t : Bool) (test : t ≡ room bytes 
   unfolding numberIn
   read-there e v h = rw (sym test ∙ e) h
 
-  pub read-none : t ≡ false → 0 ≡ numberIn bytes at size
+  pub read-none : t ≡ false → 4294967296 ≡ numberIn bytes at size
   unfolding numberIn
   read-none e = rw (sym test ∙ e)
 
-  pub put-there : t ≡ true → (v : ℕ) (after : List ℕ) → after ≡ putAt bytes at size v → after ≡ putIn bytes at size v
+  pub put-there : t ≡ true → (v : ℕ) (after : List ℕ) → after ≡ putAt bytes at size v → (after ≡ putIn bytes at size v) × (true ≡ room bytes at size)
   unfolding putIn
-  put-there e v after h = rw (sym test ∙ e) h
+  put-there e v after h = (rw (sym test ∙ e) h, sym e ∙ test)
 
-  pub put-none : t ≡ false → (v : ℕ) → bytes ≡ putIn bytes at size v
+  pub put-none : t ≡ false → (v : ℕ) → (bytes ≡ putIn bytes at size v) × (false ≡ room bytes at size)
   unfolding putIn
-  put-none e v = rw (sym test ∙ e)
+  put-none e v = (rw (sym test ∙ e), sym e ∙ test)

@@ -1,65 +1,61 @@
 // What was found, on standard output.
 use libc::STDOUT_FILENO;
 
-// How a number is written: in decimal, as a dword in hexadecimal, or as a whole number of 16 bits.
-pub enum Form {
-    Decimal,
-    Dword,
-    Whole,
-}
-
 // Text.
-pub fn say(text: &[u8]) {
+fn say(text: &[u8]) {
     io::write_all(STDOUT_FILENO, text);
 }
 
-// The whole number whose lowest 16 bits these are.
-fn write_whole(pattern: u64) {
-    let low = pattern % 0x1_0000;
-    if low < 0x8000 {
-        io::print_decimal(STDOUT_FILENO, low);
-    } else {
-        say(b"-");
-        io::print_decimal(STDOUT_FILENO, 0x1_0000 - low);
-    }
+// A number, as the rows write it.
+fn say_hex(n: u64) {
+    say(b" ");
+    io::print_hex(STDOUT_FILENO, n, 1);
 }
 
-// A number.
-fn write_number(form: Form, n: u64) {
-    match form {
-        Form::Decimal => {
-            io::print_decimal(STDOUT_FILENO, n);
-        }
-        Form::Dword => {
-            say(b"0x");
-            io::print_hex(STDOUT_FILENO, n, 8);
-        }
-        Form::Whole => write_whole(n),
-    }
+// Where a line stands.
+fn say_line(file: &[u8], line: u64) {
+    say(file);
+    say(b" line ");
+    io::print_decimal(STDOUT_FILENO, line);
+    say(b": ");
 }
 
-// A figure: what it is of, what was found, and what the paper says where that is another number.
-pub fn figure(form: Form, name: &[u8], found: u64, paper: u64) {
-    say(name);
-    write_number(form, found);
-    if found != paper {
-        say(b" (the paper says ");
-        write_number(form, paper);
-        say(b")");
-    }
+// A number that was found instead of the one that a line asks for.
+pub fn say_number(file: &[u8], line: u64, found: u64) {
+    say_line(file, line);
+    say(b"found");
+    say_hex(found);
+    say(b"\n");
 }
 
-// A byte as a number.
-fn wide(x: u8) -> u64 {
-    x as u64
+// An answer that was given instead.
+pub fn say_answer(file: &[u8], line: u64, answer: u64) {
+    say_line(file, line);
+    say(b"answered");
+    say_hex(answer % 0x100);
+    say_hex(answer / 0x100 % 0x100_0000);
+    say_hex(answer / 0x1_0000_0000);
+    say(b"\n");
 }
 
-// Sixteen figures.
-pub fn figures(name: &[u8], found: &[u8; 16], paper: &[u8; 16]) {
-    say(name);
-    let mut i: usize = 0;
-    while i < 16 {
-        figure(Form::Decimal, b" ", wide(found[i]), wide(paper[i]));
-        i += 1;
-    }
+// A line that is no command, or has no room.
+pub fn say_unknown(file: &[u8], line: u64) {
+    say_line(file, line);
+    say(b"not understood\n");
+}
+
+// A file that may be cut off.
+pub fn say_cut(file: &[u8]) {
+    say(file);
+    say(b" is too long\n");
+}
+
+// How many cases of a file came out right.
+pub fn say_cases(file: &[u8], right: u64, total: u64) {
+    say(file);
+    say(b": ");
+    io::print_decimal(STDOUT_FILENO, right);
+    say(b" of ");
+    io::print_decimal(STDOUT_FILENO, total);
+    say(b" cases\n");
 }
