@@ -63,17 +63,8 @@ pub fn put_dword(bytes: &mut [u8], at: usize, v: u64) -> bool
     false
 }
 
-// Stores zeros.
-pub fn clear(bytes: &mut [u8]) {
-    let mut i: usize = 0;
-    while i < bytes.len() {
-        bytes[i] = 0;
-        i += 1;
-    }
-}
-
 // The smaller of the two.
-fn least(a: usize, b: usize) -> usize
+pub fn least(a: usize, b: usize) -> usize
     ensures { λ r. ⌜ (r ≤ a) × (r ≤ b) ⌝ }
 {
     if a < b {
@@ -82,19 +73,24 @@ fn least(a: usize, b: usize) -> usize
     b
 }
 
-// How many of the bytes are lent, if `size` are to be: no more than there are.
-pub fn lent(size: usize, bytes: &[u8]) -> usize
-    ensures { λ r. ⌜ r ≤ length (now (bytes .entry)) ⌝ }
-{
-    least(size, bytes.len())
-}
-
-// Copies the first `size` bytes, where both have that many.
-pub fn copy(from: &[u8], to: &mut [u8], size: usize) {
-    let n = least(size, least(from.len(), to.len()));
+// Stores zeros in the first `size` bytes, as far as there are any.
+pub fn clear(bytes: &mut [u8], size: usize) -> bool {
+    let n = least(size, bytes.len());
     let mut i: usize = 0;
     while i < n {
-        to[i] = from[i];
+        bytes[i] = 0;
         i += 1;
     }
+    true
+}
+
+// Copies the output's first bytes, `size` of them as far as there are so many, to the kernel. Gives their number.
+pub fn copy(board: &[u8; 20528], table: &mut [u8; 16916], size: u64) -> usize {
+    let n = least(size as usize, 16400);
+    let mut i: usize = 0;
+    while i < n {
+        table[516 + i] = board[4128 + i];
+        i += 1;
+    }
+    n
 }

@@ -1,9 +1,18 @@
 // The commands that make a call of the C boundary.
-use crate::bytes::lent;
+use crate::bytes::least;
 use crate::desk::Desk;
-use crate::desk::answered;
-use crate::text::field;
-use crate::text::is;
+use crate::lay::KERNEL;
+use crate::lay::OUTPUT;
+use crate::row::CHECK;
+use crate::row::DECODE;
+use crate::row::EXPAND;
+use crate::row::PACK;
+use crate::row::RUN;
+use crate::row::Row;
+use crate::row::SHORTEN;
+use crate::row::START;
+use crate::row::STEP;
+use crate::row::UNPACK;
 use spokeshaver::spokeshaver_check;
 use spokeshaver::spokeshaver_decode;
 use spokeshaver::spokeshaver_expand;
@@ -13,103 +22,118 @@ use spokeshaver::spokeshaver_shorten;
 use spokeshaver::spokeshaver_start;
 use spokeshaver::spokeshaver_step;
 use spokeshaver::spokeshaver_unpack;
+ghost use mathlib.Core.Path.{_≡_};
+ghost use lib.ListN.{length};
 
-// `check`, `decode PLACE`: nothing is changed.
-fn read(line: &[u8], desk: Desk, dictionary: &[u8], kernel: &[u8]) -> Desk {
-    if is(line, b"check", 0) {
-        return answered(desk, spokeshaver_check(dictionary, kernel));
-    }
-    if is(line, b"decode", 1) {
-        return answered(desk, spokeshaver_decode(dictionary, kernel, field(line, 1)));
-    }
-    desk
+// What a row's call answered; No where it makes none.
+pub enum Answered {
+    No,
+    With(u64),
 }
 
-// `pack`, `unpack`, `shorten`, `expand`: the output is written. The kernel's bytes are the word to shorten or to expand.
-fn written(line: &[u8], desk: Desk, dictionary: &[u8], kernel: &[u8], out: &mut [u8]) -> Desk {
-    if is(line, b"pack", 0) {
-        return answered(desk, spokeshaver_pack(dictionary, kernel, out));
+// `check`, `decode PLACE`, `pack`, `unpack`, `shorten`, `expand`. The kernel's bytes are the word to shorten or to expand.
+fn asked(row: Row, dictionary: &[u8], kernel: &[u8], out: &mut [u8]) -> Answered {
+    if row.key == CHECK {
+        return Answered::With(spokeshaver_check(dictionary, kernel));
     }
-    if is(line, b"unpack", 0) {
-        return answered(desk, spokeshaver_unpack(dictionary, kernel, out));
+    if row.key == DECODE {
+        return Answered::With(spokeshaver_decode(dictionary, kernel, row.a));
     }
-    if is(line, b"shorten", 0) {
-        return answered(desk, spokeshaver_shorten(dictionary, kernel, out));
+    if row.key == PACK {
+        return Answered::With(spokeshaver_pack(dictionary, kernel, out));
     }
-    if is(line, b"expand", 0) {
-        return answered(desk, spokeshaver_expand(dictionary, kernel, out));
+    if row.key == UNPACK {
+        return Answered::With(spokeshaver_unpack(dictionary, kernel, out));
     }
-    desk
+    if row.key == SHORTEN {
+        return Answered::With(spokeshaver_shorten(dictionary, kernel, out));
+    }
+    if row.key == EXPAND {
+        return Answered::With(spokeshaver_expand(dictionary, kernel, out));
+    }
+    Answered::No
 }
 
-// `start MASK FLAG0 FLAG1`: the state before the first step.
-pub fn started(line: &[u8], desk: Desk, state: &mut [u8]) -> Desk {
-    if is(line, b"start", 3) {
-        let mask = field(line, 1) % 0x1_0000;
-        let flag0 = field(line, 2) % 0x1_0000;
-        let flag1 = field(line, 3) % 0x1_0000;
-        let places = lent(desk.state, state);
-        let part = &mut state[0..places];
-        let answer = spokeshaver_start(mask as u16, flag0 as u16, flag1 as u16, part);
-        return answered(desk, answer);
+// `start MASK FLAG0 FLAG1`.
+fn started(row: Row, state: &mut [u8]) -> Answered {
+    if 0x1_0000 <= row.a {
+        return Answered::No;
     }
-    desk
+    if 0x1_0000 <= row.b {
+        return Answered::No;
+    }
+    if 0x1_0000 <= row.c {
+        return Answered::No;
+    }
+    Answered::With(spokeshaver_start(row.a as u16, row.b as u16, row.c as u16, state))
 }
 
-// `step`, `run BUDGET`.
+// `start`, `step`, `run BUDGET`.
 fn moved(
-    line: &[u8],
-    desk: Desk,
+    row: Row,
     dictionary: &[u8],
     kernel: &[u8],
     registers: &mut [u8],
     state: &mut [u8],
-) -> Desk {
-    if is(line, b"step", 0) {
-        return answered(desk, spokeshaver_step(dictionary, kernel, registers, state));
+) -> Answered {
+    if row.key == START {
+        return started(row, state);
     }
-    if is(line, b"run", 1) {
-        let budget = field(line, 1);
-        return answered(
-            desk,
-            spokeshaver_run(dictionary, kernel, budget, registers, state),
-        );
+    if row.key == STEP {
+        return Answered::With(spokeshaver_step(dictionary, kernel, registers, state));
     }
-    desk
+    if row.key == RUN {
+        return Answered::With(spokeshaver_run(dictionary, kernel, row.a, registers, state));
+    }
+    Answered::No
 }
 
-// A call on the kernel's bytes, if the line names one.
-pub fn asked(line: &[u8], desk: Desk, dictionary: &[u8], kernel: &[u8], out: &mut [u8]) -> Desk {
-    let numbers = lent(desk.dictionary, dictionary);
-    let size = lent(desk.kernel, kernel);
-    let room = lent(desk.room, out);
-    let table = &dictionary[0..numbers];
-    let words = &kernel[0..size];
-    let d = read(line, desk, table, words);
-    written(line, d, table, words, &mut out[0..room])
-}
-
-// A call on registers and state, if the line names one.
-pub fn run(
-    line: &[u8],
-    desk: Desk,
-    dictionary: &[u8],
-    kernel: &[u8],
-    registers: &mut [u8],
-    state: &mut [u8],
-) -> Desk {
-    let numbers = lent(desk.dictionary, dictionary);
-    let size = lent(desk.kernel, kernel);
-    let bytes = lent(desk.registers, registers);
-    let places = lent(desk.state, state);
-    let table = &dictionary[0..numbers];
-    let words = &kernel[0..size];
-    moved(
-        line,
+// A call on the kernel's bytes, if the row makes one.
+pub fn asked_of(row: Row, desk: Desk, table: &[u8], board: &mut [u8]) -> Desk
+    requires { ⌜ (length (now table) ≡ 16916) × (length (now board) ≡ 20528) ⌝ }
+{
+    let numbers = least(desk.dictionary, KERNEL);
+    let end = KERNEL + least(desk.kernel, 16400);
+    let room = OUTPUT + least(desk.room, 16400);
+    noted(
         desk,
-        table,
-        words,
-        &mut registers[0..bytes],
-        &mut state[0..places],
+        asked(
+            row,
+            &table[0..numbers],
+            &table[KERNEL..end],
+            &mut board[OUTPUT..room],
+        ),
     )
+}
+
+// A call on registers and state, if the row makes one.
+pub fn moved_by(row: Row, desk: Desk, table: &[u8], board: &mut [u8], state: &mut [u8]) -> Desk
+    requires { ⌜ (length (now table) ≡ 16916) × (length (now board) ≡ 20528) × (length (now state) ≡ 44) ⌝ }
+{
+    let numbers = least(desk.dictionary, KERNEL);
+    let end = KERNEL + least(desk.kernel, 16400);
+    let size = least(desk.registers, OUTPUT);
+    let places = least(desk.state, 44);
+    let dictionary = &table[0..numbers];
+    let kernel = &table[KERNEL..end];
+    noted(
+        desk,
+        moved(
+            row,
+            dictionary,
+            kernel,
+            &mut board[0..size],
+            &mut state[0..places],
+        ),
+    )
+}
+
+// The call's answer, if there was a call.
+fn noted(desk: Desk, answered: Answered) -> Desk {
+    let mut d = desk;
+    if let Answered::With(answer) = answered {
+        d.answer = answer;
+        d.known = true;
+    }
+    d
 }

@@ -16,10 +16,10 @@ pub struct Desk {
     pub good: bool,
 }
 
-// No call has been made: no row can ask for this answer.
+// No call has been made: no call answers this.
 const UNASKED: u64 = 0xFFFF_FFFF_FFFF_FFFF;
 
-// A file's start. No case has begun.
+// The sizes are the right ones, with no kernel and no output, and no case has begun.
 pub fn bare() -> Desk {
     Desk {
         kernel: 0,
@@ -36,7 +36,7 @@ pub fn bare() -> Desk {
     }
 }
 
-// A new case: the sizes are the right ones, with no kernel and no output. It is right until a row of it is not.
+// A new case. It is right until a row of it is not.
 pub fn opened(desk: Desk) -> Desk {
     let mut d = bare();
     d.line = desk.line;
@@ -47,14 +47,6 @@ pub fn opened(desk: Desk) -> Desk {
     d
 }
 
-// The next line of the file.
-pub fn turned(desk: Desk) -> Desk {
-    let mut d = desk;
-    d.line = std::num::wrapping_add_u64(desk.line, 1);
-    d.known = false;
-    d
-}
-
 // The case is wrong; it counts once.
 pub fn failed(desk: Desk) -> Desk {
     let mut d = desk;
@@ -62,44 +54,5 @@ pub fn failed(desk: Desk) -> Desk {
         d.right = std::num::wrapping_sub_u64(desk.right, 1);
         d.good = false;
     }
-    d
-}
-
-// The line's command is known, if it was before or is `now`.
-pub fn known(desk: Desk, now: bool) -> Desk {
-    let mut d = desk;
-    if now {
-        d.known = true;
-    }
-    d
-}
-
-// The kernel has this many bytes.
-pub fn grown(desk: Desk, size: usize) -> Desk {
-    let mut d = known(desk, true);
-    d.kernel = size;
-    d
-}
-
-// The output has this many bytes.
-pub fn roomy(desk: Desk, size: usize) -> Desk {
-    let mut d = known(desk, true);
-    d.room = size;
-    d
-}
-
-// So many bytes of each are lent.
-pub fn lending(desk: Desk, dictionary: usize, registers: usize, state: usize) -> Desk {
-    let mut d = known(desk, true);
-    d.dictionary = dictionary;
-    d.registers = registers;
-    d.state = state;
-    d
-}
-
-// A call answered.
-pub fn answered(desk: Desk, answer: u64) -> Desk {
-    let mut d = known(desk, true);
-    d.answer = answer;
     d
 }

@@ -1,19 +1,21 @@
 // The commands that say what must have come of the last call.
 use crate::bytes::dword_at;
 use crate::bytes::half_at;
-use crate::text::field;
-use crate::text::is;
+use crate::lay::OUTPUT;
+use crate::row::ANSWER;
+use crate::row::HOLDS;
+use crate::row::Row;
+use crate::row::STANDS;
+use crate::row::WROTE;
 ghost use mathlib.Core.Path.{_≡_};
-ghost use mathlib.Core.Bool.{_&&_};
-ghost use Prim.Native.Nat.{_%_, _/_, _^_};
+ghost use Prim.Native.Nat.{_+_, _*_, _<_, _^_};
 ghost use lib.Dec.{eqb};
 
-// How an expectation came out: as the row says, or with another number or another answer. Unasked where the line is none.
+// How an expectation came out: as the row says, or with another number. Unasked where the row is none.
 pub enum Outcome {
     Unasked,
     Right,
-    Number(u64),
-    Answer(u64),
+    Found(u64),
 }
 
 // The number is the one asked for.
@@ -23,48 +25,51 @@ fn same(found: u64, asked: u64) -> bool
     found == asked
 }
 
-// The answer has these parts.
-fn answers(answer: u64, number: u64, offset: u64, count: u64) -> bool
-    ensures { λ r. ⌜ r ≡ (eqb (answer % 2 ^ 8) number && (eqb (answer / 2 ^ 8 % 2 ^ 24) offset && eqb (answer / 2 ^ 32) count)) ⌝ }
+// No call answers this.
+const NEVER: u64 = 0xFFFF_FFFF_FFFF_FFFE;
+
+// The answer that has these parts; one that no call gives, where a part is too wide.
+fn answer_of(number: u64, offset: u64, count: u64) -> u64
+    ensures { λ r. ⌜ (number < 2 ^ 8 → offset < 2 ^ 24 → count < 2 ^ 32 → r ≡ number + offset * 2 ^ 8 + count * 2 ^ 32) ⌝ }
 {
-    if same(answer % 0x100, number) {
-        if same(answer / 0x100 % 0x100_0000, offset) {
-            return same(answer / 0x1_0000_0000, count);
+    if 0x100 <= number {
+        return NEVER;
+    }
+    if 0x100_0000 <= offset {
+        return NEVER;
+    }
+    if 0x1_0000_0000 <= count {
+        return NEVER;
+    }
+    number + offset * 0x100 + count * 0x1_0000_0000
+}
+
+// A number was found where another, or the same, was asked for.
+fn compared(found: u64, asked: u64) -> Outcome {
+    if same(found, asked) {
+        return Outcome::Right;
+    }
+    Outcome::Found(found)
+}
+
+// `answer NUMBER OFFSET COUNT`, `wrote BYTE DWORD`, `holds BYTE DWORD`, `stands BYTE HALF`.
+pub fn expected(row: Row, answer: u64, board: &[u8; 20528], state: &[u8; 44]) -> Outcome {
+    let at = row.a as usize;
+    if row.key == ANSWER {
+        return compared(answer, answer_of(row.a, row.b, row.c));
+    }
+    if row.key == WROTE {
+        if at <= 16396 {
+            return compared(dword_at(board, OUTPUT + at), row.b);
         }
     }
-    false
-}
-
-// A number was found where the line asks for its second field.
-fn compared(line: &[u8], found: u64) -> Outcome {
-    if same(found, field(line, 2)) {
-        return Outcome::Right;
+    if row.key == HOLDS {
+        if at <= 4124 {
+            return compared(dword_at(board, at), row.b);
+        }
     }
-    Outcome::Number(found)
-}
-
-// `answer NUMBER OFFSET COUNT`.
-fn answer(line: &[u8], given: u64) -> Outcome {
-    if answers(given, field(line, 1), field(line, 2), field(line, 3)) {
-        return Outcome::Right;
-    }
-    Outcome::Answer(given)
-}
-
-// Any expectation: `wrote BYTE DWORD`, `holds BYTE DWORD`, `stands BYTE HALF`, `answer NUMBER OFFSET COUNT`.
-pub fn expected(line: &[u8], given: u64, out: &[u8], registers: &[u8], state: &[u8]) -> Outcome {
-    let at = field(line, 1) as usize;
-    if is(line, b"wrote", 2) {
-        return compared(line, dword_at(out, at));
-    }
-    if is(line, b"holds", 2) {
-        return compared(line, dword_at(registers, at));
-    }
-    if is(line, b"stands", 2) {
-        return compared(line, half_at(state, at));
-    }
-    if is(line, b"answer", 3) {
-        return answer(line, given);
+    if row.key == STANDS {
+        return compared(half_at(state, at), row.b);
     }
     Outcome::Unasked
 }

@@ -4,29 +4,44 @@ mod bytes;
 mod call;
 mod desk;
 mod expect;
-mod figure;
-mod prepare;
+mod lay;
+mod row;
 mod rows;
 mod text;
 
-use figure::say_cases;
-use figure::say_cut;
+use libc::STDOUT_FILENO;
 use rows::run_rows;
+ghost use mathlib.Core.Path.{_≡_};
+ghost use lib.ListN.{length};
+
+// Room for a file, of which the last byte must stay free.
+fn pages() -> [u8; 262144]
+    ensures { λ r. ⌜ 262144 ≡ length r ⌝ }
+{
+    [0; 262144]
+}
 
 // Runs a file's cases. A file that cannot be opened has none.
 fn report(file: &[u8]) {
-    let mut text = io::large_buffer();
+    let mut text = pages();
     let descriptor = os::open_read(file);
     let n = io::read_full(descriptor, &mut text);
     libc::close(descriptor);
-    if n == 65536 {
-        say_cut(file);
-    }
     let desk = run_rows(file, &text[..n]);
-    say_cases(file, desk.right, desk.total);
+    io::write_all(STDOUT_FILENO, file);
+    if n == 262144 {
+        io::write_all(STDOUT_FILENO, b" (cut off)");
+    }
+    io::write_all(STDOUT_FILENO, b": ");
+    io::print_decimal(STDOUT_FILENO, desk.right);
+    io::write_all(STDOUT_FILENO, b" of ");
+    io::print_decimal(STDOUT_FILENO, desk.total);
+    io::write_all(STDOUT_FILENO, b" cases\n");
 }
 
 // The files one after the other.
 fn main() {
     report(b"sheet.txt");
+    report(b"words.txt");
+    report(b"elements.txt");
 }

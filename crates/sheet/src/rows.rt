@@ -1,84 +1,45 @@
 // A file's lines one after the other.
-use crate::bytes::clear;
-use crate::call::asked;
-use crate::call::run;
-use crate::call::started;
+use crate::call::asked_of;
+use crate::call::moved_by;
 use crate::desk::Desk;
 use crate::desk::bare;
 use crate::desk::failed;
-use crate::desk::known;
-use crate::desk::opened;
-use crate::desk::turned;
 use crate::expect::Outcome;
 use crate::expect::expected;
-use crate::figure::say_answer;
-use crate::figure::say_number;
-use crate::figure::say_unknown;
-use crate::prepare::assembled;
-use crate::prepare::filled;
-use crate::prepare::sized;
+use crate::lay::assembled;
+use crate::lay::begun;
+use crate::lay::filled;
+use crate::lay::sized;
+use crate::row::Row;
+use crate::row::is_idle;
+use crate::row::row_of;
 use crate::text::LINE;
-use crate::text::is_blank;
-use crate::text::named;
 use crate::text::size_to;
+use libc::STDOUT_FILENO;
 
-// `case TITLE`: a new case. The dictionary stays.
-fn begun(
-    line: &[u8],
-    desk: Desk,
-    out: &mut [u8; 16400],
-    registers: &mut [u8; 4128],
-    state: &mut [u8; 44],
-) -> Desk {
-    if named(line, b"case") {
-        clear(out);
-        clear(registers);
-        clear(state);
-        return opened(desk);
-    }
-    desk
-}
-
-// How the line came out. A line that is no command counts against its case.
-fn judged(file: &[u8], line: &[u8], desk: Desk, outcome: Outcome) -> Desk {
-    match outcome {
-        Outcome::Right => desk,
-        Outcome::Number(found) => {
-            say_number(file, desk.line, found);
-            failed(desk)
-        }
-        Outcome::Answer(given) => {
-            say_answer(file, desk.line, given);
-            failed(desk)
-        }
-        Outcome::Unasked => judged_unasked(file, line, desk),
-    }
-}
-
-fn judged_unasked(file: &[u8], line: &[u8], desk: Desk) -> Desk {
-    if desk.known {
-        return desk;
-    }
-    if is_blank(line) {
-        return desk;
-    }
-    say_unknown(file, desk.line);
+// Says where the file is not as it should be, and that the case is wrong.
+fn complained(file: &[u8], desk: Desk, what: &[u8], found: u64) -> Desk {
+    io::write_all(STDOUT_FILENO, file);
+    io::write_all(STDOUT_FILENO, b" line ");
+    io::print_decimal(STDOUT_FILENO, desk.line);
+    io::write_all(STDOUT_FILENO, what);
+    io::print_hex(STDOUT_FILENO, found, 1);
+    io::write_all(STDOUT_FILENO, b"\n");
     failed(desk)
 }
 
-// Any call.
-fn called(
-    line: &[u8],
-    desk: Desk,
-    dictionary: &[u8; 516],
-    kernel: &[u8; 16400],
-    out: &mut [u8; 16400],
-    registers: &mut [u8; 4128],
-    state: &mut [u8; 44],
-) -> Desk {
-    let d = asked(line, desk, dictionary, kernel, out);
-    let e = started(line, d, state);
-    run(line, e, dictionary, kernel, registers, state)
+// How the row came out. One that is no command, or has no room, counts against its case.
+fn judged(file: &[u8], row: Row, desk: Desk, outcome: Outcome) -> Desk {
+    match outcome {
+        Outcome::Right => desk,
+        Outcome::Found(found) => complained(file, desk, b": found ", found),
+        Outcome::Unasked => {
+            if desk.known || is_idle(row) {
+                return desk;
+            }
+            complained(file, desk, b": not understood ", row.key)
+        }
+    }
 }
 
 // Obeys one line.
@@ -86,34 +47,25 @@ fn obeyed(
     file: &[u8],
     line: &[u8],
     desk: Desk,
-    dictionary: &mut [u8; 516],
-    kernel: &mut [u8; 16400],
-    out: &mut [u8; 16400],
-    registers: &mut [u8; 4128],
+    table: &mut [u8; 16916],
+    board: &mut [u8; 20528],
     state: &mut [u8; 44],
 ) -> Desk {
-    let d = begun(line, turned(desk), out, registers, state);
-    let e = known(d, filled(line, dictionary, out, registers, state));
-    let f = sized(line, assembled(line, e, kernel, out));
-    let g = called(line, f, dictionary, kernel, out, registers, state);
-    judged(
-        file,
-        line,
-        g,
-        expected(line, g.answer, out, registers, state),
-    )
+    let row = row_of(line);
+    let mut d = desk;
+    d.line = std::num::wrapping_add_u64(desk.line, 1);
+    d.known = filled(row, table, board, state);
+    let e = begun(row, d, board, state);
+    let f = sized(row, assembled(row, e, table, board));
+    let g = moved_by(row, asked_of(row, f, table, board), table, board, state);
+    judged(file, row, g, expected(row, g.answer, board, state))
 }
 
 // Obeys a text's lines.
-fn obeyed_all(
-    file: &[u8],
-    text: &[u8],
-    dictionary: &mut [u8; 516],
-    kernel: &mut [u8; 16400],
-    out: &mut [u8; 16400],
-    registers: &mut [u8; 4128],
-    state: &mut [u8; 44],
-) -> Desk {
+pub fn run_rows(file: &[u8], text: &[u8]) -> Desk {
+    let mut table = [0u8; 16916];
+    let mut board = [0u8; 20528];
+    let mut state = [0u8; 44];
     let mut desk = bare();
     let mut at: usize = 0;
     while at < text.len() {
@@ -122,31 +74,11 @@ fn obeyed_all(
             file,
             &text[at..end],
             desk,
-            dictionary,
-            kernel,
-            out,
-            registers,
-            state,
+            &mut table,
+            &mut board,
+            &mut state,
         );
         at = end;
     }
     desk
-}
-
-// Runs a text's cases. Each kind of bytes has room for one number, register, word or place more than is right.
-pub fn run_rows(file: &[u8], text: &[u8]) -> Desk {
-    let mut dictionary = [0u8; 516];
-    let mut kernel = [0u8; 16400];
-    let mut out = [0u8; 16400];
-    let mut registers = [0u8; 4128];
-    let mut state = [0u8; 44];
-    obeyed_all(
-        file,
-        text,
-        &mut dictionary,
-        &mut kernel,
-        &mut out,
-        &mut registers,
-        &mut state,
-    )
 }

@@ -1,6 +1,6 @@
 // Text: where a line and a field end, and numbers in hexadecimal. Every function takes any bytes.
 ghost use mathlib.Core.Path.{_≡_};
-ghost use Prim.Native.Nat.{_<_, _≤_};
+ghost use Prim.Native.Nat.{_<_, _≤_, _^_};
 ghost use lib.ListN.{length, getD};
 ghost use Rattle.sheet.specs.Text.{digitOf, numberOf};
 
@@ -34,7 +34,7 @@ pub fn size_to(text: &[u8], ending: u8) -> usize
 }
 
 // The byte at a place; past the end, 0.
-pub fn byte_at(text: &[u8], at: usize) -> u8
+fn byte_at(text: &[u8], at: usize) -> u8
     ensures { λ r. ⌜ r ≡ getD (now (text .entry)) at 0 ⌝ }
 {
     if at < text.len() {
@@ -89,60 +89,54 @@ fn number_in(text: &[u8]) -> u64
     v
 }
 
-// The number in field n of a line, its name being field 0.
-pub fn field(line: &[u8], n: usize) -> u64 {
-    let mut at: usize = 0;
-    let mut i: usize = 0;
-    while i < n {
-        at += size_to(&line[at..], FIELD);
-        i += 1;
-    }
-    number_in(&line[at..])
-}
-
-// How many numbers follow a line's name; 9 where a field is no number, or more than eight follow.
-fn numbers_in(line: &[u8]) -> usize {
+// The four numbers that follow a line's name, and how many they are; 9 where a field is no number, or more than four follow.
+pub fn numbers_in(line: &[u8]) -> [u64; 5]
+    ensures { λ r. ⌜ length r ≡ 5 ⌝ }
+{
+    let mut out = [0u64; 5];
     let mut at = size_to(line, FIELD);
     let mut n: usize = 0;
     while at < line.len() {
         let rest = &line[at..];
-        if number_in(rest) == NONE {
-            return 9;
+        let v = number_in(rest);
+        if v == NONE {
+            return [9; 5];
         }
-        if n == 8 {
-            return 9;
+        if n == 4 {
+            return [9; 5];
         }
+        out[n] = v;
         at += size_to(rest, FIELD);
         n += 1;
     }
-    n
+    out[4] = n as u64;
+    out
 }
 
-// The line's first field is the name.
-pub fn named(line: &[u8], name: &[u8]) -> bool {
+// What stands for the name of a comment, and for a name of more than seven letters.
+pub const COMMENT: u64 = 2;
+
+const LONGER: u64 = 1;
+
+// The letters of a line's name as one number, the first letter highest.
+pub fn name_in(line: &[u8]) -> u64
+    ensures { λ r. ⌜ r < 2 ^ 56 ⌝ }
+{
+    if byte_at(line, 0) == b'#' {
+        return COMMENT;
+    }
+    let mut v: u64 = 0;
     let mut i: usize = 0;
-    while i < name.len() {
-        if byte_at(line, i) != name[i] {
-            return false;
+    while i < line.len() {
+        let b = line[i];
+        if b <= FIELD {
+            return v;
         }
+        if 0x1_0000_0000_0000 <= v {
+            return LONGER;
+        }
+        v = v * 256 + wide(b);
         i += 1;
     }
-    byte_at(line, i) <= FIELD
-}
-
-// The line is the name and `count` numbers.
-pub fn is(line: &[u8], name: &[u8], count: usize) -> bool {
-    if named(line, name) {
-        return numbers_in(line) == count;
-    }
-    false
-}
-
-// The line holds no command: it is empty, or a comment.
-pub fn is_blank(line: &[u8]) -> bool {
-    let first = byte_at(line, 0);
-    if first == b'#' {
-        return true;
-    }
-    first <= LINE
+    v
 }

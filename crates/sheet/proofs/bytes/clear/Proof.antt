@@ -7,10 +7,13 @@ use Rattle.sheet.proofs.bytes.clear.Statement.{statement}
 use Rattle.sheet.proofs.bytes.clear.Tie as tie
 
 abbrev Inv-loop : tie.InvT-loop
-Inv-loop bytes₀ i₀ bytes i = (i ≤ length bytes₀) × (length bytes ≡ length bytes₀)
+Inv-loop bytes₀ size n i₀ bytes i = (i ≤ n) × (n ≤ length bytes₀) × (length bytes ≡ length bytes₀)
 
 abbrev μ-loop : tie.MeasureT-loop
-μ-loop bytes₀ i₀ bytes i = length bytes₀ - i
+μ-loop bytes₀ size n i₀ bytes i = n - i
+
+least-requires : tie.Need-least-requires Inv-loop μ-loop
+least-requires c κs = search needs
 
 loop-holds : tie.Need-loop-holds Inv-loop μ-loop
 loop-holds c = search needs
@@ -39,6 +42,7 @@ clear-spec =
     (tie.spec
     Inv-loop
     μ-loop
+    least-requires
     loop-holds
     slice-write-bytes
     add-i

@@ -1,31 +1,32 @@
--- The loop keeps the length, and stays within both. Its measure: the bytes left. Assumes nothing.
+-- The loop stays within both. Its measure: the bytes left. Assumes nothing.
 use borrow.Author.Needs.{needs}
 use Prim.Native.Nat.{_≤_, _-_}
-use mathlib.Core.Path.{_≡_}
-use lib.ListN.{length}
 use Rattle.sheet.proofs.bytes.copy.Statement.{statement}
 use Rattle.sheet.proofs.bytes.copy.Tie as tie
 
 abbrev Inv-loop : tie.InvT-loop
-Inv-loop from to₀ size n i₀ to i = (i ≤ n) × (n ≤ length from) × (n ≤ length to₀) × (length to ≡ length to₀)
+Inv-loop board table₀ size n i₀ table i = (i ≤ n) × (n ≤ 16400)
 
 abbrev μ-loop : tie.MeasureT-loop
-μ-loop from to₀ size n i₀ to i = n - i
+μ-loop board table₀ size n i₀ table i = n - i
 
 least-requires : tie.Need-least-requires Inv-loop μ-loop
 least-requires c κs = search needs
 
-least-requires-2 : tie.Need-least-requires-2 Inv-loop μ-loop
-least-requires-2 c κs = search needs
-
 loop-holds : tie.Need-loop-holds Inv-loop μ-loop
 loop-holds c = search needs
 
-shared-slice-read-to : tie.Need-shared-slice-read-to Inv-loop μ-loop
-shared-slice-read-to c = search needs
+add-table : tie.Need-add-table Inv-loop μ-loop
+add-table c = search needs
 
-slice-write-to : tie.Need-slice-write-to Inv-loop μ-loop
-slice-write-to c = search needs
+element-copy-out-table : tie.Need-element-copy-out-table Inv-loop μ-loop
+element-copy-out-table c = search needs
+
+add-table-2 : tie.Need-add-table-2 Inv-loop μ-loop
+add-table-2 c = search needs
+
+element-write-table : tie.Need-element-write-table Inv-loop μ-loop
+element-write-table c = search needs
 
 add-i : tie.Need-add-i Inv-loop μ-loop
 add-i c = search needs
@@ -35,9 +36,6 @@ loop-less c = search needs
 
 loop-again : tie.Need-loop-again Inv-loop μ-loop
 loop-again c = search needs
-
-same-length : tie.Need-same-length Inv-loop μ-loop
-same-length c = search needs
 
 returns : tie.Need-returns Inv-loop μ-loop
 returns c = search needs
@@ -49,12 +47,12 @@ copy-spec =
     Inv-loop
     μ-loop
     least-requires
-    least-requires-2
     loop-holds
-    shared-slice-read-to
-    slice-write-to
+    add-table
+    element-copy-out-table
+    add-table-2
+    element-write-table
     add-i
     loop-less
     loop-again
-    same-length
     returns)

@@ -1,16 +1,17 @@
--- The loop stays within the line. Its measure: the bytes left, since each field has one. Assumes nothing.
+-- The loop stays within the line and the numbers. Its measure: the bytes left, since each field has one. Assumes nothing.
 use borrow.Author.Needs.{needs}
 use Prim.Native.Nat.{_≤_, _-_}
+use mathlib.Core.Path.{_≡_}
 use lib.ListN.{length}
 use native.Mathlib.Omega.{arith}
 use Rattle.sheet.proofs.text.numbers_in.Statement.{statement}
 use Rattle.sheet.proofs.text.numbers_in.Tie as tie
 
 abbrev Inv-loop : tie.InvT-loop
-Inv-loop line at₀ n₀ at n = (at ≤ length line) × (n ≤ 8)
+Inv-loop line out₀ at₀ n₀ out at n = (at ≤ length line) × (n ≤ 4) × (length out ≡ 5)
 
 abbrev μ-loop : tie.MeasureT-loop
-μ-loop line at₀ n₀ at n = length line - at
+μ-loop line out₀ at₀ n₀ out at n = length line - at
 
 size-to-requires : tie.Need-size-to-requires Inv-loop μ-loop
 size-to-requires c κs = search needs
@@ -36,6 +37,12 @@ returns c = search needs
 returns-2 : tie.Need-returns-2 Inv-loop μ-loop
 returns-2 c = search needs
 
+mul-out : tie.Need-mul-out Inv-loop μ-loop
+mul-out c = search needs
+
+array-write-out : tie.Need-array-write-out Inv-loop μ-loop
+array-write-out c = search needs
+
 size-to-requires-2 : tie.Need-size-to-requires-2 Inv-loop μ-loop
 size-to-requires-2 c κs = search needs
 
@@ -50,6 +57,9 @@ loop-less c = omega (arith, c .size-to2 .ensures .1 (search needs))
 
 loop-again : tie.Need-loop-again Inv-loop μ-loop
 loop-again c = search needs
+
+array-write-out-2 : tie.Need-array-write-out-2 Inv-loop μ-loop
+array-write-out-2 c = search needs
 
 returns-3 : tie.Need-returns-3 Inv-loop μ-loop
 returns-3 c = search needs
@@ -68,9 +78,12 @@ numbers-in-spec =
     number-in-requires
     returns
     returns-2
+    mul-out
+    array-write-out
     size-to-requires-2
     add-at
     add-n
     loop-less
     loop-again
+    array-write-out-2
     returns-3)

@@ -3,14 +3,14 @@ use borrow.Author.Needs.{needs}
 use Prim.Native.Nat.{_≤_, _-_}
 use lib.ListN.{length}
 use native.Mathlib.Omega.{arith}
-use Rattle.sheet.proofs.rows.obeyed_all.Statement.{statement}
-use Rattle.sheet.proofs.rows.obeyed_all.Tie as tie
+use Rattle.sheet.proofs.rows.run_rows.Statement.{statement}
+use Rattle.sheet.proofs.rows.run_rows.Tie as tie
 
 abbrev Inv-loop : tie.InvT-loop
-Inv-loop file text dictionary₀ kernel₀ out₀ registers₀ state₀ desk₀ at₀ dictionary kernel out registers state desk at = at ≤ length text
+Inv-loop file text table₀ board₀ state₀ desk₀ at₀ table board state desk at = at ≤ length text
 
 abbrev μ-loop : tie.MeasureT-loop
-μ-loop file text dictionary₀ kernel₀ out₀ registers₀ state₀ desk₀ at₀ dictionary kernel out registers state desk at = length text - at
+μ-loop file text table₀ board₀ state₀ desk₀ at₀ table board state desk at = length text - at
 
 bare-requires : tie.Need-bare-requires Inv-loop μ-loop
 bare-requires c κs = search needs
@@ -46,7 +46,7 @@ obeyed-requires : tie.Need-obeyed-requires Inv-loop μ-loop
 obeyed-requires c κs = search needs
 
 loop-less : tie.Need-loop-less Inv-loop μ-loop
-loop-less c = omega (arith, c .before .before .before .before .before .before .before .size-to .ensures .1 (search needs))
+loop-less c = omega (arith, c .before .before .before .before .before .size-to .ensures .1 (search needs))
 
 loop-again : tie.Need-loop-again Inv-loop μ-loop
 loop-again c = search needs
@@ -54,8 +54,8 @@ loop-again c = search needs
 returns : tie.Need-returns Inv-loop μ-loop
 returns c = search needs
 
-pub obeyed-all-spec : {M : Type 1} → statement M
-obeyed-all-spec =
+pub run-rows-spec : {M : Type 1} → statement M
+run-rows-spec =
     tie.close
     (tie.spec
     Inv-loop
