@@ -1,7 +1,7 @@
 // The commands that say what must have come of the last call.
 use crate::bytes::dword_at;
 use crate::bytes::half_at;
-use crate::lay::OUTPUT;
+use crate::lay::board_place;
 use crate::row::ANSWER;
 use crate::row::HOLDS;
 use crate::row::Row;
@@ -54,22 +54,15 @@ fn compared(found: u64, asked: u64) -> Outcome {
 
 // `answer NUMBER OFFSET COUNT`, `wrote BYTE DWORD`, `holds BYTE DWORD`, `stands BYTE HALF`.
 pub fn expected(row: Row, answer: u64, board: &[u8; 20528], state: &[u8; 44]) -> Outcome {
-    let at = row.a as usize;
     if row.key == ANSWER {
         return compared(answer, answer_of(row.a, row.b, row.c));
     }
-    if row.key == WROTE {
-        if at <= 16396 {
-            return compared(dword_at(board, OUTPUT + at), row.b);
-        }
-    }
-    if row.key == HOLDS {
-        if at <= 4124 {
-            return compared(dword_at(board, at), row.b);
-        }
-    }
     if row.key == STANDS {
-        return compared(half_at(state, at), row.b);
+        return compared(half_at(state, row.a as usize), row.b);
+    }
+    let at = board_place(row, HOLDS, WROTE);
+    if at <= 20528 {
+        return compared(dword_at(board, at), row.b);
     }
     Outcome::Unasked
 }

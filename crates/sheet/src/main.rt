@@ -21,17 +21,17 @@ fn pages() -> [u8; 262144]
     [0; 262144]
 }
 
-// Runs a file's cases. A file that cannot be opened has none.
+// Runs a file's cases. A file that cannot be opened has none; one that may be cut off has no line.
 fn report(file: &[u8]) {
     let mut text = pages();
     let descriptor = os::open_read(file);
     let n = io::read_full(descriptor, &mut text);
     libc::close(descriptor);
+    if n == 262144 {
+        return;
+    }
     let desk = run_rows(file, &text[..n]);
     io::write_all(STDOUT_FILENO, file);
-    if n == 262144 {
-        io::write_all(STDOUT_FILENO, b" (cut off)");
-    }
     io::write_all(STDOUT_FILENO, b": ");
     io::print_decimal(STDOUT_FILENO, desk.right);
     io::write_all(STDOUT_FILENO, b" of ");

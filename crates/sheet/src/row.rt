@@ -1,5 +1,5 @@
 // A line as a command and its numbers.
-use crate::text::COMMENT;
+use crate::text::byte_at;
 use crate::text::name_in;
 use crate::text::numbers_in;
 
@@ -61,8 +61,17 @@ pub const HOLDS: u64 = 0x686F6C6473_2;
 
 pub const STANDS: u64 = 0x7374616E6473_2;
 
-// The line's command, known or not.
+// The line's command, known or not. A comment has the key 0, as an empty line has.
 pub fn row_of(line: &[u8]) -> Row {
+    if byte_at(line, 0) == b'#' {
+        return Row {
+            key: 0,
+            a: 0,
+            b: 0,
+            c: 0,
+            d: 0,
+        };
+    }
     let n = numbers_in(line);
     let name = name_in(line);
     Row {
@@ -72,12 +81,4 @@ pub fn row_of(line: &[u8]) -> Row {
         c: n[2],
         d: n[3],
     }
-}
-
-// The line holds no command: it is empty, or a comment.
-pub fn is_idle(row: Row) -> bool {
-    if row.key == 0 {
-        return true;
-    }
-    row.key / 16 == COMMENT
 }

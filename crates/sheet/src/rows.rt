@@ -9,9 +9,10 @@ use crate::expect::expected;
 use crate::lay::assembled;
 use crate::lay::begun;
 use crate::lay::filled;
+use crate::lay::grown;
+use crate::lay::reset;
 use crate::lay::sized;
 use crate::row::Row;
-use crate::row::is_idle;
 use crate::row::row_of;
 use crate::text::LINE;
 use crate::text::size_to;
@@ -34,12 +35,28 @@ fn judged(file: &[u8], row: Row, desk: Desk, outcome: Outcome) -> Desk {
         Outcome::Right => desk,
         Outcome::Found(found) => complained(file, desk, b": found ", found),
         Outcome::Unasked => {
-            if desk.known || is_idle(row) {
+            if desk.known {
                 return desk;
             }
             complained(file, desk, b": not understood ", row.key)
         }
     }
+}
+
+// Lays out what the row says.
+fn laid(
+    row: Row,
+    desk: Desk,
+    table: &mut [u8; 16916],
+    board: &mut [u8; 20528],
+    state: &mut [u8; 44],
+) -> Desk {
+    let mut d = desk;
+    d.line = std::num::wrapping_add_u64(desk.line, 1);
+    d.known = filled(row, table, board, state);
+    assembled(row, desk.kernel, table);
+    reset(row, desk.answer, table, board);
+    begun(row, sized(row, grown(row, d)), board, state)
 }
 
 // Obeys one line.
@@ -52,13 +69,10 @@ fn obeyed(
     state: &mut [u8; 44],
 ) -> Desk {
     let row = row_of(line);
-    let mut d = desk;
-    d.line = std::num::wrapping_add_u64(desk.line, 1);
-    d.known = filled(row, table, board, state);
-    let e = begun(row, d, board, state);
-    let f = sized(row, assembled(row, e, table, board));
-    let g = moved_by(row, asked_of(row, f, table, board), table, board, state);
-    judged(file, row, g, expected(row, g.answer, board, state))
+    let d = laid(row, desk, table, board, state);
+    let e = asked_of(row, d, table, board);
+    let f = moved_by(row, e, table, board, state);
+    judged(file, row, f, expected(row, f.answer, board, state))
 }
 
 // Obeys a text's lines.

@@ -34,7 +34,7 @@ pub fn size_to(text: &[u8], ending: u8) -> usize
 }
 
 // The byte at a place; past the end, 0.
-fn byte_at(text: &[u8], at: usize) -> u8
+pub fn byte_at(text: &[u8], at: usize) -> u8
     ensures { λ r. ⌜ r ≡ getD (now (text .entry)) at 0 ⌝ }
 {
     if at < text.len() {
@@ -113,18 +113,13 @@ pub fn numbers_in(line: &[u8]) -> [u64; 5]
     out
 }
 
-// What stands for the name of a comment, and for a name of more than seven letters.
-pub const COMMENT: u64 = 2;
-
+// What stands for a name of more than seven letters.
 const LONGER: u64 = 1;
 
 // The letters of a line's name as one number, the first letter highest.
 pub fn name_in(line: &[u8]) -> u64
     ensures { λ r. ⌜ r < 2 ^ 56 ⌝ }
 {
-    if byte_at(line, 0) == b'#' {
-        return COMMENT;
-    }
     let mut v: u64 = 0;
     let mut i: usize = 0;
     while i < line.len() {

@@ -11,23 +11,17 @@ Inv-loop line v₀ i₀ v i = (i ≤ length line) × (v < 2 ^ 56)
 abbrev μ-loop : tie.MeasureT-loop
 μ-loop line v₀ i₀ v i = length line - i
 
-byte-at-requires : tie.Need-byte-at-requires Inv-loop μ-loop
-byte-at-requires c κs = search needs
-
-returns : tie.Need-returns Inv-loop μ-loop
-returns c = search needs
-
 loop-holds : tie.Need-loop-holds Inv-loop μ-loop
 loop-holds c = search needs
 
 shared-slice-read-b : tie.Need-shared-slice-read-b Inv-loop μ-loop
 shared-slice-read-b c = search needs
 
+returns : tie.Need-returns Inv-loop μ-loop
+returns c = search needs
+
 returns-2 : tie.Need-returns-2 Inv-loop μ-loop
 returns-2 c = search needs
-
-returns-3 : tie.Need-returns-3 Inv-loop μ-loop
-returns-3 c = search needs
 
 mul-v : tie.Need-mul-v Inv-loop μ-loop
 mul-v c = search needs
@@ -47,8 +41,8 @@ loop-less c = search needs
 loop-again : tie.Need-loop-again Inv-loop μ-loop
 loop-again c = search needs
 
-returns-4 : tie.Need-returns-4 Inv-loop μ-loop
-returns-4 c = search needs
+returns-3 : tie.Need-returns-3 Inv-loop μ-loop
+returns-3 c = search needs
 
 pub name-in-spec : {M : Type 1} → statement M
 name-in-spec =
@@ -56,16 +50,14 @@ name-in-spec =
     (tie.spec
     Inv-loop
     μ-loop
-    byte-at-requires
-    returns
     loop-holds
     shared-slice-read-b
+    returns
     returns-2
-    returns-3
     mul-v
     wide-requires
     add-v
     add-i
     loop-less
     loop-again
-    returns-4)
+    returns-3)
