@@ -1,16 +1,10 @@
 // Runs the cases that the files of data/ write in rows, over the calls of the C boundary. A line a file: how many cases came out as they say, and
 // before it a line for each row that did not. data/sheet.txt says how rows are written.
-mod bytes;
 mod call;
-mod desk;
-mod expect;
-mod lay;
-mod row;
-mod rows;
-mod text;
+mod obey;
 
 use libc::STDOUT_FILENO;
-use rows::run_rows;
+use obey::run_rows;
 ghost use mathlib.Core.Path.{_≡_};
 ghost use lib.ListN.{length};
 
