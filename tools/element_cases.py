@@ -1,7 +1,9 @@
 #!/usr/bin/env python3
-"""Writes the element cases that the program `vectors` runs. From the repository's root:
+"""Writes the rows of the element cases, which the program `sheet` runs. From the repository's root:
 
-    python3 tools/element_cases.py > crates/vectors/data/element-cases.txt
+    python3 tools/element_cases.py > crates/sheet/data/elements.txt
+
+Each case is one instruction of size 1, run by itself: from r2.0 and r3.0 to r4.0. What stands beside the elements in their registers is neither 0 nor asked for.
 
 Results are worked out with Python's exact integers from the sentences of the paper's "Operations", which stand beside them here, and from nothing of the bench.
 The gate does not run this script: it reads the file, which is committed. Running it again writes the same file.
@@ -58,11 +60,43 @@ def stored(saturate, t, v):
     return (min(max(v, least(t)), greatest(t)) if saturate else v) % 2 ** TYPES[t][1]
 
 
+BESIDE_SOURCES, BEFORE = 0x5A5A5A5A, 0xA5A5A5A5  # what the registers hold around the sources, and in the destination before the instruction
+
+
+def beside(pattern, t, around):
+    """A dword whose lowest element is the pattern."""
+    mask = 2 ** TYPES[t][1] - 1
+    return around & ~mask | pattern & mask
+
+
+def instruction(op, to, t0, t1, m0, m1, condition, saturate):
+    """The long word's dwords, by the paper's "The long word". Files are 01; strides, widths and subregisters 0, but the destination's stride 1."""
+    two = op not in ('mov', 'not')
+    first = OPCODES[op] | (op == 'sel') << 16 | condition << 24 | saturate << 31  # PredCtrl 1 on sel
+    second = 1 | TYPES[to][0] << 2 | 1 << 5 | TYPES[t0][0] << 7 | 4 << 21 | 1 << 29
+    second |= (1 << 10 | TYPES[t1][0] << 12) if two else 0
+    return first, second, 2 << 5 | m0 << 13, (3 << 5 | m1 << 13) if two else 0
+
+
+def title(op, to, t0, a, t1, b, m0, m1, condition, holds, saturate):
+    signs = ('', 'abs ', 'neg ', 'neg abs ')
+    name = op + ('.sat' if saturate else '') + ('', '.z', '.nz', '.g', '.ge', '.l', '.le')[condition]
+    sources = '%s%s %d' % (signs[m0], t0, a) + ('' if op in ('mov', 'not') else ', %s%s %d' % (signs[m1], t1, b))
+    return '%s %s, %s' % (name, to, sources) + ((' by 0', ' by 1')[holds] if op == 'sel' else '')
+
+
 def case(op, to, t0, a, t1='ud', b=0, m0=0, m1=0, condition=0, holds=1, saturate=0):
-    kept = stored(saturate, to, result(op, condition, holds, modified(m0, a), modified(m1, b)))
-    numbers = [OPCODES[op], condition, holds, saturate, TYPES[to][0], TYPES[t0][0], m0, a % 2 ** TYPES[t0][1],
-               TYPES[t1][0], m1, b % 2 ** TYPES[t1][1], kept]
-    print(op, ' '.join('%x' % n for n in numbers))
+    kept = beside(stored(saturate, to, result(op, condition, holds, modified(m0, a), modified(m1, b))), to, BEFORE)
+    assert kept != BEFORE
+    print('case', title(op, to, t0, a, t1, b, m0, m1, condition, holds, saturate))
+    print('long %08x %08x %08x %08x' % instruction(op, to, t0, t1, m0, m1, condition, saturate))
+    print('set 40 %08x' % beside(a, t0, BESIDE_SOURCES))
+    if op not in ('mov', 'not'):
+        print('set 60 %08x' % beside(b, t1, BESIDE_SOURCES))
+    print('set 80 %08x' % BEFORE)
+    print('start 1 %d 0' % (holds if op == 'sel' else 0))
+    print('run 1')
+    print('holds 80 %08x' % kept)
 
 
 def saturates(op):
@@ -70,8 +104,8 @@ def saturates(op):
 
 
 def main():
-    print('# Element cases at the limits of the types, written by tools/element_cases.py from the paper\'s rules. Numbers in hexadecimal:')
-    print('# operation, opcode, condition, predicate, Saturate, destination type, src0\'s type, modifier and pattern, src1\'s, and the pattern that is stored.')
+    print("# Elements at the limits of the types, written by tools/element_cases.py from the paper's rules. sheet.txt says how rows are written.")
+    print('# A title names the operation, the destination type, and the type and value of each source.')
     print('# mov from each type to each, at the limits')
     for t in TYPES:
         for to in TYPES:

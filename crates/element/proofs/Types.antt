@@ -1,4 +1,4 @@
--- Loading, clamping and storing, each once for all types: byte, word and dword enter by `width-half` and `width-most` alone. Assumes nothing.
+-- Loading and clamping, each once for all types: byte, word and dword enter by `width-half` and `width-most` alone. Assumes nothing.
 use mathlib.Core.Path.{_≡_, refl, sym, _∙_, ap, ap₂}
 use mathlib.Core.Bool.{Bool, true, false, cond, _&&_}
 use Prim.Native.Nat.{ℕ, _+_, _*_, _-_, _/_, _%_, _^_, _<_, _≤_}
@@ -7,13 +7,13 @@ use native.Mathlib.Omega.{arith}
 use lib.Dec.{ltb, leb}
 use lib.IntN.{ℤ, pos, negℤ, subℕ}
 use lib.Pow.{pow-mono, pow-pos}
-use lib.Bits.{bitAnd, bitXor, and-mask, xor-zero-r, xor-comm, xor-shifted, xor-block}
+use lib.Bits.{bitXor, xor-zero-r, xor-comm, xor-shifted, xor-block}
 use borrow.Author.Tests.{eq-eqb, ne-eqb, leb-true, leb-false}
-use Rattle.paper.specs.Value.{width, isSigned, value, least, greatest, modZ, clampTo}
+use Rattle.paper.specs.Value.{width, isSigned, value, least, greatest, clampTo}
 use Rattle.laws.specs.Differences.{is-pos, sub-eq, neg-of}
 use Rattle.element.specs.Biased.{ex, Near, signBit}
 use Rattle.element.specs.Operands.{width-most}
-use Rattle.element.specs.Base.{ex-pos, ex-mod, ex-lt, ex-cond}
+use Rattle.element.specs.Base.{ex-pos, ex-lt, ex-cond}
 
 -- ---- the sign bit
 
@@ -168,9 +168,3 @@ ex-kept t v l u p q =
 pub ex-clamp : (t v : ℕ) → ex (kept v (2 ^ 63 - signBit t) (2 ^ 63 + (2 ^ width t - 1 - signBit t))) ≡ clampTo t (ex v)
 ex-clamp t v =
     ex-kept t v (2 ^ 63 - signBit t) (2 ^ 63 + (2 ^ width t - 1 - signBit t)) (ex-least t) (ex-greatest t)
-
--- ---- storing
-
--- A type's lowest bits of a number are those of what it stands for.
-pub ex-store : (t v : ℕ) → bitAnd v (2 ^ width t - 1) ≡ modZ (ex v) (2 ^ width t)
-ex-store t v = and-mask v (width t) ∙ sym (ex-mod (width t) v (omega (arith, width-most t)))

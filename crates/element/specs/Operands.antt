@@ -1,8 +1,8 @@
--- What an operation's operands have to be, as numbers and as patterns, and that the second gives the first. Assumes nothing.
+-- What an operation's operands have to be, and what is known of types and modifiers there. Assumes nothing.
 use mathlib.Core.Path.{_≡_, refl}
 use mathlib.Core.Bool.{Bool, true, false, cond}
 use mathlib.Core.List.{List, [], _∷_}
-use Prim.Native.Nat.{ℕ, _^_, _<_, _≤_}
+use Prim.Native.Nat.{ℕ, _≤_}
 use native.Mathlib.Omega.{arith}
 use lib.Dec.{ltb, lit≤}
 use lib.IntN.{ℤ}
@@ -13,19 +13,13 @@ use Rattle.paper.specs.Value.{width, modified}
 use Rattle.paper.specs.Element.{result}
 use Rattle.words.specs.Operations.{plainIs}
 use Rattle.words.specs.declared.operation.Plain.{Plain}
-use Rattle.element.specs.Biased.{Near, near-mono}
+use Rattle.element.specs.Biased.{Near}
 
 -- Operands are no greater than a dword holds; mul's no greater than a word holds.
 pub record Operands (p : Plain) (a b : ℕ) : Type 0 where
   pub first : Near 32 a
   pub second : Near 32 b
   pub factors : plainIs p ≡ paper.mul → Near 16 a × Near 16 b
-
--- Patterns are their types'; mul's types are not of dwords (rule 8).
-pub record Patterns (p : Plain) (kind0 pattern0 kind1 pattern1 : ℕ) : Type 0 where
-  pub first : pattern0 < 2 ^ width kind0
-  pub second : pattern1 < 2 ^ width kind1
-  pub factors : plainIs p ≡ paper.mul → (2 ≤ kind0) × (2 ≤ kind1)
 
 -- A type has 32 bits at most.
 pub width-most : (t : ℕ) → width t ≤ 32
@@ -43,18 +37,6 @@ width-short t h = rw (le-ltb t 2 h) (pick (ltb t 4))
     pick : (q : Bool) → cond q 16 8 ≤ 16
     pick true = lit≤ tt
     pick false = lit≤ tt
-
--- Operands that come of patterns are as `compute` asks.
-pub operands-of : (p : Plain) (kind0 pattern0 kind1 pattern1 a b : ℕ) → Patterns p kind0 pattern0 kind1 pattern1 → Near (width kind0) a → Near (width kind1) b → Operands p a b
-operands-of p kind0 pattern0 kind1 pattern1 a b ps na nb =
-    record {
-      first = near-mono (width-most kind0) na;
-      second = near-mono (width-most kind1) nb;
-      factors = λ e. (
-        near-mono (width-short kind0 (ps .factors e .0)) na,
-        near-mono (width-short kind1 (ps .factors e .1)) nb,
-      );
-    }
 
 -- No modifier changes nothing: so an immediate is read with modifier 0.
 pub modified-none : (v : ℤ) → modified 0 v ≡ v

@@ -1,16 +1,16 @@
-// Types, and how an element's bit pattern becomes a number and a number a bit pattern.
+// Types, how an element's bit pattern becomes a number, and the numbers that a type holds.
 ghost use mathlib.Core.Path.{_≡_};
 ghost use mathlib.Core.Bool.{cond};
 ghost use lib.Dec.{ltb};
 ghost use Prim.Native.Nat.{_+_, _-_, _^_, _<_};
-ghost use Rattle.paper.specs.Value.{width, value, clampTo, stored};
+ghost use Rattle.paper.specs.Value.{width, value, clampTo};
 ghost use Rattle.element.specs.Biased.{ex, Near, signBit};
 
 // What stands for 0.
 pub const BASE: u64 = 9223372036854775808;
 
 // The pattern of a type that has every bit set.
-pub fn ones(kind: u64) -> u64
+fn ones(kind: u64) -> u64
     ensures { λ r. ⌜ r ≡ 2 ^ width kind - 1 ⌝ }
 {
     if kind < 2 {
@@ -61,15 +61,4 @@ pub fn clamp(kind: u64, v: u64) -> u64
     let s = sign(kind);
     let most = ones(kind);
     between(v, BASE - s, BASE + (most - s))
-}
-
-// The pattern that is stored for v: clamped, or its lowest bits alone.
-pub fn store(saturated: bool, kind: u64, v: u64) -> u64
-    ensures { λ r. ⌜ r ≡ stored saturated kind (ex v) ⌝ }
-{
-    let most = ones(kind);
-    if saturated {
-        return clamp(kind, v) & most;
-    }
-    v & most
 }

@@ -1,0 +1,3 @@
+-- What the rows' bytes hold, and what their text means.
+pub mod Room
+pub mod Text

@@ -1,2 +1,0 @@
--- What the program's bytes hold.
-pub mod Room

@@ -1,0 +1,139 @@
+// The commands that make a call of the C boundary.
+use rows::bytes::least;
+use rows::desk::Desk;
+use rows::lay::KERNEL;
+use rows::lay::OUTPUT;
+use rows::row::CHECK;
+use rows::row::DECODE;
+use rows::row::EXPAND;
+use rows::row::PACK;
+use rows::row::RUN;
+use rows::row::Row;
+use rows::row::SHORTEN;
+use rows::row::START;
+use rows::row::STEP;
+use rows::row::UNPACK;
+use spokeshaver::spokeshaver_check;
+use spokeshaver::spokeshaver_decode;
+use spokeshaver::spokeshaver_expand;
+use spokeshaver::spokeshaver_pack;
+use spokeshaver::spokeshaver_run;
+use spokeshaver::spokeshaver_shorten;
+use spokeshaver::spokeshaver_start;
+use spokeshaver::spokeshaver_step;
+use spokeshaver::spokeshaver_unpack;
+ghost use mathlib.Core.Path.{_≡_};
+ghost use lib.ListN.{length};
+
+// What a row's call answered; No where it makes none.
+pub enum Answered {
+    No,
+    With(u64),
+}
+
+// `check`, `decode PLACE`, `pack`, `unpack`, `shorten`, `expand`. The kernel's bytes are the word to shorten or to expand.
+fn asked(row: Row, dictionary: &[u8], kernel: &[u8], out: &mut [u8]) -> Answered {
+    if row.key == CHECK {
+        return Answered::With(spokeshaver_check(dictionary, kernel));
+    }
+    if row.key == DECODE {
+        return Answered::With(spokeshaver_decode(dictionary, kernel, row.a));
+    }
+    if row.key == PACK {
+        return Answered::With(spokeshaver_pack(dictionary, kernel, out));
+    }
+    if row.key == UNPACK {
+        return Answered::With(spokeshaver_unpack(dictionary, kernel, out));
+    }
+    if row.key == SHORTEN {
+        return Answered::With(spokeshaver_shorten(dictionary, kernel, out));
+    }
+    if row.key == EXPAND {
+        return Answered::With(spokeshaver_expand(dictionary, kernel, out));
+    }
+    Answered::No
+}
+
+// `start MASK FLAG0 FLAG1`.
+fn started(row: Row, state: &mut [u8]) -> Answered {
+    if 0x1_0000 <= row.a {
+        return Answered::No;
+    }
+    if 0x1_0000 <= row.b {
+        return Answered::No;
+    }
+    if 0x1_0000 <= row.c {
+        return Answered::No;
+    }
+    Answered::With(spokeshaver_start(row.a as u16, row.b as u16, row.c as u16, state))
+}
+
+// `start`, `step`, `run BUDGET`.
+fn moved(
+    row: Row,
+    dictionary: &[u8],
+    kernel: &[u8],
+    registers: &mut [u8],
+    state: &mut [u8],
+) -> Answered {
+    if row.key == START {
+        return started(row, state);
+    }
+    if row.key == STEP {
+        return Answered::With(spokeshaver_step(dictionary, kernel, registers, state));
+    }
+    if row.key == RUN {
+        return Answered::With(spokeshaver_run(dictionary, kernel, row.a, registers, state));
+    }
+    Answered::No
+}
+
+// A call on the kernel's bytes, if the row makes one.
+pub fn asked_of(row: Row, desk: Desk, table: &[u8], board: &mut [u8]) -> Desk
+    requires { ⌜ (length (now table) ≡ 16916) × (length (now board) ≡ 20528) ⌝ }
+{
+    let numbers = least(desk.dictionary, KERNEL);
+    let end = KERNEL + least(desk.kernel, 16400);
+    let room = OUTPUT + least(desk.room, 16400);
+    noted(
+        desk,
+        asked(
+            row,
+            &table[0..numbers],
+            &table[KERNEL..end],
+            &mut board[OUTPUT..room],
+        ),
+    )
+}
+
+// A call on registers and state, if the row makes one.
+pub fn moved_by(row: Row, desk: Desk, table: &[u8], board: &mut [u8], state: &mut [u8]) -> Desk
+    requires { ⌜ (length (now table) ≡ 16916) × (length (now board) ≡ 20528) × (length (now state) ≡ 44) ⌝ }
+{
+    let numbers = least(desk.dictionary, KERNEL);
+    let end = KERNEL + least(desk.kernel, 16400);
+    let size = least(desk.registers, OUTPUT);
+    let places = least(desk.state, 44);
+    let dictionary = &table[0..numbers];
+    let kernel = &table[KERNEL..end];
+    noted(
+        desk,
+        moved(
+            row,
+            dictionary,
+            kernel,
+            &mut board[0..size],
+            &mut state[0..places],
+        ),
+    )
+}
+
+// The call's answer, if there was a call.
+fn noted(desk: Desk, answered: Answered) -> Desk {
+    let mut d = desk;
+    if let Answered::With(answer) = answered {
+        d.answer = answer;
+        d.known = true;
+    }
+    d
+}
