@@ -19,7 +19,7 @@ use Rattle.laws.specs.Same.{same-runs}
 use Rattle.laws.specs.Packing.{kernel-of, long-accepted, packed-accepted, packed-program, unpacked-accepted, unpacked-program, accepted-parts}
 use Rattle.laws.specs.Calls.{run-verdict}
 use Rattle.laws.specs.Demands.{Ready, run-ready}
-use Rattle.spokeshaver.specs.Contracts.{numberIn, PackPromise, UnpackPromise, RunPromise}
+use Rattle.contracts.specs.Contracts.{numberIn, PackPromise, UnpackPromise, RunPromise}
 use Rattle.promises.specs.Stepping.{state-bytes, buffers, legal-parts, run-leaves-ready, run-leaves}
 use Rattle.promises.specs.Promises.{result, Begun, Legal, Same, RanAlike, Alike}
 use Rattle.promises.specs.OutcomesHold.{answers}

@@ -8,9 +8,9 @@ use native.Mathlib.Omega.{arith}
 use lib.ListN.{length, take, drop}
 use Rattle.paper.specs.Calls.{Answer, asNumber, Written, checkCall, packCall, unpackCall, shortenCall, expandCall, decodeCall, decodePart, startCall, stepCall, runCall}
 use Rattle.laws.specs.Calls.{Confined, pack-confined, unpack-confined, shorten-confined, expand-confined, start-confined, decode-refused, step-unchanged, run-unchanged}
-use Rattle.spokeshaver.specs.Contracts.{numberIn, offsetIn, countIn, Wrote}
+use Rattle.contracts.specs.Contracts.{numberIn, offsetIn, countIn, Wrote}
 use Rattle.answers.specs.Numbers.{checkNumbers, packNumbers, unpackNumbers, shortenNumbers, expandNumbers, decodeNumbers, startNumbers, stepNumbers, runNumbers}
-use Rattle.spokeshaver.specs.OneOutcomeHolds.{one-outcome}
+use Rattle.contracts.specs.OneOutcomeHolds.{one-outcome}
 use Rattle.promises.specs.Promises.{Told, Answers, Kept, Refusals, Demand1}
 use Rattle.answers.specs.Small.{number-back, offset-back, count-back}
 use Rattle.promises.specs.Results.{decode-inside, part-are, part-length}

@@ -19,7 +19,7 @@ use Rattle.laws.specs.Items.{Item, itemBytes, allBytes, instrsFrom}
 use Rattle.laws.specs.Packing.{kernel-of, long-accepted, packed-accepted, packed-program, unpacked-accepted, unpacked-program, packed-items}
 use Rattle.laws.specs.Relay.{itemsOf, relay-items}
 use Rattle.laws.specs.Demands.{unpack-delivers}
-use Rattle.spokeshaver.specs.Contracts.{numberIn, countIn, CheckPromise, PackPromise, UnpackPromise}
+use Rattle.contracts.specs.Contracts.{numberIn, countIn, CheckPromise, PackPromise, UnpackPromise}
 use Rattle.promises.specs.Results.{check-accepts, accepted-checks, Writes, pack-writes, unpack-writes, pack-fits, unpack-fits, pack-full, unpack-full}
 use Rattle.promises.specs.Room.{relay-most, pack-most, unpack-most, all-long-accepted}
 use Rattle.promises.specs.WordsHold.{shorten-least, shorten-never, expand-right, expand-back}

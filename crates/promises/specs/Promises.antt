@@ -22,9 +22,9 @@ use Rattle.paper.specs.Calls.{Answer, accepted, checkCall, packCall, unpackCall
 use Rattle.laws.specs.Names.{renameC, program}
 use Rattle.laws.specs.Items.{Item, allBytes, instrsFrom}
 use Rattle.laws.specs.Packing.{AllShortest}
-use Rattle.spokeshaver.specs.Contracts.{numberIn, offsetIn, countIn, CheckPromise, PackPromise, UnpackPromise, ShortenPromise, ExpandPromise}
-use Rattle.spokeshaver.specs.Contracts.{DecodePromise, StartPromise, StepPromise, RunPromise}
-use Rattle.spokeshaver.specs.OneOutcome.{OneOutcome}
+use Rattle.contracts.specs.Contracts.{numberIn, offsetIn, countIn, CheckPromise, PackPromise, UnpackPromise, ShortenPromise, ExpandPromise}
+use Rattle.contracts.specs.Contracts.{DecodePromise, StartPromise, StepPromise, RunPromise}
+use Rattle.contracts.specs.OneOutcome.{OneOutcome}
 use Rattle.answers.specs.Numbers.{checkNumbers, packNumbers, unpackNumbers, shortenNumbers, expandNumbers, decodeNumbers, startNumbers, stepNumbers, runNumbers}
 
 -- ==== demand 1: one outcome, from the paper's list, and a refusal changes nothing

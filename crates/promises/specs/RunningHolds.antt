@@ -11,7 +11,7 @@ use Rattle.paper.specs.Machine.{run}
 use Rattle.paper.specs.Calls.{asNumber, Changed, stepCall, runCall}
 use Rattle.laws.specs.Calls.{step-unchanged}
 use Rattle.laws.specs.Demands.{alike}
-use Rattle.spokeshaver.specs.Contracts.{numberIn, countIn, CheckPromise, StepPromise, RunPromise}
+use Rattle.contracts.specs.Contracts.{numberIn, countIn, CheckPromise, StepPromise, RunPromise}
 use Rattle.promises.specs.Stepping.{follows, run-suc, run-made}
 use Rattle.promises.specs.Promises.{WasSteps, Begun, Demand3}
 use Rattle.promises.specs.OutcomesHold.{answers}

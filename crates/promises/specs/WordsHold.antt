@@ -19,7 +19,7 @@ use Rattle.paper.specs.Calls.{Written, expandCall}
 use Rattle.laws.specs.Bytes.{number-lt, bytes-drop, length-bytesOf, number-bytesOf, bytesOf-number}
 use Rattle.laws.specs.Expand.{expand-fits, expand-operation}
 use Rattle.laws.specs.Shorten.{shorten-some, shorten-none}
-use Rattle.spokeshaver.specs.Contracts.{numberIn, countIn, ShortenPromise, ExpandPromise}
+use Rattle.contracts.specs.Contracts.{numberIn, countIn, ShortenPromise, ExpandPromise}
 use Rattle.promises.specs.Results.{wrote}
 use Rattle.promises.specs.Words.{Fit, shorten-says, shorten-fit, expand-writes, expand-room}
 use Rattle.promises.specs.Promises.{result}

@@ -1,6 +1,6 @@
 // The calls of the C boundary (include/spokeshaver.h): numbers and byte slices only. Each answers one number, by `asNumber`, and leaves in what it is
-// lent what the paper's definition of the call says, for all inputs; nothing is required of bytes and numbers. What each promises stands in specs/Contracts.antt,
-// what follows from it in the crate `promises`.
+// lent what the paper's definition of the call says, for all inputs; nothing is required of bytes and numbers. What each promises stands in Contracts.antt of
+// the crate `contracts`, what follows from it in the crate `promises`.
 use answers::checked;
 use answers::decoded;
 use answers::ran;
@@ -14,8 +14,8 @@ use run::calls::run;
 use run::calls::step;
 use short::calls::expand_word;
 use short::calls::shorten_word;
-ghost use Rattle.spokeshaver.specs.Contracts.{CheckPromise, PackPromise, UnpackPromise, ShortenPromise, ExpandPromise};
-ghost use Rattle.spokeshaver.specs.Contracts.{DecodePromise, StartPromise, StepPromise, RunPromise};
+ghost use Rattle.contracts.specs.Contracts.{CheckPromise, PackPromise, UnpackPromise, ShortenPromise, ExpandPromise};
+ghost use Rattle.contracts.specs.Contracts.{DecodePromise, StartPromise, StepPromise, RunPromise};
 
 // Is the kernel accepted; the count is its instructions.
 #[no_mangle]

@@ -3,8 +3,8 @@
 use mathlib.Core.List.{List}
 use mathlib.Core.Path.{_≡_}
 use Prim.Native.Nat.{ℕ}
-use Rattle.spokeshaver.specs.Contracts.{CheckPromise, PackPromise, UnpackPromise, ShortenPromise, ExpandPromise}
-use Rattle.spokeshaver.specs.Contracts.{DecodePromise, StartPromise, StepPromise, RunPromise}
+use Rattle.contracts.specs.Contracts.{CheckPromise, PackPromise, UnpackPromise, ShortenPromise, ExpandPromise}
+use Rattle.contracts.specs.Contracts.{DecodePromise, StartPromise, StepPromise, RunPromise}
 
 -- The contract of each call admits one outcome only: one answer, and one final content of each buffer that is lent for writing.
 pub record OneOutcome : Type 0 where

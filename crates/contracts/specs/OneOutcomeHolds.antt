@@ -3,8 +3,8 @@ use mathlib.Core.List.{List}
 use mathlib.Core.Path.{_≡_, sym, _∙_}
 use Prim.Native.Nat.{ℕ}
 use Rattle.paper.specs.Calls.{Written, Changed, packCall, unpackCall, shortenCall, expandCall, startCall, stepCall, runCall}
-use Rattle.spokeshaver.specs.Contracts.{Wrote, Left}
-use Rattle.spokeshaver.specs.OneOutcome.{OneOutcome}
+use Rattle.contracts.specs.Contracts.{Wrote, Left}
+use Rattle.contracts.specs.OneOutcome.{OneOutcome}
 
 -- Two outcomes that both are what a call promises are one.
 one-written : (w : Written) (r s : ℕ) (out′ out″ : List ℕ) → Wrote w r out′ → Wrote w s out″ → (r ≡ s) × (out′ ≡ out″)

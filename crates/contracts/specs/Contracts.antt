@@ -1,6 +1,6 @@
 -- What each exported call promises of its answer r and of what it leaves in each buffer that it was lent, whatever it was lent: an equation with the
--- paper's definition of the call. The contracts in src/lib.rt are these; OneOutcome says that they leave nothing open, and Promises of the crate `promises` what
--- follows from them. Assumes nothing.
+-- paper's definition of the call. The contracts of the crate `spokeshaver` are these; OneOutcome says that they leave nothing open, and Promises of the crate
+-- `promises` what follows from them. Assumes nothing.
 use mathlib.Core.Path.{_≡_}
 use mathlib.Core.List.{List}
 use Prim.Native.Nat.{ℕ, _/_, _%_, _^_}
