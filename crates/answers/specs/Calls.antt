@@ -20,7 +20,7 @@ use Rattle.paper.specs.Machine.{State, step, stops, stopsOn, run}
 use Rattle.paper.specs.Jump.{fetch}
 use Rattle.paper.specs.State.{stateOf, stateLegal}
 use Rattle.paper.specs.Packing.{Form, relay}
-use Rattle.paper.specs.Calls.{Answer, refusal, verdict, Written, deliver, sized, accepted, judgedKernel, checkedAs, checkCall, relaid, packCall, unpackCall}
+use Rattle.paper.specs.Calls.{Answer, verdict, refusal, numberOf, Written, deliver, sized, accepted, judgedKernel, checkedAs, checkCall, relaid, packCall, unpackCall}
 use Rattle.paper.specs.Calls.{oneWord, shortened, shortenCall, expandCall, judgedAs, decodeAt, decodedAs, decodeCall, startCall}
 use Rattle.paper.specs.Calls.{Changed, allSized, onState, steppedAs, stepCall, ranAs, runCall}
 use Rattle.laws.specs.Bytes.{length-bytesOf}
@@ -41,7 +41,7 @@ by-cond Q false x y h g = g refl
 
 -- An answer's number is one of those asked for, and the answer fits.
 pub record Fine (numbers : ℕ → Bool) (a : Answer) : Type 0 where
-  pub listed : numbers (a .number) ≡ true
+  pub listed : numbers (numberOf a) ≡ true
   pub small : Small a
 
 -- A refusal of up to 17 at an offset up to 16,384.

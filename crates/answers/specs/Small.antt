@@ -2,13 +2,13 @@
 use mathlib.Core.Path.{_≡_, subst}
 use Prim.Native.Nat.{ℕ, _/_, _%_, _^_, _<_}
 use native.Mathlib.Omega.{arith}
-use Rattle.paper.specs.Calls.{Answer, asNumber, refusal, verdict}
+use Rattle.paper.specs.Calls.{Answer, verdict, refusal, asNumber, numberOf, offsetOf, countOf}
 
 -- An answer fits: its number in 8 bits, its offset in 24, its count in 32.
 pub record Small (a : Answer) : Type 0 where
-  pub number : a .number < 2 ^ 8
-  pub offset : a .offset < 2 ^ 24
-  pub count : a .count < 2 ^ 32
+  pub number : numberOf a < 2 ^ 8
+  pub offset : offsetOf a < 2 ^ 24
+  pub count : countOf a < 2 ^ 32
 
 -- A refusal and a verdict fit if their parts do.
 pub small-refusal : (number offset : ℕ) → number < 2 ^ 8 → offset < 2 ^ 24 → Small (refusal number offset)
@@ -24,19 +24,23 @@ small-as a b e s = subst Small e s
 -- ---- taking the number apart, as C does
 
 -- The low 8 bits are the number, the next 24 the offset, the high 32 the count.
-pub number-back : (a : Answer) → Small a → asNumber a % 2 ^ 8 ≡ a .number
+pub number-back : (a : Answer) → Small a → asNumber a % 2 ^ 8 ≡ numberOf a
 unfolding asNumber
-number-back a s = omega (arith, s .number, s .offset, s .count)
+number-back (verdict number count) s = omega (arith, s .number)
+number-back (refusal number offset) s = omega (arith, s .number)
 
-pub offset-back : (a : Answer) → Small a → asNumber a / 2 ^ 8 % 2 ^ 24 ≡ a .offset
+pub offset-back : (a : Answer) → Small a → asNumber a / 2 ^ 8 % 2 ^ 24 ≡ offsetOf a
 unfolding asNumber
-offset-back a s = omega (arith, s .number, s .offset, s .count)
+offset-back (verdict number count) s = omega (arith, s .number)
+offset-back (refusal number offset) s = omega (arith, s .number, s .offset)
 
-pub count-back : (a : Answer) → Small a → asNumber a / 2 ^ 32 ≡ a .count
+pub count-back : (a : Answer) → Small a → asNumber a / 2 ^ 32 ≡ countOf a
 unfolding asNumber
-count-back a s = omega (arith, s .number, s .offset, s .count)
+count-back (verdict number count) s = omega (arith, s .number)
+count-back (refusal number offset) s = omega (arith, s .number, s .offset)
 
 -- The number has 64 bits.
 pub number-fits : (a : Answer) → Small a → asNumber a < 2 ^ 64
 unfolding asNumber
-number-fits a s = omega (arith, s .number, s .offset, s .count)
+number-fits (verdict number count) s = omega (arith, s .number, s .count)
+number-fits (refusal number offset) s = omega (arith, s .number, s .offset)

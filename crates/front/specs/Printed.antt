@@ -1,13 +1,13 @@
 -- The four numbers that the checking program prints (the paper, "The checking program"). Assumes nothing.
-use mathlib.Core.Bool.{Bool, true, false, cond, _&&_}
+use mathlib.Core.Bool.{Bool, true, false, _&&_}
 use mathlib.Core.List.{List}
 use mathlib.Core.Path.{_≡_, refl, sym, ap, _∙_}
 use Prim.Native.Nat.{ℕ, _<_, _≤_}
 use native.Mathlib.Omega.{arith}
-use lib.Dec.{eqb, leb}
+use lib.Dec.{leb}
 use lib.ListN.{length, take, length-take}
 use borrow.Author.Tests.{lt-leb}
-use Rattle.paper.specs.Calls.{Answer, checkCall, accepted}
+use Rattle.paper.specs.Calls.{Answer, verdict, refusal, checkCall, accepted}
 use Rattle.front.specs.declared.report.Report.{Report}
 
 -- Named as the lines are.
@@ -19,8 +19,8 @@ pub record Printed : Type 0 where
 
 -- The kernel's length stands last where it is accepted, and 0 where it is refused.
 unfoldable pub printedAs : Answer → ℕ → Printed
-printedAs a length =
-    record { verdict = a .number; at = a .offset; instructions = a .count; bytes = cond (eqb (a .number) 0) length 0 }
+printedAs (verdict number count) length = record { verdict = number; at = 0; instructions = count; bytes = length }
+printedAs (refusal number offset) length = record { verdict = number; at = offset; instructions = 0; bytes = 0 }
 
 unfoldable pub printed : List ℕ → List ℕ → Printed
 printed dictionary kernel = printedAs (checkCall dictionary kernel) (length kernel)

@@ -10,21 +10,15 @@ use lib.ListN.{length, take, drop}
 use borrow.Author.Tests.{le-leb, lt-leb, leb-false, ltb-true, ltb-false}
 use Rattle.paper.specs.Dictionary.{dictionaryOf, inRange}
 use Rattle.paper.specs.Kernel.{longAndShort, Judged, refused, passed, judgeAt, good}
-use Rattle.paper.specs.Calls.{Answer, refusal, verdict, sized, accepted, checkedAs, checkCall, undecoded, decoded, judgedAs, decodeAt, decodePart}
+use Rattle.paper.specs.Calls.{verdict, refusal, sized, accepted, checkedAs, checkCall, undecoded, decoded, judgedAs, decodeAt, decodedAs, decodeCall, decodePart}
 use Rattle.paper.specs.Calls as paper
 use Rattle.words.specs.Words.{toWord}
 use Rattle.kernel.specs.declared.walk.Scan.{Scan}
-use Rattle.kernel.specs.declared.check.Checked.{Checked}
-use Rattle.kernel.specs.declared.check.Checked.the-variants as checked
 use Rattle.kernel.specs.declared.decode.Decoded.{Decoded}
 use Rattle.kernel.specs.declared.decode.Decoded.the-variants.{Refused, Passed}
 use Rattle.kernel.specs.Standing.{fits}
 use Rattle.kernel.specs.Marks.{Says, says-refused, says-accepted}
 use Rattle.kernel.specs.Accepting.{right-sizes}
-
-abbrev pub checkedIs : Checked → Answer
-checkedIs (checked.Accepted count) = verdict 0 count
-checkedIs (checked.Refused number offset) = refusal number offset
 
 abbrev pub decodedIs : Decoded → paper.Decoded
 decodedIs (Refused number offset) = undecoded number offset
@@ -64,6 +58,12 @@ module _ (dictionary kernel : List ℕ) (place : ℕ) where
           → decodeAt dictionary kernel place ≡ judgedAs (8 * place) v
       unfolding decodeAt
       decode-inside v h j = rw (right, range, lt-leb _ _ (ltb-true _ _ h), j)
+
+  -- ---- the answer
+
+  pub size-as : (d : paper.Decoded) → decodeAt dictionary kernel place ≡ d → decodedAs d ≡ decodeCall dictionary kernel place
+  unfolding decodeCall
+  size-as d e = ap decodedAs (sym e)
 
   -- ---- the part
 

@@ -3,12 +3,14 @@ use crate::accept::is_sized;
 use crate::instruction::Judged;
 use crate::instruction::judge_at;
 use short::dictionary::in_range;
+use words::answer::Answer;
 use words::bytes::Word;
 ghost use mathlib.Core.Path.{_≡_};
 ghost use Prim.Native.Nat.{_*_, _≤_};
 ghost use lib.Dec.{ltb};
 ghost use lib.ListN.{length};
-ghost use Rattle.paper.specs.Calls.{decodeAt, decodePart};
+ghost use Rattle.paper.specs.Calls.{decodeAt, decodeCall, decodePart};
+ghost use Rattle.words.specs.Answer.{answerIs};
 ghost use Rattle.kernel.specs.Answers.{decodedIs};
 
 // A refusal's number and offset; or the instruction's size in places of 8 bytes, and its word.
@@ -45,6 +47,16 @@ pub fn decode(dictionary: &[u8], kernel: &[u8], place: u64) -> Decoded
     match judge_at(false, dictionary, kernel, from) {
         Judged::Refused(number) => Decoded::Refused(number, from as u64),
         Judged::Passed(size, w) => Decoded::Passed(size, w),
+    }
+}
+
+// The count is how many bytes that instruction has.
+pub fn decode_size(dictionary: &[u8], kernel: &[u8], place: u64) -> Answer
+    ensures { λ r. ⌜ answerIs r ≡ decodeCall (now (dictionary .entry)) (now (kernel .entry)) place ⌝ }
+{
+    match decode(dictionary, kernel, place) {
+        Decoded::Refused(number, offset) => Answer::Refused(number, offset),
+        Decoded::Passed(size, _) => Answer::Told(0, 8 * (size as u64)),
     }
 }
 

@@ -22,7 +22,7 @@ use Rattle.paper.specs.Jump.{fetch}
 use Rattle.paper.specs.Machine.{State, step, stops, stopsOn, runWith, run, startFrom, start}
 use Rattle.paper.specs.State.{stateOf, stateLegal, stateBytes}
 use Rattle.paper.specs.Packing.{Form, relay}
-use Rattle.paper.specs.Calls.{Answer, refusal, verdict, Written, kept, deliver, judgedKernel, accepted, relaid, packCall, unpackCall, oneWord}
+use Rattle.paper.specs.Calls.{Answer, verdict, refusal, numberOf, countOf, Written, kept, deliver, judgedKernel, accepted, relaid, packCall, unpackCall, oneWord}
 use Rattle.paper.specs.Calls.{shortened, shortenCall, expandCall}
 use Rattle.paper.specs.Calls.{Decoded, undecoded, decoded, decodeAt, decodedAs, decodeCall, partOf, decodePart, startCall}
 use Rattle.paper.specs.Calls.{Changed, unchanged, allSized, onState, steppedAs, stepCall, ranAs, runCall}
@@ -32,9 +32,9 @@ use Rattle.laws.specs.StateBytes.{length-stateBytes}
 
 -- What such a call leaves of the buffer `out`: all of it unless the answer is 0; what stands past the count's bytes, and its length, in any case.
 pub record Confined (out : List ℕ) (r : Written) : Type 0 where
-  pub refused : (r .answer .number ≡ 0 → ⊥) → r .output ≡ out
-  pub fits : r .answer .count ≤ length out
-  pub rest : drop (r .answer .count) (r .output) ≡ drop (r .answer .count) out
+  pub refused : (numberOf (r .answer) ≡ 0 → ⊥) → r .output ≡ out
+  pub fits : countOf (r .answer) ≤ length out
+  pub rest : drop (countOf (r .answer)) (r .output) ≡ drop (countOf (r .answer)) out
   pub same : length (r .output) ≡ length out
 
 -- A refusal leaves all.
@@ -116,12 +116,12 @@ expand-confined dictionary word out =
 -- ---- decode
 
 -- A refused decode lends out no bytes.
-pub decode-refused : (dictionary kernel : List ℕ) (place : ℕ) → (decodeCall dictionary kernel place .number ≡ 0 → ⊥)
+pub decode-refused : (dictionary kernel : List ℕ) (place : ℕ) → (numberOf (decodeCall dictionary kernel place) ≡ 0 → ⊥)
     → decodePart dictionary kernel place ≡ []
 unfolding decodeCall decodePart
 decode-refused dictionary kernel place = go (decodeAt dictionary kernel place)
   where
-    go : (d : Decoded) → (decodedAs d .number ≡ 0 → ⊥) → partOf kernel (8 * place) d ≡ []
+    go : (d : Decoded) → (numberOf (decodedAs d) ≡ 0 → ⊥) → partOf kernel (8 * place) d ≡ []
     go (undecoded number offset) h = refl
     go (decoded size w) h = absurd (h refl)
 
@@ -135,7 +135,7 @@ sixteen mask n (suc c) = ap suc (sixteen mask (suc n) c)
 
 -- What a start leaves of the state's bytes: all of them unless the answer is 0, and their length in any case.
 pub record StartConfined (bytes : List ℕ) (r : Written) : Type 0 where
-  pub refused : (r .answer .number ≡ 0 → ⊥) → r .output ≡ bytes
+  pub refused : (numberOf (r .answer) ≡ 0 → ⊥) → r .output ≡ bytes
   pub same : length (r .output) ≡ length bytes
 
 -- A refused start leaves the state as it was, and any start its length.
@@ -181,7 +181,7 @@ same registers bytes a = record { sameRegisters = refl; sameState = refl }
 
 -- A step that does not answer 0 changes nothing: a refusal does not, nor does 20, the end.
 pub step-unchanged : (dictionary kernel registers bytes : List ℕ)
-    → (stepCall dictionary kernel registers bytes .answer .number ≡ 0 → ⊥)
+    → (numberOf (stepCall dictionary kernel registers bytes .answer) ≡ 0 → ⊥)
     → Unchanged registers bytes (stepCall dictionary kernel registers bytes)
 unfolding stepCall
 step-unchanged dictionary kernel registers bytes =
@@ -191,7 +191,7 @@ step-unchanged dictionary kernel registers bytes =
     (λ n. same registers bytes (refusal 1 0))
   where
     Q : Changed → Type 0
-    Q r = (r .answer .number ≡ 0 → ⊥) → Unchanged registers bytes r
+    Q r = (numberOf (r .answer) ≡ 0 → ⊥) → Unchanged registers bytes r
 
     stepped : (o : Option ℕ) (after : State) → Q (steppedAs o registers bytes after)
     stepped none after n = absurd (n refl)
@@ -231,8 +231,8 @@ run-verdict k (suc n) s = go (run-verdict k n (step k s)) (fetch k (s .place)) r
 
 -- A run that answers neither 20 nor 21 changes nothing.
 pub run-unchanged : (dictionary kernel : List ℕ) (budget : ℕ) (registers bytes : List ℕ)
-    → (runCall dictionary kernel budget registers bytes .answer .number ≡ 20 → ⊥)
-    → (runCall dictionary kernel budget registers bytes .answer .number ≡ 21 → ⊥)
+    → (numberOf (runCall dictionary kernel budget registers bytes .answer) ≡ 20 → ⊥)
+    → (numberOf (runCall dictionary kernel budget registers bytes .answer) ≡ 21 → ⊥)
     → Unchanged registers bytes (runCall dictionary kernel budget registers bytes)
 unfolding runCall
 run-unchanged dictionary kernel budget registers bytes =
@@ -242,4 +242,4 @@ run-unchanged dictionary kernel budget registers bytes =
     (λ k s e t. absurd (⊎-elim e t (run-verdict k budget s))) (judgedKernel longAndShort dictionary kernel)))
   where
     Q : Changed → Type 0
-    Q r = (r .answer .number ≡ 20 → ⊥) → (r .answer .number ≡ 21 → ⊥) → Unchanged registers bytes r
+    Q r = (numberOf (r .answer) ≡ 20 → ⊥) → (numberOf (r .answer) ≡ 21 → ⊥) → Unchanged registers bytes r

@@ -21,7 +21,7 @@ use Rattle.paper.specs.Jump.{endOf, fetch}
 use Rattle.paper.specs.Machine.{Channel, off, awake, waiting, State, step, stops, Outcome, run, runWith, startFrom, start}
 use Rattle.paper.specs.State.{stateOf, stateLegal, stateLands, allThree, stateBytes}
 use Rattle.paper.specs.Packing.{packed, unpacked, relay}
-use Rattle.paper.specs.Calls.{Answer, Written, Changed, verdict, deliver, judgedKernel, sized, accepted, relaid, packCall, unpackCall, startCall, allSized, changedTo, onState, steppedAs, stepCall, ranAs, runCall}
+use Rattle.paper.specs.Calls.{Answer, verdict, numberOf, countOf, Written, Changed, deliver, judgedKernel, sized, accepted, relaid, packCall, unpackCall, startCall, allSized, changedTo, onState, steppedAs, stepCall, ranAs, runCall}
 use Rattle.laws.specs.Names.{Sound, named, namedOutcome, newEnd, relaidBy}
 use Rattle.laws.specs.Runs.{run-on}
 use Rattle.laws.specs.Same.{start-lands, state-names, demand-3}
@@ -81,7 +81,7 @@ module _ (dictionary kernel : List ℕ) (k : List Instr) (sound : Sound k) (near
       → let one = stepCall dictionary kernel (s .store .registers) (stateBytes s) in
       let rest = runCall dictionary kernel n (one .registers) (one .state) in
       runCall dictionary kernel (suc n) (s .store .registers) (stateBytes s)
-      ≡ record { answer = record { number = rest .answer .number; offset = 0; count = suc (rest .answer .count) }; registers = rest .registers; state = rest .state }
+      ≡ record { answer = verdict (numberOf (rest .answer)) (suc (countOf (rest .answer))); registers = rest .registers; state = rest .state }
   run-steps s l e n le =
       let r = stored-ready s l in
       let b = stored-back s l in

@@ -3,13 +3,13 @@ use crate::channels::Channels;
 use crate::state::State;
 use crate::state::write_state;
 use execute::flags::Flags;
-use words::wrote::Wrote;
+use words::answer::Answer;
 ghost use mathlib.Core.Path.{_≡_};
 ghost use mathlib.Core.List.{List};
 ghost use Prim.Native.Nat.{ℕ};
 ghost use Rattle.paper.specs.Calls.{startCall};
 ghost use Rattle.laws.specs.Demands.{begun};
-ghost use Rattle.words.specs.Wrote.{wroteAs};
+ghost use Rattle.words.specs.Answer.{Wrote};
 ghost use Rattle.machine.specs.States.{stateIs, SaneState};
 
 // The state at a start.
@@ -33,13 +33,12 @@ pub fn started(mask: u16, flag0: u16, flag1: u16) -> State
 }
 
 // Writes the state at a start to bytes that are lent for it. 1 where they are not 42; they then stay as they are.
-pub fn start(mask: u16, flag0: u16, flag1: u16, bytes: &mut [u8]) -> Wrote
-    ensures { λ r. ⌜ (wroteAs r ≡ startCall mask flag0 flag1 (now (bytes .entry)) .answer)
-        × (now (bytes .exit) ≡ startCall mask flag0 flag1 (now (bytes .entry)) .output) ⌝ }
+pub fn start(mask: u16, flag0: u16, flag1: u16, bytes: &mut [u8]) -> Answer
+    ensures { λ r. ⌜ Wrote (startCall mask flag0 flag1 (now (bytes .entry))) r (now (bytes .exit)) ⌝ }
 {
     if bytes.len() != 42 {
-        return Wrote::Refused(1, 0);
+        return Answer::Refused(1, 0);
     }
     write_state(bytes, started(mask, flag0, flag1));
-    Wrote::Fine(0)
+    Answer::Told(0, 0)
 }

@@ -21,21 +21,28 @@ use Rattle.paper.specs.Packing.{Form, relay}
 
 -- ---- answers
 
--- A number of the paper's list, the byte offset of the refused instruction, and a count.
-pub record Answer : Type 0 where
-  pub number : ℕ
-  pub offset : ℕ
-  pub count : ℕ
+-- A verdict: a number of the paper's list and a count. A refusal: its number and the byte offset of the refused instruction.
+pub data Answer : Type 0 where
+  verdict : ℕ → ℕ → Answer
+  refusal : ℕ → ℕ → Answer
 
 -- The one number in which an answer crosses to C.
 unfoldable pub asNumber : Answer → ℕ
-asNumber a = a .number + 2 ^ 8 * a .offset + 2 ^ 32 * a .count
+asNumber (verdict number count) = number + 2 ^ 32 * count
+asNumber (refusal number offset) = number + 2 ^ 8 * offset
 
-abbrev pub refusal : ℕ → ℕ → Answer
-refusal number offset = record { number = number; offset = offset; count = 0 }
+-- Its three parts; what an answer does not tell is 0.
+abbrev pub numberOf : Answer → ℕ
+numberOf (verdict number count) = number
+numberOf (refusal number offset) = number
 
-abbrev pub verdict : ℕ → ℕ → Answer
-verdict number count = record { number = number; offset = 0; count = count }
+abbrev pub offsetOf : Answer → ℕ
+offsetOf (verdict number count) = 0
+offsetOf (refusal number offset) = offset
+
+abbrev pub countOf : Answer → ℕ
+countOf (verdict number count) = count
+countOf (refusal number offset) = 0
 
 -- An answer and what one lent buffer then holds.
 pub record Written : Type 0 where

@@ -11,7 +11,7 @@ use Rattle.paper.specs.Value.{value, modified, stored}
 use Rattle.paper.specs.Element.{result}
 use Rattle.paper.specs.Region.{srcElement}
 use Rattle.paper.specs.Word.{src0}
-use Rattle.paper.specs.Calls.{Answer, Written, Changed, checkCall, packCall, unpackCall, shortenCall, expandCall, runCall, stepCall}
+use Rattle.paper.specs.Calls.{Answer, numberOf, offsetOf, countOf, Written, Changed, checkCall, packCall, unpackCall, shortenCall, expandCall, runCall, stepCall}
 use Rattle.paper.specs.Assembler.{dwords, to, from0, from1, immediate0, immediate1, op, structuredTo, jmpiTo, nopWord, long, numbers, zeros, blankDictionary, dictionaryA, clear, ramp, begin}
 
 pub record Row : Type 0 where
@@ -24,7 +24,7 @@ got gives want = record { got = got; want = want }
 
 -- An answer's three numbers.
 unfoldable pub shown : Answer → List ℕ
-shown a = a .number ∷ a .offset ∷ a .count ∷ []
+shown a = numberOf a ∷ offsetOf a ∷ countOf a ∷ []
 
 -- An answer's three numbers and the output.
 unfoldable pub written : Written → List ℕ

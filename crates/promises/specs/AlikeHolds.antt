@@ -13,7 +13,7 @@ use Rattle.paper.specs.Shorten.{shorten}
 use Rattle.paper.specs.Kernel.{Instr, longAndShort, longOnly, good}
 use Rattle.paper.specs.Machine.{State, Outcome, run}
 use Rattle.paper.specs.State.{stateOf}
-use Rattle.paper.specs.Calls.{asNumber, verdict, Changed, accepted, ranAs, runCall}
+use Rattle.paper.specs.Calls.{asNumber, verdict, Changed, accepted, ranAs, runCall, numberOf}
 use Rattle.laws.specs.Names.{named, namedOutcome, program, relaidBy, longForm}
 use Rattle.laws.specs.Same.{same-runs}
 use Rattle.laws.specs.Packing.{kernel-of, long-accepted, packed-accepted, packed-program, unpacked-accepted, unpacked-program, accepted-parts}
@@ -85,7 +85,7 @@ module _ (dictionary kernel : List ℕ) (right : areBytes kernel ≡ true) (k : 
     pub after-verdict : (numberIn r ≡ 20) ⊎ (numberIn r ≡ 21)
     after-verdict =
         let n : numberIn r ≡ outcome .verdict =
-        answers .run dictionary kernel budget registers state r registers₁ state₁ p .number ∙ ap (λ (c : Changed). c .answer .number) made in
+        answers .run dictionary kernel budget registers state r registers₁ state₁ p .number ∙ ap (λ (c : Changed). numberOf (c .answer)) made in
         elim (run-verdict k budget (stateOf registers state)) [ inl e ↦ inl (n ∙ e) | inr e ↦ inr (n ∙ e) ]
 
     after-state : stateOf registers₁ state₁ ≡ outcome .state

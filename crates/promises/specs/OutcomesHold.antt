@@ -6,7 +6,7 @@ use mathlib.Core.Path.{_≡_, sym, ap, _∙_}
 use Prim.Native.Nat.{ℕ, _*_}
 use native.Mathlib.Omega.{arith}
 use lib.ListN.{length, take, drop}
-use Rattle.paper.specs.Calls.{Answer, asNumber, Written, checkCall, packCall, unpackCall, shortenCall, expandCall, decodeCall, decodePart, startCall, stepCall, runCall}
+use Rattle.paper.specs.Calls.{Answer, asNumber, Written, checkCall, packCall, unpackCall, shortenCall, expandCall, decodeCall, decodePart, startCall, stepCall, runCall, numberOf}
 use Rattle.laws.specs.Calls.{Confined, pack-confined, unpack-confined, shorten-confined, expand-confined, start-confined, decode-refused, step-unchanged, run-unchanged}
 use Rattle.contracts.specs.Contracts.{numberIn, offsetIn, countIn, Wrote}
 use Rattle.answers.specs.Numbers.{checkNumbers, packNumbers, unpackNumbers, shortenNumbers, expandNumbers, decodeNumbers, startNumbers, stepNumbers, runNumbers}
@@ -21,7 +21,7 @@ use Rattle.answers.specs.Calls.{Fine, check-fine, pack-fine, unpack-fine, short
 -- The three parts of an answer that fits in the one number.
 told : (numbers : ℕ → Bool) (a : Answer) (r : ℕ) → Fine numbers a → r ≡ asNumber a → Told numbers a r
 told numbers a r f e =
-    let n : numberIn r ≡ a .number = ap numberIn e ∙ number-back a (f .small) in
+    let n : numberIn r ≡ numberOf a = ap numberIn e ∙ number-back a (f .small) in
     record {
       listed = ap numbers n ∙ f .listed;
       number = n;

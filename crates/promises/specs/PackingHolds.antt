@@ -12,7 +12,7 @@ use Rattle.paper.specs.Dictionary.{Dictionary, dictionaryOf}
 use Rattle.paper.specs.Shorten.{shorten}
 use Rattle.paper.specs.Kernel.{Instr, Forms, longAndShort, longOnly, good}
 use Rattle.paper.specs.Packing.{Form, encode, relay}
-use Rattle.paper.specs.Calls.{Answer, asNumber, verdict, Written, accepted, packCall, unpackCall}
+use Rattle.paper.specs.Calls.{Answer, asNumber, verdict, Written, accepted, packCall, unpackCall, numberOf, countOf}
 use Rattle.laws.specs.Bytes.{bytes-append, bytes-bytesOf}
 use Rattle.laws.specs.Names.{lineOf, program, relaidBy, longForm}
 use Rattle.laws.specs.Items.{Item, itemBytes, allBytes, instrsFrom}
@@ -36,10 +36,10 @@ pub record Relaid (forms : Forms) (form : Form) (dictionary kernel bytes : List 
 
 -- What was written, where the answer is 0.
 relaid-of : (forms : Forms) (form : Form) (dictionary kernel out : List ℕ) (w : Written) → Writes form out (accepted forms dictionary kernel) w
-    → (r : ℕ) (out′ : List ℕ) → countIn r ≡ w .answer .count → out′ ≡ w .output → Relaid forms form dictionary kernel (result r out′)
+    → (r : ℕ) (out′ : List ℕ) → countIn r ≡ countOf (w .answer) → out′ ≡ w .output → Relaid forms form dictionary kernel (result r out′)
 relaid-of forms form dictionary kernel out w v r out′ c e =
     let bytes = relay form (v .instrs) in
-    let count : countIn r ≡ length bytes = c ∙ ap (λ (x : Written). x .answer .count) (v .whole) in
+    let count : countIn r ≡ length bytes = c ∙ ap (λ (x : Written). countOf (x .answer)) (v .whole) in
     record {
       instrs = v .instrs;
       given = v .are;
@@ -99,7 +99,7 @@ module _ (dictionary kernel out : List ℕ) (right : areBytes kernel ≡ true) (
       let short = accepted-checks dictionary (result r out′) (instrsFrom 0 (g .items)) (g .taken) in
       let many : length (instrsFrom 0 (g .items)) ≡ length (g .instrs) =
       sym (length-map (instrsFrom 0 (g .items)) (lineOf (instrsFrom 0 (g .items)))) ∙ ap length (g .same) ∙ length-map (g .instrs) (lineOf (g .instrs)) in (
-        answers .check dictionary (result r out′) b d .number ∙ ap (λ (x : Answer). x .number) short,
+        answers .check dictionary (result r out′) b d .number ∙ ap numberOf short,
         c ∙ ap asNumber (long ∙ ap (verdict 0) (sym many) ∙ sym short) ∙ sym d,
       )
 
@@ -110,7 +110,7 @@ module _ (dictionary kernel out : List ℕ) (right : areBytes kernel ≡ true) (
       let w = pack-wrote in
       let t = answers .unpack dictionary (result r out′) back u back′ q in
       let d = ap (λ (x : List ℕ). unpackCall dictionary x back) (w .are) ∙ unpack-delivers dictionary kernel right (w .instrs) (w .given) back room in
-      (t .number ∙ ap (λ (x : Written). x .answer .number) d, t .count ∙ ap (λ (x : Written). x .answer .count) d, q .1 ∙ ap (λ (x : Written). x .output) d)
+      (t .number ∙ ap (λ (x : Written). numberOf (x .answer)) d, t .count ∙ ap (λ (x : Written). countOf (x .answer)) d, q .1 ∙ ap (λ (x : Written). x .output) d)
 
 -- ---- unpacking
 
@@ -149,7 +149,7 @@ check-counts dictionary kernel c checked zero =
     record {
       instrs = g .instrs;
       are = g .are;
-      count = t .count ∙ ap (λ (x : Answer). x .count) (accepted-checks dictionary kernel (g .instrs) (g .are));
+      count = t .count ∙ ap countOf (accepted-checks dictionary kernel (g .instrs) (g .are));
     }
 
 -- ---- the demand

@@ -18,7 +18,7 @@ use Rattle.paper.specs.Shorten.{Shortens, Least}
 use Rattle.paper.specs.Kernel.{Instr, longAndShort, longOnly, good}
 use Rattle.paper.specs.State.{half, channelsIn, stateLegal}
 use Rattle.paper.specs.Packing.{index}
-use Rattle.paper.specs.Calls.{Answer, accepted, checkCall, packCall, unpackCall, shortenCall, expandCall, decodeCall, decodePart, startCall, stepCall, runCall}
+use Rattle.paper.specs.Calls.{Answer, accepted, checkCall, packCall, unpackCall, shortenCall, expandCall, decodeCall, decodePart, startCall, stepCall, runCall, numberOf, offsetOf, countOf}
 use Rattle.laws.specs.Names.{renameC, program}
 use Rattle.laws.specs.Items.{Item, allBytes, instrsFrom}
 use Rattle.laws.specs.Packing.{AllShortest}
@@ -32,9 +32,9 @@ use Rattle.answers.specs.Numbers.{checkNumbers, packNumbers, unpackNumbers, sho
 -- An answer says what the paper's answer says: the number is one of a list, and number, offset and count are the paper's, none spoilt by another.
 pub record Told (numbers : ℕ → Bool) (a : Answer) (r : ℕ) : Type 0 where
   pub listed : numbers (numberIn r) ≡ true
-  pub number : numberIn r ≡ a .number
-  pub offset : offsetIn r ≡ a .offset
-  pub count : countIn r ≡ a .count
+  pub number : numberIn r ≡ numberOf a
+  pub offset : offsetIn r ≡ offsetOf a
+  pub count : countIn r ≡ countOf a
 
 -- Each call's answer is so, with the call's own list (Numbers).
 pub record Answers : Type 0 where

@@ -15,7 +15,7 @@ use Rattle.paper.specs.Kernel.{Instr, longAndShort, longOnly, Judged, refused, 
 use Rattle.paper.specs.Machine.{start}
 use Rattle.paper.specs.State.{stateBytes}
 use Rattle.paper.specs.Packing.{Form, relay}
-use Rattle.paper.specs.Calls.{refusal, verdict, Written, kept, deliver, accepted, checkedAs, checkCall, relaid, packCall, unpackCall, startCall}
+use Rattle.paper.specs.Calls.{refusal, verdict, Written, kept, deliver, accepted, checkedAs, checkCall, relaid, packCall, unpackCall, startCall, numberOf, countOf}
 use Rattle.paper.specs.Calls.{Answer, sized, Decoded, undecoded, decoded, partOf, decodePart, judgedAs, decodeAt, decodedAs, decodeCall}
 use Rattle.laws.specs.Names.{longForm}
 use Rattle.laws.specs.Judged.{Passed, asLong, asShort, judge-passed}
@@ -44,11 +44,11 @@ pub record Instructions (q : Parsed) : Type 0 where
   pub are : q ≡ good instrs
 
 -- A kernel that check answers with 0 is accepted.
-pub check-accepts : (dictionary kernel : List ℕ) → checkCall dictionary kernel .number ≡ 0 → Instructions (accepted longAndShort dictionary kernel)
+pub check-accepts : (dictionary kernel : List ℕ) → numberOf (checkCall dictionary kernel) ≡ 0 → Instructions (accepted longAndShort dictionary kernel)
 unfolding checkCall
 check-accepts dictionary kernel = go (accepted longAndShort dictionary kernel) (accepted-near longAndShort dictionary kernel)
   where
-    go : (q : Parsed) → Near kernelBytes instructionLimit q → checkedAs q .number ≡ 0 → Instructions q
+    go : (q : Parsed) → Near kernelBytes instructionLimit q → numberOf (checkedAs q) ≡ 0 → Instructions q
     go (bad number offset) h e = absurd (near-no-zero number offset h e)
     go (good k) h e = record { instrs = k; are = refl }
 
@@ -59,40 +59,40 @@ abbrev pub wrote : List ℕ → List ℕ → Written
 wrote result out = record { answer = verdict 0 (length result); output = result ++ drop (length result) out }
 
 -- What an answer of 0 says of a result.
-pub deliver-fits : (result out : List ℕ) → deliver result out .answer .number ≡ 0 → deliver result out ≡ wrote result out
+pub deliver-fits : (result out : List ℕ) → numberOf (deliver result out .answer) ≡ 0 → deliver result out ≡ wrote result out
 unfolding deliver
 deliver-fits result out = go (ltb (length out) (length result))
   where
-    go : (b : Bool) → cond b (kept (refusal 14 0) out) (wrote result out) .answer .number ≡ 0
+    go : (b : Bool) → numberOf (cond b (kept (refusal 14 0) out) (wrote result out) .answer) ≡ 0
         → cond b (kept (refusal 14 0) out) (wrote result out) ≡ wrote result out
     go true e = absurd (omega arith)
     go false e = refl
 
 -- Where there is room, the answer is 0.
-pub deliver-room : (result out : List ℕ) → length result ≤ length out → deliver result out .answer .number ≡ 0
+pub deliver-room : (result out : List ℕ) → length result ≤ length out → numberOf (deliver result out .answer) ≡ 0
 unfolding deliver
 deliver-room result out room = go (ltb (length out) (length result)) refl
   where
-    go : (b : Bool) → ltb (length out) (length result) ≡ b → cond b (kept (refusal 14 0) out) (wrote result out) .answer .number ≡ 0
+    go : (b : Bool) → ltb (length out) (length result) ≡ b → numberOf (cond b (kept (refusal 14 0) out) (wrote result out) .answer) ≡ 0
     go true h = let less = ltb-true (length out) (length result) h in absurd (omega arith)
     go false h = refl
 
 -- 14 says that the output is shorter.
-deliver-full : (result out : List ℕ) → deliver result out .answer .number ≡ 14 → length out < length result
+deliver-full : (result out : List ℕ) → numberOf (deliver result out .answer) ≡ 14 → length out < length result
 unfolding deliver
 deliver-full result out = go (ltb (length out) (length result)) refl
   where
-    go : (b : Bool) → ltb (length out) (length result) ≡ b → cond b (kept (refusal 14 0) out) (wrote result out) .answer .number ≡ 14
+    go : (b : Bool) → ltb (length out) (length result) ≡ b → numberOf (cond b (kept (refusal 14 0) out) (wrote result out) .answer) ≡ 14
         → length out < length result
     go true h e = ltb-true (length out) (length result) h
     go false h e = absurd (omega arith)
 
 -- A result is never answered with 13.
-pub deliver-other : (result out : List ℕ) → deliver result out .answer .number ≡ 13 → ⊥
+pub deliver-other : (result out : List ℕ) → numberOf (deliver result out .answer) ≡ 13 → ⊥
 unfolding deliver
 deliver-other result out = go (ltb (length out) (length result))
   where
-    go : (b : Bool) → cond b (kept (refusal 14 0) out) (wrote result out) .answer .number ≡ 13 → ⊥
+    go : (b : Bool) → numberOf (cond b (kept (refusal 14 0) out) (wrote result out) .answer) ≡ 13 → ⊥
     go true e = omega arith
     go false e = omega arith
 
@@ -102,18 +102,18 @@ pub record Writes (form : Form) (out : List ℕ) (q : Parsed) (w : Written) : Ty
   pub are : q ≡ good instrs
   pub whole : w ≡ wrote (relay form instrs) out
 
-relaid-writes : (form : Form) (out : List ℕ) (q : Parsed) → Near kernelBytes instructionLimit q → relaid form out q .answer .number ≡ 0
+relaid-writes : (form : Form) (out : List ℕ) (q : Parsed) → Near kernelBytes instructionLimit q → numberOf (relaid form out q .answer) ≡ 0
     → Writes form out q (relaid form out q)
 relaid-writes form out (bad number offset) h e = absurd (near-no-zero number offset h e)
 relaid-writes form out (good k) h e = record { instrs = k; are = refl; whole = deliver-fits (relay form k) out e }
 
-pub pack-writes : (dictionary kernel out : List ℕ) → packCall dictionary kernel out .answer .number ≡ 0
+pub pack-writes : (dictionary kernel out : List ℕ) → numberOf (packCall dictionary kernel out .answer) ≡ 0
     → Writes (shorten (dictionaryOf dictionary)) out (accepted longOnly dictionary kernel) (packCall dictionary kernel out)
 unfolding packCall
 pack-writes dictionary kernel out =
     relaid-writes (shorten (dictionaryOf dictionary)) out (accepted longOnly dictionary kernel) (accepted-near longOnly dictionary kernel)
 
-pub unpack-writes : (dictionary kernel out : List ℕ) → unpackCall dictionary kernel out .answer .number ≡ 0
+pub unpack-writes : (dictionary kernel out : List ℕ) → numberOf (unpackCall dictionary kernel out .answer) ≡ 0
     → Writes longForm out (accepted longAndShort dictionary kernel) (unpackCall dictionary kernel out)
 unfolding unpackCall
 unpack-writes dictionary kernel out =
@@ -121,21 +121,21 @@ unpack-writes dictionary kernel out =
 
 -- An accepted kernel whose result has room is answered with 0.
 relaid-room : (form : Form) (out : List ℕ) (q : Parsed) (k : List Instr) → q ≡ good k → length (relay form k) ≤ length out
-    → relaid form out q .answer .number ≡ 0
-relaid-room form out q k given room = ap (λ (x : Parsed). relaid form out x .answer .number) given ∙ deliver-room (relay form k) out room
+    → numberOf (relaid form out q .answer) ≡ 0
+relaid-room form out q k given room = ap (λ (x : Parsed). numberOf (relaid form out x .answer)) given ∙ deliver-room (relay form k) out room
 
 pub pack-fits : (dictionary kernel out : List ℕ) (k : List Instr) → accepted longOnly dictionary kernel ≡ good k
-    → length (relay (shorten (dictionaryOf dictionary)) k) ≤ length out → packCall dictionary kernel out .answer .number ≡ 0
+    → length (relay (shorten (dictionaryOf dictionary)) k) ≤ length out → numberOf (packCall dictionary kernel out .answer) ≡ 0
 unfolding packCall
 pack-fits dictionary kernel out = relaid-room (shorten (dictionaryOf dictionary)) out (accepted longOnly dictionary kernel)
 
 pub unpack-fits : (dictionary kernel out : List ℕ) (k : List Instr) → accepted longAndShort dictionary kernel ≡ good k
-    → length (relay longForm k) ≤ length out → unpackCall dictionary kernel out .answer .number ≡ 0
+    → length (relay longForm k) ≤ length out → numberOf (unpackCall dictionary kernel out .answer) ≡ 0
 unfolding unpackCall
 unpack-fits dictionary kernel out = relaid-room longForm out (accepted longAndShort dictionary kernel)
 
 -- 14 is answered only where a result is longer than the output.
-relaid-full : (form : Form) (out : List ℕ) (q : Parsed) → Near kernelBytes instructionLimit q → relaid form out q .answer .number ≡ 14
+relaid-full : (form : Form) (out : List ℕ) (q : Parsed) → Near kernelBytes instructionLimit q → numberOf (relaid form out q .answer) ≡ 14
     → (k : List Instr) × (q ≡ good k) × (length out < length (relay form k))
 relaid-full form out (bad number offset) h e = absurd (no-fourteen number (near-number kernelBytes instructionLimit number offset h) e)
   where
@@ -144,13 +144,13 @@ relaid-full form out (bad number offset) h e = absurd (no-fourteen number (near-
     no-fourteen n (inr last) z = omega arith
 relaid-full form out (good k) h e = (k, refl, deliver-full (relay form k) out e)
 
-pub pack-full : (dictionary kernel out : List ℕ) → packCall dictionary kernel out .answer .number ≡ 14
+pub pack-full : (dictionary kernel out : List ℕ) → numberOf (packCall dictionary kernel out .answer) ≡ 14
     → (k : List Instr) × (accepted longOnly dictionary kernel ≡ good k) × (length out < length (relay (shorten (dictionaryOf dictionary)) k))
 unfolding packCall
 pack-full dictionary kernel out =
     relaid-full (shorten (dictionaryOf dictionary)) out (accepted longOnly dictionary kernel) (accepted-near longOnly dictionary kernel)
 
-pub unpack-full : (dictionary kernel out : List ℕ) → unpackCall dictionary kernel out .answer .number ≡ 14
+pub unpack-full : (dictionary kernel out : List ℕ) → numberOf (unpackCall dictionary kernel out .answer) ≡ 14
     → (k : List Instr) × (accepted longAndShort dictionary kernel ≡ good k) × (length out < length (relay longForm k))
 unfolding unpackCall
 unpack-full dictionary kernel out =
@@ -160,11 +160,11 @@ unpack-full dictionary kernel out =
 
 -- What is decoded has 8 or 16 bytes, which lie inside the kernel.
 pub record Inside (kernel : List ℕ) (from : ℕ) (a : Answer) : Type 0 where
-  pub size : (a .count ≡ 8) ⊎ (a .count ≡ 16)
-  pub ends : from + a .count ≤ length kernel
+  pub size : (countOf a ≡ 8) ⊎ (countOf a ≡ 16)
+  pub ends : from + countOf a ≤ length kernel
 
 judged-inside : (D : Dictionary) (kernel : List ℕ) (from : ℕ) → from < length kernel → (v : Judged) → judgeAt longAndShort D kernel from ≡ v → Modest v
-    → decodedAs (judgedAs from v) .number ≡ 0 → Inside kernel from (decodedAs (judgedAs from v))
+    → numberOf (decodedAs (judgedAs from v)) ≡ 0 → Inside kernel from (decodedAs (judgedAs from v))
 judged-inside D kernel from before (refused number) h m e = let a = modest-above number m in absurd (omega arith)
 judged-inside D kernel from before (passed size w) h m e = go size w (judge-passed longAndShort D kernel from before size w h)
   where
@@ -172,7 +172,7 @@ judged-inside D kernel from before (passed size w) h m e = go size w (judge-pass
     go size w (asLong room form listed legal) = record { size = inr refl; ends = room }
     go size w (asShort room form listed plain takes legal) = record { size = inl refl; ends = room }
 
-pub decode-inside : (dictionary kernel : List ℕ) (place : ℕ) → decodeCall dictionary kernel place .number ≡ 0
+pub decode-inside : (dictionary kernel : List ℕ) (place : ℕ) → numberOf (decodeCall dictionary kernel place) ≡ 0
     → Inside kernel (8 * place) (decodeCall dictionary kernel place)
 unfolding decodeCall decodeAt
 decode-inside dictionary kernel place =
@@ -183,7 +183,7 @@ decode-inside dictionary kernel place =
     (λ e. judged-inside D kernel (8 * place) (leb-false (length kernel) (8 * place) e) (judgeAt longAndShort D kernel (8 * place)) refl (judged-modest longAndShort D kernel (8 * place)))))
   where
     Q : Decoded → Type 0
-    Q d = decodedAs d .number ≡ 0 → Inside kernel (8 * place) (decodedAs d)
+    Q d = numberOf (decodedAs d) ≡ 0 → Inside kernel (8 * place) (decodedAs d)
 
     by-cond : (R : Decoded → Type 0) (b : Bool) (x y : Decoded) → R x → (b ≡ false → R y) → R (cond b x y)
     by-cond R true x y h g = h
@@ -191,26 +191,26 @@ decode-inside dictionary kernel place =
 
 -- The part that is handed back is as many bytes as the answer counts, from the place on.
 pub part-are : (dictionary kernel : List ℕ) (place : ℕ)
-    → decodePart dictionary kernel place ≡ take (decodeCall dictionary kernel place .count) (drop (8 * place) kernel)
+    → decodePart dictionary kernel place ≡ take (countOf (decodeCall dictionary kernel place)) (drop (8 * place) kernel)
 unfolding decodeCall decodePart
 part-are dictionary kernel place = go (decodeAt dictionary kernel place)
   where
-    go : (d : Decoded) → partOf kernel (8 * place) d ≡ take (decodedAs d .count) (drop (8 * place) kernel)
+    go : (d : Decoded) → partOf kernel (8 * place) d ≡ take (countOf (decodedAs d)) (drop (8 * place) kernel)
     go (undecoded number offset) = refl
     go (decoded size w) = refl
 
 -- A refusal counts nothing.
 decode-counts : (dictionary kernel : List ℕ) (place : ℕ)
-    → (decodeCall dictionary kernel place .number ≡ 0) ⊎ (decodeCall dictionary kernel place .count ≡ 0)
+    → (numberOf (decodeCall dictionary kernel place) ≡ 0) ⊎ (countOf (decodeCall dictionary kernel place) ≡ 0)
 unfolding decodeCall
 decode-counts dictionary kernel place = go (decodeAt dictionary kernel place)
   where
-    go : (d : Decoded) → (decodedAs d .number ≡ 0) ⊎ (decodedAs d .count ≡ 0)
+    go : (d : Decoded) → (numberOf (decodedAs d) ≡ 0) ⊎ (countOf (decodedAs d) ≡ 0)
     go (undecoded number offset) = inr refl
     go (decoded size w) = inl refl
 
 -- So many bytes are there.
-pub part-length : (dictionary kernel : List ℕ) (place : ℕ) → length (decodePart dictionary kernel place) ≡ decodeCall dictionary kernel place .count
+pub part-length : (dictionary kernel : List ℕ) (place : ℕ) → length (decodePart dictionary kernel place) ≡ countOf (decodeCall dictionary kernel place)
 part-length dictionary kernel place =
     elim (decode-counts dictionary kernel place) [
       | inl e ↦ rw (part-are dictionary kernel place) (length-part (8 * place) _ kernel (decode-inside dictionary kernel place e .ends))
@@ -223,12 +223,12 @@ part-length dictionary kernel place =
 -- ---- start
 
 -- A start that answers 0 was lent a state of the right length.
-pub start-fits : (mask flag0 flag1 : ℕ) (bytes : List ℕ) → startCall mask flag0 flag1 bytes .answer .number ≡ 0 → length bytes ≡ stateLength
+pub start-fits : (mask flag0 flag1 : ℕ) (bytes : List ℕ) → numberOf (startCall mask flag0 flag1 bytes .answer) ≡ 0 → length bytes ≡ stateLength
 unfolding startCall
 start-fits mask flag0 flag1 bytes = go (eqb (length bytes) stateLength) refl
   where
     go : (b : Bool) → eqb (length bytes) stateLength ≡ b
-        → cond b (record { answer = verdict 0 0; output = stateBytes (start (record { registers = []; flag0 = flag0; flag1 = flag1 }) mask) }) (kept (refusal 1 0) bytes) .answer .number ≡ 0
+        → numberOf (cond b (record { answer = verdict 0 0; output = stateBytes (start (record { registers = []; flag0 = flag0; flag1 = flag1 }) mask) }) (kept (refusal 1 0) bytes) .answer) ≡ 0
         → length bytes ≡ stateLength
     go true h e = eqb-true (length bytes) stateLength h
     go false h e = absurd (omega arith)

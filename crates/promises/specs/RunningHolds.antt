@@ -8,7 +8,7 @@ use native.Mathlib.Omega.{arith}
 use lib.Pow.{areBytes}
 use Rattle.paper.specs.Limits.{budgetLimit}
 use Rattle.paper.specs.Machine.{run}
-use Rattle.paper.specs.Calls.{asNumber, Changed, stepCall, runCall}
+use Rattle.paper.specs.Calls.{asNumber, Changed, stepCall, runCall, numberOf, countOf}
 use Rattle.laws.specs.Calls.{step-unchanged}
 use Rattle.laws.specs.Demands.{alike}
 use Rattle.contracts.specs.Contracts.{numberIn, countIn, CheckPromise, StepPromise, RunPromise}
@@ -29,10 +29,10 @@ module _ (dictionary kernel registers state : List ℕ) (right : areBytes kernel
       let t = answers .run dictionary kernel budget registers state r registers′ state′ p in
       let m = run-made dictionary kernel right budget le registers state small in
       let next : (a : ℕ) (registers″ state″ : List ℕ) → StepPromise dictionary kernel registers′ state′ a registers″ state″
-      → numberIn a ≡ (let c = runCall dictionary kernel budget registers state in stepCall dictionary kernel (c .registers) (c .state) .answer .number) =
+      → numberIn a ≡ (let c = runCall dictionary kernel budget registers state in numberOf (stepCall dictionary kernel (c .registers) (c .state) .answer)) =
       λ a registers″ state″ q.
       answers .step dictionary kernel registers′ state′ a registers″ state″ q .number
-      ∙ (λ i. stepCall dictionary kernel (p .1 i) (p .2 i) .answer .number) in
+      ∙ (λ i. numberOf (stepCall dictionary kernel (p .1 i) (p .2 i) .answer)) in
       record {
         steps = rw (t .count, p .1, p .2) (m .steps);
         within = rw (t .count) (m .within);
@@ -56,8 +56,8 @@ module _ (dictionary kernel registers state : List ℕ) (right : areBytes kernel
         (λ i. runCall dictionary kernel n (one .1 i) (one .2 i)) in
         let t = answers .run dictionary kernel n registers₁ state₁ b registers₂ state₂ rest in
         let u = answers .run dictionary kernel (suc n) registers state c registers₃ state₃ whole in (
-          u .number ∙ ap (λ (x : Changed). x .answer .number) law ∙ sym (t .number ∙ ap (λ (x : Changed). x .answer .number) from),
-          u .count ∙ ap (λ (x : Changed). x .answer .count) law ∙ ap suc (sym (t .count ∙ ap (λ (x : Changed). x .answer .count) from)),
+          u .number ∙ ap (λ (x : Changed). numberOf (x .answer)) law ∙ sym (t .number ∙ ap (λ (x : Changed). numberOf (x .answer)) from),
+          u .count ∙ ap (λ (x : Changed). countOf (x .answer)) law ∙ ap suc (sym (t .count ∙ ap (λ (x : Changed). countOf (x .answer)) from)),
           whole .1 ∙ ap (λ (x : Changed). x .registers) law ∙ sym (rest .1 ∙ ap (λ (x : Changed). x .registers) from),
           whole .2 ∙ ap (λ (x : Changed). x .state) law ∙ sym (rest .2 ∙ ap (λ (x : Changed). x .state) from),
         )
@@ -67,7 +67,7 @@ module _ (dictionary kernel registers state : List ℕ) (right : areBytes kernel
         → RunPromise dictionary kernel budget registers state r registers′ state′ → (r ≡ a) × (registers′ ≡ registers) × (state′ ≡ state)
     run-no-more other budget le r registers′ state′ p =
         let t = answers .step dictionary kernel registers state a registers₁ state₁ one in
-        let no : stepCall dictionary kernel registers state .answer .number ≡ 0 → ⊥ = λ e. other (t .number ∙ e) in
+        let no : numberOf (stepCall dictionary kernel registers state .answer) ≡ 0 → ⊥ = λ e. other (t .number ∙ e) in
         let law = follows dictionary kernel registers state right small budget le .1 no in
         let u = step-unchanged dictionary kernel registers state no in (
           p .0 ∙ ap (λ (x : Changed). asNumber (x .answer)) law ∙ sym (one .0),

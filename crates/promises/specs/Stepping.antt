@@ -15,7 +15,7 @@ use Rattle.paper.specs.Jump.{endOf, fetch}
 use Rattle.paper.specs.Machine.{State, step, stops, stopsOn, run}
 use Rattle.paper.specs.State.{channelsIn, stateOf, allThree, stateLands, stateLegal, stateBytes}
 use Rattle.paper.specs.Bits.{bytesOf}
-use Rattle.paper.specs.Calls.{refusal, verdict, Changed, unchanged, changedTo, sized, allSized, judgedKernel, accepted, onState, steppedAs, stepCall, ranAs, runCall}
+use Rattle.paper.specs.Calls.{refusal, verdict, Changed, unchanged, changedTo, sized, allSized, judgedKernel, accepted, onState, steppedAs, stepCall, ranAs, runCall, numberOf, countOf}
 use Rattle.laws.specs.Bytes.{bytes-append, bytes-bytesOf}
 use Rattle.laws.specs.Truth.{both-true}
 use Rattle.laws.specs.Halfwords.{halves, half-less}
@@ -117,7 +117,7 @@ module _ (dictionary kernel registers bytes : List ℕ) (right : areBytes kernel
         → let one = stepCall dictionary kernel registers bytes in
         let rest = runCall dictionary kernel n (one .registers) (one .state) in
         runCall dictionary kernel (suc n) registers bytes
-        ≡ record { answer = record { number = rest .answer .number; offset = 0; count = suc (rest .answer .count) }; registers = rest .registers; state = rest .state }
+        ≡ record { answer = verdict (numberOf (rest .answer)) (suc (countOf (rest .answer))); registers = rest .registers; state = rest .state }
     unfolding stateOf
     run-suc e n le =
         let near : endOf k ≤ 2048 = kernel-near longAndShort dictionary kernel k kernel-lent in
@@ -138,9 +138,9 @@ pub record Goes (dictionary kernel registers bytes : List ℕ) : Type 0 where
 -- What a step that is answered by anything else says of a run: that the run changes as little and answers the same.
 abbrev Follows : List ℕ → List ℕ → List ℕ → List ℕ → ℕ → Changed → Type 0
 Follows dictionary kernel registers bytes budget one =
-    (one .answer .number ≡ 0 → Goes dictionary kernel registers bytes)
-    × ((one .answer .number ≡ 0 → ⊥) → runCall dictionary kernel budget registers bytes ≡ one)
-    × (one .answer .count ≡ 0)
+    (numberOf (one .answer) ≡ 0 → Goes dictionary kernel registers bytes)
+    × ((numberOf (one .answer) ≡ 0 → ⊥) → runCall dictionary kernel budget registers bytes ≡ one)
+    × (countOf (one .answer) ≡ 0)
 
 module _ (dictionary kernel registers bytes : List ℕ) (right : areBytes kernel ≡ true) (small : areBytes bytes ≡ true)
     (budget : ℕ) (le : budget ≤ budgetLimit) where
@@ -221,17 +221,17 @@ module _ (dictionary kernel registers bytes : List ℕ) (right : areBytes kernel
 -- What a run within its budget says: it is as many steps as it counts, no more than the budget; where it says 20, a further step says 20; where it
 -- says 21, the whole budget is spent and a further step would be made.
 pub record Made (dictionary kernel : List ℕ) (budget : ℕ) (registers bytes : List ℕ) (c : Changed) : Type 0 where
-  pub steps : Steps dictionary kernel (c .answer .count) registers bytes (c .registers) (c .state)
-  pub within : c .answer .count ≤ budget
-  pub ended : c .answer .number ≡ 20 → stepCall dictionary kernel (c .registers) (c .state) .answer .number ≡ 20
-  pub spent : c .answer .number ≡ 21
-      → (c .answer .count ≡ budget) × (stepCall dictionary kernel (c .registers) (c .state) .answer .number ≡ 0)
+  pub steps : Steps dictionary kernel (countOf (c .answer)) registers bytes (c .registers) (c .state)
+  pub within : countOf (c .answer) ≤ budget
+  pub ended : numberOf (c .answer) ≡ 20 → numberOf (stepCall dictionary kernel (c .registers) (c .state) .answer) ≡ 20
+  pub spent : numberOf (c .answer) ≡ 21
+      → (countOf (c .answer) ≡ budget) × (numberOf (stepCall dictionary kernel (c .registers) (c .state) .answer) ≡ 0)
 
 -- A run that makes no step.
 made-none : (dictionary kernel : List ℕ) (budget : ℕ) (registers bytes : List ℕ) (c : Changed)
-    → c .answer .count ≡ 0 → c .registers ≡ registers → c .state ≡ bytes
-    → (c .answer .number ≡ 20 → stepCall dictionary kernel registers bytes .answer .number ≡ 20)
-    → (c .answer .number ≡ 21 → (0 ≡ budget) × (stepCall dictionary kernel registers bytes .answer .number ≡ 0))
+    → countOf (c .answer) ≡ 0 → c .registers ≡ registers → c .state ≡ bytes
+    → (numberOf (c .answer) ≡ 20 → numberOf (stepCall dictionary kernel registers bytes .answer) ≡ 20)
+    → (numberOf (c .answer) ≡ 21 → (0 ≡ budget) × (numberOf (stepCall dictionary kernel registers bytes .answer) ≡ 0))
     → Made dictionary kernel budget registers bytes c
 made-none dictionary kernel budget registers bytes c n a b ended spent =
     record {
@@ -242,7 +242,7 @@ made-none dictionary kernel budget registers bytes c n a b ended spent =
     }
 
 -- A step never says 21.
-step-not-21 : (dictionary kernel registers bytes : List ℕ) → stepCall dictionary kernel registers bytes .answer .number ≡ 21 → ⊥
+step-not-21 : (dictionary kernel registers bytes : List ℕ) → numberOf (stepCall dictionary kernel registers bytes .answer) ≡ 21 → ⊥
 step-not-21 dictionary kernel registers bytes e =
     false≢true (sym (ap stepNumbers e) ∙ step-fine dictionary kernel registers bytes .listed)
 
@@ -253,7 +253,7 @@ no-budget = omega arith
 module _ (dictionary kernel : List ℕ) (right : areBytes kernel ≡ true) where
   -- Where a step is not made, neither is one by a run.
   made-still : (budget : ℕ) → budget ≤ budgetLimit → (registers bytes : List ℕ) → areBytes bytes ≡ true
-      → (stepCall dictionary kernel registers bytes .answer .number ≡ 0 → ⊥)
+      → (numberOf (stepCall dictionary kernel registers bytes .answer) ≡ 0 → ⊥)
       → Made dictionary kernel budget registers bytes (runCall dictionary kernel budget registers bytes)
   made-still budget le registers bytes small n =
       let f = follows dictionary kernel registers bytes right small budget le in
@@ -265,9 +265,9 @@ module _ (dictionary kernel : List ℕ) (right : areBytes kernel ≡ true) where
   -- With no budget,
   made-zero : (registers bytes : List ℕ) → areBytes bytes ≡ true
       → Made dictionary kernel 0 registers bytes (runCall dictionary kernel 0 registers bytes)
-  made-zero registers bytes small = go (eqb (stepCall dictionary kernel registers bytes .answer .number) 0) refl
+  made-zero registers bytes small = go (eqb (numberOf (stepCall dictionary kernel registers bytes .answer)) 0) refl
     where
-      go : (b : Bool) → eqb (stepCall dictionary kernel registers bytes .answer .number) 0 ≡ b
+      go : (b : Bool) → eqb (numberOf (stepCall dictionary kernel registers bytes .answer)) 0 ≡ b
           → Made dictionary kernel 0 registers bytes (runCall dictionary kernel 0 registers bytes)
       go false e = made-still 0 no-budget registers bytes small (eqb-false _ 0 e)
       go true e =
@@ -282,14 +282,14 @@ module _ (dictionary kernel : List ℕ) (right : areBytes kernel ≡ true) where
       → ((registers bytes : List ℕ) → areBytes bytes ≡ true → Made dictionary kernel n registers bytes (runCall dictionary kernel n registers bytes))
       → (registers bytes : List ℕ) → areBytes bytes ≡ true
       → Made dictionary kernel (suc n) registers bytes (runCall dictionary kernel (suc n) registers bytes)
-  made-suc n le known registers bytes small = go (eqb (stepCall dictionary kernel registers bytes .answer .number) 0) refl
+  made-suc n le known registers bytes small = go (eqb (numberOf (stepCall dictionary kernel registers bytes .answer)) 0) refl
     where
-      go : (b : Bool) → eqb (stepCall dictionary kernel registers bytes .answer .number) 0 ≡ b
+      go : (b : Bool) → eqb (numberOf (stepCall dictionary kernel registers bytes .answer)) 0 ≡ b
           → Made dictionary kernel (suc n) registers bytes (runCall dictionary kernel (suc n) registers bytes)
       go false e = made-still (suc n) le registers bytes small (eqb-false _ 0 e)
       go true e =
           let one = stepCall dictionary kernel registers bytes in
-          let z = eqb-true (one .answer .number) 0 e in
+          let z = eqb-true (numberOf (one .answer)) 0 e in
           let g = follows dictionary kernel registers bytes right small (suc n) le .0 z in
           let rest = known (one .registers) (one .state) (goes-bytes dictionary kernel registers bytes right small (suc n) le g) in
           rw (run-suc dictionary kernel registers bytes right small (g .instrs) (g .ready) (g .on) n le)

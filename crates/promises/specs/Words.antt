@@ -13,7 +13,7 @@ use Rattle.paper.specs.Dictionary.{dictionaryOf, inRange}
 use Rattle.paper.specs.Expand.{isShort, expand}
 use Rattle.paper.specs.Shorten.{shorten}
 use Rattle.paper.specs.Operation.{operation, isListed, isBranch}
-use Rattle.paper.specs.Calls.{refusal, Written, kept, deliver, oneWord, shortened, shortenCall, expandCall}
+use Rattle.paper.specs.Calls.{refusal, Written, kept, deliver, oneWord, shortened, shortenCall, expandCall, numberOf, countOf}
 use Rattle.laws.specs.Bytes.{length-bytesOf}
 use Rattle.promises.specs.Results.{wrote, deliver-fits, deliver-room, deliver-other}
 
@@ -34,14 +34,14 @@ fit-passes dictionary fits w out further f = rw (f .whole, f .right, f .range, f
 
 -- and an answer of 0 says that it is so.
 pub zero-fit : (dictionary : List ℕ) (fits : Bool) (w : ℕ) (out : List ℕ) (further : Written)
-    → oneWord dictionary fits w out further .answer .number ≡ 0 → Fit dictionary fits w
+    → numberOf (oneWord dictionary fits w out further .answer) ≡ 0 → Fit dictionary fits w
 unfolding oneWord
 zero-fit dictionary fits w out further =
     go (eqb (length dictionary) dictionaryBytes) refl fits refl (inRange (dictionaryOf dictionary)) refl (isListed (operation w)) refl
   where
     go : (a : Bool) → eqb (length dictionary) dictionaryBytes ≡ a → (b : Bool) → fits ≡ b → (c : Bool) → inRange (dictionaryOf dictionary) ≡ c
         → (d : Bool) → isListed (operation w) ≡ d
-        → cond (not (a && b)) (kept (refusal 1 0) out) (cond (not c) (kept (refusal 2 0) out) (cond (not d) (kept (refusal 4 0) out) further)) .answer .number ≡ 0
+        → numberOf (cond (not (a && b)) (kept (refusal 1 0) out) (cond (not c) (kept (refusal 2 0) out) (cond (not d) (kept (refusal 4 0) out) further)) .answer) ≡ 0
         → Fit dictionary fits w
     go false p b q c r d s e = absurd (omega arith)
     go true p false q c r d s e = absurd (omega arith)
@@ -55,13 +55,13 @@ zero-fit dictionary fits w out further =
 pub record Shorter (short : Option ℕ) (out : List ℕ) (r : Written) : Type 0 where
   pub word : ℕ
   pub is : short ≡ some word
-  pub count : r .answer .count ≡ 8
+  pub count : countOf (r .answer) ≡ 8
   pub output : r .output ≡ bytesOf 8 word ++ drop 8 out
 
 -- What 0 and 13 say.
 pub record Says (short : Option ℕ) (out : List ℕ) (r : Written) : Type 0 where
-  pub fine : r .answer .number ≡ 0 → Shorter short out r
-  pub thirteen : r .answer .number ≡ 13 → short ≡ none
+  pub fine : numberOf (r .answer) ≡ 0 → Shorter short out r
+  pub thirteen : numberOf (r .answer) ≡ 13 → short ≡ none
 
 -- Any other refusal says neither; a choice says what both say.
 says-no : (short : Option ℕ) (out : List ℕ) (number : ℕ) → (number ≡ 0 → ⊥) → (number ≡ 13 → ⊥) → Says short out (kept (refusal number 0) out)
@@ -81,7 +81,7 @@ says-shortened (some s) out =
           record {
             word = s;
             is = refl;
-            count = ap (λ (r : Written). r .answer .count) w ∙ length-bytesOf 8 s;
+            count = ap (λ (r : Written). countOf (r .answer)) w ∙ length-bytesOf 8 s;
             output = ap (λ (r : Written). r .output) w ∙ ap (λ (n : ℕ). bytesOf 8 s ++ drop n out) (length-bytesOf 8 s);
           };
       thirteen = λ e. absurd (deliver-other (bytesOf 8 s) out e);
@@ -99,7 +99,7 @@ shorten-says dictionary word out =
     (says-cond short out (isShort w) _ _ (says-no short out 5 (λ e. omega arith) (λ e. omega arith)) (says-shortened short out))))
 
 -- And it passes the checks of any word.
-pub shorten-fit : (dictionary word out : List ℕ) → shortenCall dictionary word out .answer .number ≡ 0
+pub shorten-fit : (dictionary word out : List ℕ) → numberOf (shortenCall dictionary word out .answer) ≡ 0
     → Fit dictionary (eqb (length word) 16) (numberAt word 0 16)
 unfolding shortenCall
 shorten-fit dictionary word out = zero-fit dictionary (eqb (length word) 16) (numberAt word 0 16) out _
@@ -107,23 +107,23 @@ shorten-fit dictionary word out = zero-fit dictionary (eqb (length word) 16) (nu
 -- ---- expand
 
 -- If it answers 0, the long word's bytes are written.
-pub expand-writes : (dictionary word out : List ℕ) → expandCall dictionary word out .answer .number ≡ 0
+pub expand-writes : (dictionary word out : List ℕ) → numberOf (expandCall dictionary word out .answer) ≡ 0
     → expandCall dictionary word out ≡ wrote (bytesOf 16 (expand (dictionaryOf dictionary) (numberAt word 0 8))) out
 unfolding expandCall
 expand-writes dictionary word out zero =
     let s = numberAt word 0 8 in
     let result = bytesOf 16 (expand (dictionaryOf dictionary) s) in
     let same = fit-passes dictionary (eqb (length word) 8) s out _ (zero-fit dictionary (eqb (length word) 8) s out _ zero) in
-    same ∙ go (not (isShort s) || isBranch (operation s)) result (sym (ap (λ (w : Written). w .answer .number) same) ∙ zero)
+    same ∙ go (not (isShort s) || isBranch (operation s)) result (sym (ap (λ (w : Written). numberOf (w .answer)) same) ∙ zero)
   where
-    go : (b : Bool) (result : List ℕ) → cond b (kept (refusal 5 0) out) (deliver result out) .answer .number ≡ 0
+    go : (b : Bool) (result : List ℕ) → numberOf (cond b (kept (refusal 5 0) out) (deliver result out) .answer) ≡ 0
         → cond b (kept (refusal 5 0) out) (deliver result out) ≡ wrote result out
     go true result e = absurd (omega arith)
     go false result e = deliver-fits result out e
 
 -- It answers 0 to every short word that passes the checks of any word and is no branch, if there is room.
 pub expand-room : (dictionary word out : List ℕ) → Fit dictionary (eqb (length word) 8) (numberAt word 0 8) → isShort (numberAt word 0 8) ≡ true
-    → isBranch (operation (numberAt word 0 8)) ≡ false → 16 ≤ length out → expandCall dictionary word out .answer .number ≡ 0
+    → isBranch (operation (numberAt word 0 8)) ≡ false → 16 ≤ length out → numberOf (expandCall dictionary word out .answer) ≡ 0
 unfolding expandCall
 expand-room dictionary word out f marked plain room =
     let s = numberAt word 0 8 in

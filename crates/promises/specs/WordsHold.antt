@@ -15,7 +15,7 @@ use Rattle.paper.specs.Dictionary.{dictionaryOf}
 use Rattle.paper.specs.Expand.{expand}
 use Rattle.paper.specs.Shorten.{Shortens, Least}
 use Rattle.paper.specs.Operation.{operation, isListed}
-use Rattle.paper.specs.Calls.{Written, expandCall}
+use Rattle.paper.specs.Calls.{Written, expandCall, numberOf, countOf}
 use Rattle.laws.specs.Bytes.{number-lt, bytes-drop, length-bytesOf, number-bytesOf, bytesOf-number}
 use Rattle.laws.specs.Expand.{expand-fits, expand-operation}
 use Rattle.laws.specs.Shorten.{shorten-some, shorten-none}
@@ -87,8 +87,8 @@ module _ (dictionary word out : List ℕ) (bytes : areBytes word ≡ true) (r : 
       ∙ ap (λ (x : List ℕ). wrote x back)
       (ap (λ (x : ℕ). bytesOf 16 (expand D x)) reads ∙ ap (bytesOf 16) (l .is .same) ∙ word-bytes word bytes (eqb-true (length word) 16 (f .right))) in
       let sixteen = eqb-true (length word) 16 (f .right) in (
-        v .number ∙ ap (λ (x : Written). x .answer .number) w,
-        v .count ∙ ap (λ (x : Written). x .answer .count) w ∙ sixteen,
+        v .number ∙ ap (λ (x : Written). numberOf (x .answer)) w,
+        v .count ∙ ap (λ (x : Written). countOf (x .answer)) w ∙ sixteen,
         q .1 ∙ ap (λ (x : Written). x .output) w ∙ ap (λ (n : ℕ). word ++ drop n back) sixteen,
       )
 

@@ -1,4 +1,4 @@
--- What the code's answers are in the paper's terms, and the calls' cases in the code's order. Assumes nothing.
+-- The calls' cases in the code's order. Assumes nothing.
 use mathlib.Core.Bool.{Bool, true, false, _&&_, true≢false}
 use mathlib.Core.List.{List}
 use mathlib.Core.Option.{none}
@@ -13,30 +13,22 @@ use Rattle.paper.specs.Jump.{lands}
 use Rattle.paper.specs.Machine as paper
 use Rattle.paper.specs.Machine.{stops, step, run}
 use Rattle.paper.specs.State.{stateOf, stateLegal, stateLands, allThree, stateBytes}
-use Rattle.paper.specs.Calls.{Answer, refusal, verdict, sized, judgedKernel, accepted, Changed, unchanged, allSized, onState, steppedAs, stepCall, ranAs, runCall}
+use Rattle.paper.specs.Calls.{refusal, sized, judgedKernel, accepted, Changed, unchanged, allSized, onState, steppedAs, stepCall, ranAs, runCall}
 use Rattle.laws.specs.Same.{state-names}
 use Rattle.laws.specs.Demands.{Ready, run-ready, step-ready}
+use Rattle.words.specs.declared.answer.Answer.the-variants.{Told, Refused}
+use Rattle.words.specs.Answer.{Left}
 use Rattle.kernel.specs.declared.walk.Scan.{Scan}
 use Rattle.kernel.specs.Marks.{marked, Says, says-refused, says-accepted, says-instrs, instrsOf}
 use Rattle.kernel.specs.Accepting.{accepted-kernel}
 use Rattle.machine.specs.declared.state.State.{State}
 use Rattle.machine.specs.States.{stateIs, SaneState, sixteen-channels}
-use Rattle.run.specs.declared.calls.Ran.{Ran}
-use Rattle.run.specs.declared.calls.Ran.the-variants.{Made, Refused}
 use Rattle.run.specs.declared.calls.Admission.{Admission}
 use Rattle.run.specs.declared.calls.Admission.the-variants.{Fine, Barred}
 use Rattle.run.specs.Landing.{legalBy, legal-same}
 use Rattle.run.specs.declared.running.Outcome.{Outcome}
 use Rattle.run.specs.Running.{instructions, Running, running-end, running-on}
 use Rattle.run.specs.Outcomes.{outcomeIs}
-
-abbrev pub ranIs : Ran → Answer
-ranIs (Made number count) = verdict number count
-ranIs (Refused number offset) = refusal number offset
-
--- A call's answer, and what registers and state then hold, are the paper's.
-abbrev pub Leaves : Ran → List ℕ → List ℕ → Changed → Type 0
-Leaves r registers bytes x = (ranIs r ≡ x .answer) × (registers ≡ x .registers) × (bytes ≡ x .state)
 
 -- ---- 1
 
@@ -59,22 +51,22 @@ module _ (dictionary kernel registers bytes : List ℕ) where
       record { all = e; right = p .0; registers-are = eqb-true _ _ (q .0); state-is = eqb-true _ _ (q .1) }
 
   -- What the code says of the sizes.
-  abbrev pub Told : Bool → Type 0
-  Told t = (t ≡ allSized dictionary kernel registers bytes) × (t ≡ true → Sizes dictionary kernel registers bytes)
+  abbrev pub AreSized : Bool → Type 0
+  AreSized t = (t ≡ allSized dictionary kernel registers bytes) × (t ≡ true → Sizes dictionary kernel registers bytes)
 
-  told : (t : Bool) → allSized dictionary kernel registers bytes ≡ t → Told t
-  told t e = (sym e, λ h. sizes-of (e ∙ h))
+  are-sized : (t : Bool) → allSized dictionary kernel registers bytes ≡ t → AreSized t
+  are-sized t e = (sym e, λ h. sizes-of (e ∙ h))
 
   -- As the code tests them.
-  pub told-kernel : sized dictionary kernel ≡ false → Told false
-  told-kernel h = told false (rw h)
+  pub told-kernel : sized dictionary kernel ≡ false → AreSized false
+  told-kernel h = are-sized false (rw h)
 
   module _ (h : sized dictionary kernel ≡ true) where
-    pub told-registers : (length registers ≡ registerBytes → ⊥) → Told false
-    told-registers n = told false (rw (h, ne-eqb _ _ n))
+    pub told-registers : (length registers ≡ registerBytes → ⊥) → AreSized false
+    told-registers n = are-sized false (rw (h, ne-eqb _ _ n))
 
-    pub told-state : length registers ≡ registerBytes → Told (eqb (length bytes) stateLength)
-    told-state e = told (eqb (length bytes) stateLength) (rw (h, eq-eqb _ _ e))
+    pub told-state : length registers ≡ registerBytes → AreSized (eqb (length bytes) stateLength)
+    told-state e = are-sized (eqb (length bytes) stateLength) (rw (h, eq-eqb _ _ e))
 
 -- ---- the kernel's refusals, and 15
 
@@ -123,17 +115,17 @@ module _ (dictionary kernel bytes : List ℕ) (right : sized dictionary kernel �
 -- ---- the calls, in the code's order
 
 module _ (dictionary kernel registers bytes : List ℕ) where
-  pub step-size : allSized dictionary kernel registers bytes ≡ false → Leaves (Refused 1 0) registers bytes (stepCall dictionary kernel registers bytes)
+  pub step-size : allSized dictionary kernel registers bytes ≡ false → Left (stepCall dictionary kernel registers bytes) (Refused 1 0) registers bytes
   unfolding stepCall
   step-size h = rw h (refl, refl, refl)
 
   pub run-size : (budget : ℕ) → allSized dictionary kernel registers bytes ≡ false
-      → Leaves (Refused 1 0) registers bytes (runCall dictionary kernel budget registers bytes)
+      → Left (runCall dictionary kernel budget registers bytes) (Refused 1 0) registers bytes
   unfolding runCall
   run-size budget h = rw h (refl, refl, refl)
 
 module _ (dictionary kernel registers bytes : List ℕ) (sizes : Sizes dictionary kernel registers bytes) where
-  pub run-limit : (budget : ℕ) → budgetLimit < budget → Leaves (Refused 16 0) registers bytes (runCall dictionary kernel budget registers bytes)
+  pub run-limit : (budget : ℕ) → budgetLimit < budget → Left (runCall dictionary kernel budget registers bytes) (Refused 16 0) registers bytes
   unfolding runCall
   run-limit budget h = rw (sizes .all, lt-ltb _ _ h) (refl, refl, refl)
 
@@ -143,11 +135,11 @@ module _ (dictionary kernel registers bytes : List ℕ) (sizes : Sizes dictionar
           → onState registers bytes go (judgedKernel longAndShort dictionary kernel) ≡ unchanged (refusal number offset) registers bytes
       barred = subst (λ (o : Admission). Admits dictionary kernel registers bytes o) e admits
 
-      pub step-barred : Leaves (Refused number offset) registers bytes (stepCall dictionary kernel registers bytes)
+      pub step-barred : Left (stepCall dictionary kernel registers bytes) (Refused number offset) registers bytes
       unfolding stepCall
       step-barred = rw (sizes .all, barred (λ k s. steppedAs (stops k s) registers bytes (step k s))) (refl, refl, refl)
 
-      pub run-barred : (budget : ℕ) → budget ≤ budgetLimit → Leaves (Refused number offset) registers bytes (runCall dictionary kernel budget registers bytes)
+      pub run-barred : (budget : ℕ) → budget ≤ budgetLimit → Left (runCall dictionary kernel budget registers bytes) (Refused number offset) registers bytes
       unfolding runCall
       run-barred budget h = rw (sizes .all, le-ltb _ _ h, barred (λ k s. ranAs (run k budget s))) (refl, refl, refl)
 
@@ -187,7 +179,7 @@ module _ (dictionary kernel registers bytes : List ℕ) (sizes : Sizes dictionar
       }
 
   -- A step at the end,
-  pub step-end : 8 * s .place ≡ length kernel → Leaves (Made 20 0) registers bytes (stepCall dictionary kernel registers bytes)
+  pub step-end : 8 * s .place ≡ length kernel → Left (stepCall dictionary kernel registers bytes) (Told 20 0) registers bytes
   unfolding stepCall
   step-end h =
       rw (sizes .all, law .judged, law .legal, ap (stops k) (sym read) ∙ running-end dictionary kernel registers s opened h) (refl, refl, refl)
@@ -195,7 +187,7 @@ module _ (dictionary kernel registers bytes : List ℕ) (sizes : Sizes dictionar
   -- a step away from it,
   pub step-made : (8 * s .place ≡ length kernel → ⊥) → (registers′ bytes′ : List ℕ) (s′ : State)
       → stateIs registers′ s′ ≡ step k (stateIs registers s) → bytes′ ≡ stateBytes (stateIs registers′ s′)
-      → Leaves (Made 0 0) registers′ bytes′ (stepCall dictionary kernel registers bytes)
+      → Left (stepCall dictionary kernel registers bytes) (Told 0 0) registers′ bytes′
   step-made away registers′ bytes′ s′ made wrote =
       let on : stops k (stateOf registers bytes) ≡ none = ap (stops k) (sym read) ∙ running-on dictionary kernel registers s opened away in
       let same : stateIs registers′ s′ ≡ step k (stateOf registers bytes) = made ∙ ap (step k) read in
@@ -204,7 +196,7 @@ module _ (dictionary kernel registers bytes : List ℕ) (sizes : Sizes dictionar
   -- a run.
   pub run-made : (budget : ℕ) → budget ≤ budgetLimit → (registers′ bytes′ : List ℕ) (out : Outcome)
       → outcomeIs registers′ out ≡ run k budget (stateIs registers s) → bytes′ ≡ stateBytes (stateIs registers′ (out .state))
-      → Leaves (Made (out .verdict) (out .steps)) registers′ bytes′ (runCall dictionary kernel budget registers bytes)
+      → Left (runCall dictionary kernel budget registers bytes) (Told (out .verdict) (out .steps)) registers′ bytes′
   run-made budget h registers′ bytes′ out made wrote =
       let same : outcomeIs registers′ out ≡ run k budget (stateOf registers bytes) = made ∙ ap (run k budget) read in
       rw (run-ready dictionary kernel registers bytes k ready budget h, ← same) (refl, refl, wrote)

@@ -7,6 +7,7 @@ use kernel::accept::accept;
 use kernel::accept::is_sized;
 use machine::state::read_state;
 use machine::state::write_state;
+use words::answer::Answer;
 ghost use mathlib.Core.Path.{_≡_};
 ghost use mathlib.Core.Bool.{true};
 ghost use mathlib.Core.List.{List};
@@ -14,13 +15,8 @@ ghost use Prim.Native.Nat.{ℕ, _≤_};
 ghost use lib.ListN.{length};
 ghost use Rattle.paper.specs.Limits.{stateLength, budgetLimit};
 ghost use Rattle.paper.specs.Calls.{sized, stepCall, runCall};
-ghost use Rattle.run.specs.Answers.{ranIs, Leaves, Told, Sizes, Lawful, Admits};
-
-// A verdict and how many steps were made; or a refusal's number and the byte offset of the instruction.
-pub enum Ran {
-    Made(u8, u64),
-    Refused(u8, u64),
-}
+ghost use Rattle.words.specs.Answer.{Left};
+ghost use Rattle.run.specs.Answers.{AreSized, Sizes, Lawful, Admits};
 
 // What is said of a kernel and a state before a step is made.
 pub enum Admission {
@@ -30,7 +26,7 @@ pub enum Admission {
 
 // 1 of all that is lent to a step or a run.
 fn are_sized(dictionary: &[u8], kernel: &[u8], registers: &[u8], state: &[u8]) -> bool
-    ensures { λ r. ⌜ Told (now (dictionary .entry)) (now (kernel .entry)) (now (registers .entry)) (now (state .entry)) r ⌝ }
+    ensures { λ r. ⌜ AreSized (now (dictionary .entry)) (now (kernel .entry)) (now (registers .entry)) (now (state .entry)) r ⌝ }
 {
     if !is_sized(dictionary, kernel) {
         return false;
@@ -58,18 +54,17 @@ fn admit(dictionary: &[u8], kernel: &[u8], state: &[u8]) -> Admission
 }
 
 // One step of an accepted kernel from a legal state; 20 at the end, where nothing is written.
-fn step_lawful(dictionary: &[u8], kernel: &[u8], registers: &mut [u8], state: &mut [u8]) -> Ran
+fn step_lawful(dictionary: &[u8], kernel: &[u8], registers: &mut [u8], state: &mut [u8]) -> Answer
     requires { ⌜ Sizes (now dictionary) (now kernel) (now registers) (now state) × Lawful (now dictionary) (now kernel) (now registers) (now state) ⌝ }
-    ensures { λ r. ⌜ Leaves r (now (registers .exit)) (now (state .exit))
-        (stepCall (now (dictionary .entry)) (now (kernel .entry)) (now (registers .entry)) (now (state .entry))) ⌝ }
+    ensures { λ r. ⌜ Left (stepCall (now (dictionary .entry)) (now (kernel .entry)) (now (registers .entry)) (now (state .entry))) r (now (registers .exit)) (now (state .exit)) ⌝ }
 {
     let s = read_state(state);
     if at_end(kernel, s) {
-        return Ran::Made(20, 0);
+        return Answer::Told(20, 0);
     }
     let after = advance(dictionary, kernel, registers, s);
     write_state(state, after);
-    Ran::Made(0, 0)
+    Answer::Told(0, 0)
 }
 
 // A run of an accepted kernel from a legal state.
@@ -79,31 +74,28 @@ fn run_lawful(
     budget: u64,
     registers: &mut [u8],
     state: &mut [u8],
-) -> Ran
+) -> Answer
     requires { ⌜ Sizes (now dictionary) (now kernel) (now registers) (now state) × Lawful (now dictionary) (now kernel) (now registers) (now state) ⌝ }
     requires { ⌜ budget ≤ budgetLimit ⌝ }
-    ensures { λ r. ⌜ Leaves r (now (registers .exit)) (now (state .exit))
-        (runCall (now (dictionary .entry)) (now (kernel .entry)) budget (now (registers .entry)) (now (state .entry))) ⌝ }
+    ensures { λ r. ⌜ Left (runCall (now (dictionary .entry)) (now (kernel .entry)) budget (now (registers .entry)) (now (state .entry))) r (now (registers .exit)) (now (state .exit)) ⌝ }
 {
     let s = read_state(state);
     let out = run_from(dictionary, kernel, budget, registers, s);
     let after = out.state;
     write_state(state, after);
-    Ran::Made(out.verdict, out.steps)
+    Answer::Told(out.verdict, out.steps)
 }
 
 // One step from the lent state; 20 at the end.
-pub fn step(dictionary: &[u8], kernel: &[u8], registers: &mut [u8], state: &mut [u8]) -> Ran
-    ensures { λ r. ⌜ (ranIs r ≡ stepCall (now (dictionary .entry)) (now (kernel .entry)) (now (registers .entry)) (now (state .entry)) .answer)
-        × (now (registers .exit) ≡ stepCall (now (dictionary .entry)) (now (kernel .entry)) (now (registers .entry)) (now (state .entry)) .registers)
-        × (now (state .exit) ≡ stepCall (now (dictionary .entry)) (now (kernel .entry)) (now (registers .entry)) (now (state .entry)) .state) ⌝ }
+pub fn step(dictionary: &[u8], kernel: &[u8], registers: &mut [u8], state: &mut [u8]) -> Answer
+    ensures { λ r. ⌜ Left (stepCall (now (dictionary .entry)) (now (kernel .entry)) (now (registers .entry)) (now (state .entry))) r (now (registers .exit)) (now (state .exit)) ⌝ }
 {
     if !are_sized(dictionary, kernel, registers, state) {
-        return Ran::Refused(1, 0);
+        return Answer::Refused(1, 0);
     }
     let o = admit(dictionary, kernel, state);
     match o {
-        Admission::Barred(number, offset) => Ran::Refused(number, offset),
+        Admission::Barred(number, offset) => Answer::Refused(number, offset),
         Admission::Fine => step_lawful(dictionary, kernel, registers, state),
     }
 }
@@ -115,20 +107,18 @@ pub fn run(
     budget: u64,
     registers: &mut [u8],
     state: &mut [u8],
-) -> Ran
-    ensures { λ r. ⌜ (ranIs r ≡ runCall (now (dictionary .entry)) (now (kernel .entry)) budget (now (registers .entry)) (now (state .entry)) .answer)
-        × (now (registers .exit) ≡ runCall (now (dictionary .entry)) (now (kernel .entry)) budget (now (registers .entry)) (now (state .entry)) .registers)
-        × (now (state .exit) ≡ runCall (now (dictionary .entry)) (now (kernel .entry)) budget (now (registers .entry)) (now (state .entry)) .state) ⌝ }
+) -> Answer
+    ensures { λ r. ⌜ Left (runCall (now (dictionary .entry)) (now (kernel .entry)) budget (now (registers .entry)) (now (state .entry))) r (now (registers .exit)) (now (state .exit)) ⌝ }
 {
     if !are_sized(dictionary, kernel, registers, state) {
-        return Ran::Refused(1, 0);
+        return Answer::Refused(1, 0);
     }
     if 1000000 < budget {
-        return Ran::Refused(16, 0);
+        return Answer::Refused(16, 0);
     }
     let o = admit(dictionary, kernel, state);
     match o {
-        Admission::Barred(number, offset) => Ran::Refused(number, offset),
+        Admission::Barred(number, offset) => Answer::Refused(number, offset),
         Admission::Fine => run_lawful(dictionary, kernel, budget, registers, state),
     }
 }

@@ -3,6 +3,7 @@ use crate::dictionary::in_range;
 use crate::expand::expand;
 use crate::shorten::Shorter;
 use crate::shorten::shorten;
+use words::answer::Answer;
 use words::bytes::Word;
 use words::bytes::read8;
 use words::bytes::read16;
@@ -14,97 +15,90 @@ use words::fields::operation;
 use words::fields::operation_in;
 use words::operation::is_branch;
 use words::operation::is_listed;
-use words::wrote::Wrote;
-ghost use mathlib.Core.Path.{_≡_};
 ghost use Rattle.paper.specs.Bits.{bytesOf};
 ghost use Rattle.paper.specs.Calls.{deliver, shortened, shortenCall, expandCall};
 ghost use Rattle.words.specs.Words.{toWord};
 ghost use Rattle.short.specs.Shorter.{shorterIs};
-ghost use Rattle.words.specs.Wrote.{wroteAs};
+ghost use Rattle.words.specs.Answer.{Wrote};
 
 // The eight bytes of v as the output's first; 14 where it is shorter.
-pub fn deliver8(out: &mut [u8], v: u64) -> Wrote
-    ensures { λ r. ⌜ (wroteAs r ≡ deliver (bytesOf 8 v) (now (out .entry)) .answer)
-        × (now (out .exit) ≡ deliver (bytesOf 8 v) (now (out .entry)) .output) ⌝ }
+pub fn deliver8(out: &mut [u8], v: u64) -> Answer
+    ensures { λ r. ⌜ Wrote (deliver (bytesOf 8 v) (now (out .entry))) r (now (out .exit)) ⌝ }
 {
     if out.len() < 8 {
-        return Wrote::Refused(14, 0);
+        return Answer::Refused(14, 0);
     }
     write8(out, 0, v);
-    Wrote::Fine(8)
+    Answer::Told(0, 8)
 }
 
 // The sixteen bytes of w as the output's first; 14 where it is shorter.
-pub fn deliver16(out: &mut [u8], w: Word) -> Wrote
-    ensures { λ r. ⌜ (wroteAs r ≡ deliver (bytesOf 16 (toWord w)) (now (out .entry)) .answer)
-        × (now (out .exit) ≡ deliver (bytesOf 16 (toWord w)) (now (out .entry)) .output) ⌝ }
+pub fn deliver16(out: &mut [u8], w: Word) -> Answer
+    ensures { λ r. ⌜ Wrote (deliver (bytesOf 16 (toWord w)) (now (out .entry))) r (now (out .exit)) ⌝ }
 {
     if out.len() < 16 {
-        return Wrote::Refused(14, 0);
+        return Answer::Refused(14, 0);
     }
     write16(out, 0, w);
-    Wrote::Fine(16)
+    Answer::Told(0, 16)
 }
 
 // A short word's bytes, or 13 where there is none.
-fn deliver_shorter(out: &mut [u8], a: Shorter) -> Wrote
-    ensures { λ r. ⌜ (wroteAs r ≡ shortened (shorterIs a) (now (out .entry)) .answer)
-        × (now (out .exit) ≡ shortened (shorterIs a) (now (out .entry)) .output) ⌝ }
+fn deliver_shorter(out: &mut [u8], a: Shorter) -> Answer
+    ensures { λ r. ⌜ Wrote (shortened (shorterIs a) (now (out .entry))) r (now (out .exit)) ⌝ }
 {
     match a {
         Shorter::Short(s) => deliver8(out, s),
-        Shorter::NoShort => Wrote::Refused(13, 0),
+        Shorter::NoShort => Answer::Refused(13, 0),
     }
 }
 
 // The smallest short word that expands to the word, as eight bytes.
-pub fn shorten_word(dictionary: &[u8], word: &[u8], out: &mut [u8]) -> Wrote
-    ensures { λ r. ⌜ (wroteAs r ≡ shortenCall (now (dictionary .entry)) (now (word .entry)) (now (out .entry)) .answer)
-        × (now (out .exit) ≡ shortenCall (now (dictionary .entry)) (now (word .entry)) (now (out .entry)) .output) ⌝ }
+pub fn shorten_word(dictionary: &[u8], word: &[u8], out: &mut [u8]) -> Answer
+    ensures { λ r. ⌜ Wrote (shortenCall (now (dictionary .entry)) (now (word .entry)) (now (out .entry))) r (now (out .exit)) ⌝ }
 {
     if dictionary.len() != 512 {
-        return Wrote::Refused(1, 0);
+        return Answer::Refused(1, 0);
     }
     if word.len() != 16 {
-        return Wrote::Refused(1, 0);
+        return Answer::Refused(1, 0);
     }
     if !in_range(dictionary) {
-        return Wrote::Refused(2, 0);
+        return Answer::Refused(2, 0);
     }
     let w = read16(word, 0);
     if !is_listed(operation(w)) {
-        return Wrote::Refused(4, 0);
+        return Answer::Refused(4, 0);
     }
     if cmpt_ctrl(w) == 1 {
-        return Wrote::Refused(5, 0);
+        return Answer::Refused(5, 0);
     }
     let a = shorten(dictionary, w);
     deliver_shorter(out, a)
 }
 
 // The long word that the short word stands for, as sixteen bytes.
-pub fn expand_word(dictionary: &[u8], word: &[u8], out: &mut [u8]) -> Wrote
-    ensures { λ r. ⌜ (wroteAs r ≡ expandCall (now (dictionary .entry)) (now (word .entry)) (now (out .entry)) .answer)
-        × (now (out .exit) ≡ expandCall (now (dictionary .entry)) (now (word .entry)) (now (out .entry)) .output) ⌝ }
+pub fn expand_word(dictionary: &[u8], word: &[u8], out: &mut [u8]) -> Answer
+    ensures { λ r. ⌜ Wrote (expandCall (now (dictionary .entry)) (now (word .entry)) (now (out .entry))) r (now (out .exit)) ⌝ }
 {
     if dictionary.len() != 512 {
-        return Wrote::Refused(1, 0);
+        return Answer::Refused(1, 0);
     }
     if word.len() != 8 {
-        return Wrote::Refused(1, 0);
+        return Answer::Refused(1, 0);
     }
     if !in_range(dictionary) {
-        return Wrote::Refused(2, 0);
+        return Answer::Refused(2, 0);
     }
     let s = read8(word, 0);
     if !is_listed(operation_in(s)) {
-        return Wrote::Refused(4, 0);
+        return Answer::Refused(4, 0);
     }
     if !is_short(s) {
-        return Wrote::Refused(5, 0);
+        return Answer::Refused(5, 0);
     }
     if is_branch(operation_in(s)) {
-        return Wrote::Refused(5, 0);
+        return Answer::Refused(5, 0);
     }
     let w = expand(dictionary, s);
     deliver16(out, w)

@@ -1,12 +1,9 @@
 // The calls of the C boundary (include/spokeshaver.h): numbers and byte slices only. Each answers one number, by `asNumber`, and leaves in what it is
 // lent what the paper's definition of the call says, for all inputs; nothing is required of bytes and numbers. What each promises stands in Contracts.antt of
 // the crate `contracts`, what follows from it in the crate `promises`.
-use answers::checked;
-use answers::decoded;
-use answers::ran;
-use answers::wrote;
+use answers::number_of;
 use kernel::check::check;
-use kernel::decode::decode;
+use kernel::decode::decode_size;
 use machine::start::start;
 use packer::pack::pack;
 use packer::pack::unpack;
@@ -22,7 +19,7 @@ ghost use Rattle.contracts.specs.Contracts.{DecodePromise, StartPromise, StepPr
 pub extern "C" fn spokeshaver_check(dictionary: &[u8], kernel: &[u8]) -> u64
     ensures { λ r. ⌜ CheckPromise (now (dictionary .entry)) (now (kernel .entry)) r ⌝ }
 {
-    checked(check(dictionary, kernel))
+    number_of(check(dictionary, kernel))
 }
 
 // The kernel of long words with each word short that can be; the count is its bytes.
@@ -30,7 +27,7 @@ pub extern "C" fn spokeshaver_check(dictionary: &[u8], kernel: &[u8]) -> u64
 pub extern "C" fn spokeshaver_pack(dictionary: &[u8], kernel: &[u8], out: &mut [u8]) -> u64
     ensures { λ r. ⌜ PackPromise (now (dictionary .entry)) (now (kernel .entry)) (now (out .entry)) r (now (out .exit)) ⌝ }
 {
-    wrote(pack(dictionary, kernel, out))
+    number_of(pack(dictionary, kernel, out))
 }
 
 // The kernel with each word long; the count is its bytes.
@@ -38,7 +35,7 @@ pub extern "C" fn spokeshaver_pack(dictionary: &[u8], kernel: &[u8], out: &mut [
 pub extern "C" fn spokeshaver_unpack(dictionary: &[u8], kernel: &[u8], out: &mut [u8]) -> u64
     ensures { λ r. ⌜ UnpackPromise (now (dictionary .entry)) (now (kernel .entry)) (now (out .entry)) r (now (out .exit)) ⌝ }
 {
-    wrote(unpack(dictionary, kernel, out))
+    number_of(unpack(dictionary, kernel, out))
 }
 
 // The smallest short word that expands to the long word; the count is 8.
@@ -46,7 +43,7 @@ pub extern "C" fn spokeshaver_unpack(dictionary: &[u8], kernel: &[u8], out: &mut
 pub extern "C" fn spokeshaver_shorten(dictionary: &[u8], word: &[u8], out: &mut [u8]) -> u64
     ensures { λ r. ⌜ ShortenPromise (now (dictionary .entry)) (now (word .entry)) (now (out .entry)) r (now (out .exit)) ⌝ }
 {
-    wrote(shorten_word(dictionary, word, out))
+    number_of(shorten_word(dictionary, word, out))
 }
 
 // The long word that the short word stands for; the count is 16.
@@ -54,7 +51,7 @@ pub extern "C" fn spokeshaver_shorten(dictionary: &[u8], word: &[u8], out: &mut 
 pub extern "C" fn spokeshaver_expand(dictionary: &[u8], word: &[u8], out: &mut [u8]) -> u64
     ensures { λ r. ⌜ ExpandPromise (now (dictionary .entry)) (now (word .entry)) (now (out .entry)) r (now (out .exit)) ⌝ }
 {
-    wrote(expand_word(dictionary, word, out))
+    number_of(expand_word(dictionary, word, out))
 }
 
 // The one instruction at a place; the count is its bytes.
@@ -62,7 +59,7 @@ pub extern "C" fn spokeshaver_expand(dictionary: &[u8], word: &[u8], out: &mut [
 pub extern "C" fn spokeshaver_decode(dictionary: &[u8], kernel: &[u8], place: u64) -> u64
     ensures { λ r. ⌜ DecodePromise (now (dictionary .entry)) (now (kernel .entry)) place r ⌝ }
 {
-    decoded(decode(dictionary, kernel, place))
+    number_of(decode_size(dictionary, kernel, place))
 }
 
 // The state before the first step; the count is 0.
@@ -70,7 +67,7 @@ pub extern "C" fn spokeshaver_decode(dictionary: &[u8], kernel: &[u8], place: u6
 pub extern "C" fn spokeshaver_start(mask: u16, flag0: u16, flag1: u16, state: &mut [u8]) -> u64
     ensures { λ r. ⌜ StartPromise mask flag0 flag1 (now (state .entry)) r (now (state .exit)) ⌝ }
 {
-    wrote(start(mask, flag0, flag1, state))
+    number_of(start(mask, flag0, flag1, state))
 }
 
 // One step; the count is 0.
@@ -83,7 +80,7 @@ pub extern "C" fn spokeshaver_step(
 ) -> u64
     ensures { λ r. ⌜ StepPromise (now (dictionary .entry)) (now (kernel .entry)) (now (registers .entry)) (now (state .entry)) r (now (registers .exit)) (now (state .exit)) ⌝ }
 {
-    ran(step(dictionary, kernel, registers, state))
+    number_of(step(dictionary, kernel, registers, state))
 }
 
 // The budget's steps, unless the end comes first; the count is the steps made.
@@ -97,5 +94,5 @@ pub extern "C" fn spokeshaver_run(
 ) -> u64
     ensures { λ r. ⌜ RunPromise (now (dictionary .entry)) (now (kernel .entry)) budget (now (registers .entry)) (now (state .entry)) r (now (registers .exit)) (now (state .exit)) ⌝ }
 {
-    ran(run(dictionary, kernel, budget, registers, state))
+    number_of(run(dictionary, kernel, budget, registers, state))
 }

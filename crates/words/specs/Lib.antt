@@ -5,5 +5,5 @@ pub mod Asked
 pub mod Words
 pub mod Bytes
 pub mod Fields
-pub mod Wrote
+pub mod Answer
 pub mod Meaning

@@ -1,8 +1,8 @@
 // Long words: their bytes, fields, types and operations, and what the rules ask of an operation.
+pub mod answer;
 pub mod bytes;
 pub mod decoded;
 pub mod fields;
 pub mod operation;
 pub mod traits;
 pub mod types;
-pub mod wrote;

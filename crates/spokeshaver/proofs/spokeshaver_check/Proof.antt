@@ -10,11 +10,11 @@ use Rattle.spokeshaver.proofs.spokeshaver_check.Tie as tie
 check-requires : tie.Need-check-requires
 check-requires c κs = search needs
 
-checked-requires : tie.Need-checked-requires
-checked-requires c κs = small-as _ _ (sym (c .check .ensures)) (check-fine _ _ .small)
+number-of-requires : tie.Need-number-of-requires
+number-of-requires c κs = small-as _ _ (sym (c .check .ensures)) (check-fine _ _ .small)
 
 returns : tie.Need-returns
-returns c = c .checked .ensures ∙ ap asNumber (c .before .check .ensures)
+returns c = c .number-of .ensures ∙ ap asNumber (c .before .check .ensures)
 
 pub spokeshaver-check-spec : {M : Type 1} → statement M
-spokeshaver-check-spec = tie.close (tie.spec check-requires checked-requires returns)
+spokeshaver-check-spec = tie.close (tie.spec check-requires number-of-requires returns)

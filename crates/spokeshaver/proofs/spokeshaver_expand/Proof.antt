@@ -10,14 +10,14 @@ use Rattle.spokeshaver.proofs.spokeshaver_expand.Tie as tie
 expand-word-requires : tie.Need-expand-word-requires
 expand-word-requires c κs = search needs
 
-wrote-requires : tie.Need-wrote-requires
-wrote-requires c κs = small-as _ _ (sym (c .before .before .expand-word .ensures .0)) (expand-fine _ _ _ .small)
+number-of-requires : tie.Need-number-of-requires
+number-of-requires c κs = small-as _ _ (sym (c .before .before .expand-word .ensures .0)) (expand-fine _ _ _ .small)
 
 same-length : tie.Need-same-length
 same-length c = search needs
 
 returns : tie.Need-returns
-returns c = (c .wrote .ensures ∙ ap asNumber (c .before .before .before .expand-word .ensures .0), c .before .before .before .expand-word .ensures .1)
+returns c = (c .number-of .ensures ∙ ap asNumber (c .before .before .before .expand-word .ensures .0), c .before .before .before .expand-word .ensures .1)
 
 pub spokeshaver-expand-spec : {M : Type 1} → statement M
-spokeshaver-expand-spec = tie.close (tie.spec expand-word-requires wrote-requires same-length returns)
+spokeshaver-expand-spec = tie.close (tie.spec expand-word-requires number-of-requires same-length returns)

@@ -10,14 +10,14 @@ use Rattle.spokeshaver.proofs.spokeshaver_pack.Tie as tie
 pack-requires : tie.Need-pack-requires
 pack-requires c κs = search needs
 
-wrote-requires : tie.Need-wrote-requires
-wrote-requires c κs = small-as _ _ (sym (c .before .before .pack .ensures .0)) (pack-fine _ _ _ .small)
+number-of-requires : tie.Need-number-of-requires
+number-of-requires c κs = small-as _ _ (sym (c .before .before .pack .ensures .0)) (pack-fine _ _ _ .small)
 
 same-length : tie.Need-same-length
 same-length c = search needs
 
 returns : tie.Need-returns
-returns c = (c .wrote .ensures ∙ ap asNumber (c .before .before .before .pack .ensures .0), c .before .before .before .pack .ensures .1)
+returns c = (c .number-of .ensures ∙ ap asNumber (c .before .before .before .pack .ensures .0), c .before .before .before .pack .ensures .1)
 
 pub spokeshaver-pack-spec : {M : Type 1} → statement M
-spokeshaver-pack-spec = tie.close (tie.spec pack-requires wrote-requires same-length returns)
+spokeshaver-pack-spec = tie.close (tie.spec pack-requires number-of-requires same-length returns)

@@ -10,14 +10,14 @@ use Rattle.spokeshaver.proofs.spokeshaver_start.Tie as tie
 start-requires : tie.Need-start-requires
 start-requires c κs = search needs
 
-wrote-requires : tie.Need-wrote-requires
-wrote-requires c κs = small-as _ _ (sym (c .before .before .start .ensures .0)) (start-fine _ _ _ _ .small)
+number-of-requires : tie.Need-number-of-requires
+number-of-requires c κs = small-as _ _ (sym (c .before .before .start .ensures .0)) (start-fine _ _ _ _ .small)
 
 same-length : tie.Need-same-length
 same-length c = search needs
 
 returns : tie.Need-returns
-returns c = (c .wrote .ensures ∙ ap asNumber (c .before .before .before .start .ensures .0), c .before .before .before .start .ensures .1)
+returns c = (c .number-of .ensures ∙ ap asNumber (c .before .before .before .start .ensures .0), c .before .before .before .start .ensures .1)
 
 pub spokeshaver-start-spec : {M : Type 1} → statement M
-spokeshaver-start-spec = tie.close (tie.spec start-requires wrote-requires same-length returns)
+spokeshaver-start-spec = tie.close (tie.spec start-requires number-of-requires same-length returns)

@@ -10,14 +10,14 @@ use Rattle.spokeshaver.proofs.spokeshaver_unpack.Tie as tie
 unpack-requires : tie.Need-unpack-requires
 unpack-requires c κs = search needs
 
-wrote-requires : tie.Need-wrote-requires
-wrote-requires c κs = small-as _ _ (sym (c .before .before .unpack .ensures .0)) (unpack-fine _ _ _ .small)
+number-of-requires : tie.Need-number-of-requires
+number-of-requires c κs = small-as _ _ (sym (c .before .before .unpack .ensures .0)) (unpack-fine _ _ _ .small)
 
 same-length : tie.Need-same-length
 same-length c = search needs
 
 returns : tie.Need-returns
-returns c = (c .wrote .ensures ∙ ap asNumber (c .before .before .before .unpack .ensures .0), c .before .before .before .unpack .ensures .1)
+returns c = (c .number-of .ensures ∙ ap asNumber (c .before .before .before .unpack .ensures .0), c .before .before .before .unpack .ensures .1)
 
 pub spokeshaver-unpack-spec : {M : Type 1} → statement M
-spokeshaver-unpack-spec = tie.close (tie.spec unpack-requires wrote-requires same-length returns)
+spokeshaver-unpack-spec = tie.close (tie.spec unpack-requires number-of-requires same-length returns)

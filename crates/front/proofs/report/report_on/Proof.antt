@@ -1,7 +1,7 @@
 -- What the check says is put into the four numbers. Assumes nothing.
 use mathlib.Core.Path.{sym, ap, _∙_}
-use Rattle.kernel.specs.Answers.{checkedIs}
-use Rattle.front.specs.Printed.{printed-by}
+use Rattle.words.specs.Answer.{answerIs}
+use Rattle.front.specs.Printed.{printedAs, printed-by}
 use borrow.Author.Needs.{needs}
 use Rattle.front.proofs.report.report_on.Statement.{statement}
 use Rattle.front.proofs.report.report_on.Tie as tie
@@ -9,36 +9,34 @@ use Rattle.front.proofs.report.report_on.Tie as tie
 check-requires : tie.Need-check-requires
 check-requires c κs = search needs
 
-enum-known-count : tie.Need-enum-known-count
-enum-known-count c = search needs
-
-accepted-requires : tie.Need-accepted-requires
-accepted-requires c κs = search needs
-
 enum-known-number : tie.Need-enum-known-number
 enum-known-number c = search needs
 
-refused-requires : tie.Need-refused-requires
-refused-requires c κs = search needs
+cast-t11 : tie.Need-cast-t11
+cast-t11 c = search needs
+
+enum-known-number-2 : tie.Need-enum-known-number-2
+enum-known-number-2 c = search needs
+
+cast-t12 : tie.Need-cast-t12
+cast-t12 c = search needs
 
 returns : tie.Need-returns
-returns c =
-    let a = sym (c .before .before .before .before .check .ensures) ∙ ap checkedIs (c .before .before .count .given .1) in
-    c .accepted .ensures ∙ sym (printed-by _ _ _ a)
+unfolding printedAs
+returns c = sym (printed-by _ _ _ (sym (c .before .before .before .check .ensures) ∙ ap answerIs (c .before .number .given .1)))
 
 returns-2 : tie.Need-returns-2
-returns-2 c =
-    let a = sym (c .before .before .before .before .check .ensures) ∙ ap checkedIs (c .before .before .number .given .1) in
-    c .refused .ensures ∙ sym (printed-by _ _ _ a)
+unfolding printedAs
+returns-2 c = sym (printed-by _ _ _ (sym (c .before .before .before .check .ensures) ∙ ap answerIs (c .before .number2 .given .1)))
 
 pub report-on-spec : {M : Type 1} → statement M
 report-on-spec =
     tie.close
     (tie.spec
     check-requires
-    enum-known-count
-    accepted-requires
     enum-known-number
-    refused-requires
+    cast-t11
+    enum-known-number-2
+    cast-t12
     returns
     returns-2)

@@ -1,0 +1,44 @@
+-- The calls inside Rattle leave nothing open either: what each ensures admits one answer, and one final content of each buffer that is lent for writing.
+-- Assumes nothing.
+use mathlib.Core.List.{List}
+use mathlib.Core.Path.{_≡_}
+use Prim.Native.Nat.{ℕ}
+use Rattle.paper.specs.Calls.{checkCall, packCall, unpackCall, shortenCall, expandCall, decodeCall, startCall, stepCall, runCall}
+use Rattle.words.specs.declared.answer.Answer.{Answer}
+use Rattle.words.specs.Answer.{answerIs, Wrote, Left, one-answer, one-written, one-changed}
+
+-- `check`, `pack`, `unpack`, `shorten_word`, `expand_word`, `decode_size`, `start`, `step` and `run`.
+pub record OneAnswer : Type 0 where
+  pub check : (dictionary kernel : List ℕ) (r s : Answer) → answerIs r ≡ checkCall dictionary kernel → answerIs s ≡ checkCall dictionary kernel → r ≡ s
+  pub pack : (dictionary kernel out : List ℕ) (r s : Answer) (out′ out″ : List ℕ)
+      → Wrote (packCall dictionary kernel out) r out′ → Wrote (packCall dictionary kernel out) s out″ → (r ≡ s) × (out′ ≡ out″)
+  pub unpack : (dictionary kernel out : List ℕ) (r s : Answer) (out′ out″ : List ℕ)
+      → Wrote (unpackCall dictionary kernel out) r out′ → Wrote (unpackCall dictionary kernel out) s out″ → (r ≡ s) × (out′ ≡ out″)
+  pub shorten : (dictionary word out : List ℕ) (r s : Answer) (out′ out″ : List ℕ)
+      → Wrote (shortenCall dictionary word out) r out′ → Wrote (shortenCall dictionary word out) s out″ → (r ≡ s) × (out′ ≡ out″)
+  pub expand : (dictionary word out : List ℕ) (r s : Answer) (out′ out″ : List ℕ)
+      → Wrote (expandCall dictionary word out) r out′ → Wrote (expandCall dictionary word out) s out″ → (r ≡ s) × (out′ ≡ out″)
+  pub decode : (dictionary kernel : List ℕ) (place : ℕ) (r s : Answer)
+      → answerIs r ≡ decodeCall dictionary kernel place → answerIs s ≡ decodeCall dictionary kernel place → r ≡ s
+  pub start : (mask flag0 flag1 : ℕ) (state : List ℕ) (r s : Answer) (state′ state″ : List ℕ)
+      → Wrote (startCall mask flag0 flag1 state) r state′ → Wrote (startCall mask flag0 flag1 state) s state″ → (r ≡ s) × (state′ ≡ state″)
+  pub step : (dictionary kernel registers state : List ℕ) (r s : Answer) (registers′ registers″ state′ state″ : List ℕ)
+      → Left (stepCall dictionary kernel registers state) r registers′ state′ → Left (stepCall dictionary kernel registers state) s registers″ state″
+      → (r ≡ s) × (registers′ ≡ registers″) × (state′ ≡ state″)
+  pub run : (dictionary kernel : List ℕ) (budget : ℕ) (registers state : List ℕ) (r s : Answer) (registers′ registers″ state′ state″ : List ℕ)
+      → Left (runCall dictionary kernel budget registers state) r registers′ state′ → Left (runCall dictionary kernel budget registers state) s registers″ state″
+      → (r ≡ s) × (registers′ ≡ registers″) × (state′ ≡ state″)
+
+pub one-outcome : OneAnswer
+one-outcome =
+    record {
+      check = λ dictionary kernel. one-answer (checkCall dictionary kernel);
+      pack = λ dictionary kernel out. one-written (packCall dictionary kernel out);
+      unpack = λ dictionary kernel out. one-written (unpackCall dictionary kernel out);
+      shorten = λ dictionary word out. one-written (shortenCall dictionary word out);
+      expand = λ dictionary word out. one-written (expandCall dictionary word out);
+      decode = λ dictionary kernel place. one-answer (decodeCall dictionary kernel place);
+      start = λ mask flag0 flag1 state. one-written (startCall mask flag0 flag1 state);
+      step = λ dictionary kernel registers state. one-changed (stepCall dictionary kernel registers state);
+      run = λ dictionary kernel budget registers state. one-changed (runCall dictionary kernel budget registers state);
+    }
