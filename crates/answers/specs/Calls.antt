@@ -31,6 +31,7 @@ use Rattle.answers.specs.Numbers.{oneTo, checkNumbers, packNumbers, unpa
 use Rattle.answers.specs.Small.{Small, small-refusal, small-verdict}
 use Rattle.answers.specs.Judging.{Modest, modest-number, modest-above, modest-size, judged-modest}
 use Rattle.answers.specs.Kernels.{KernelNo, Near, near-refused, near-number, near-few, near-more, sized-most, judged-near, accepted-near, Few, few-number, long-few}
+use Rattle.laws.specs.Truth.{both-true}
 
 -- ---- choices and refusals
 
@@ -194,16 +195,11 @@ state-fine others last illegal registers bytes go h (good k) n =
     by-cond (FineChanged (λ m. oneTo 12 m || others m)) (stateLegal k registers bytes) _ _ (λ _. h k (stateOf registers bytes))
     (λ _. fine-no (λ m. oneTo 12 m || others m) 15 0 illegal (omega arith) (omega arith))
 
--- The first of two that both hold.
-and-left : (a b : Bool) → (a && b) ≡ true → a ≡ true
-and-left true b e = refl
-and-left false b e = e
-
 -- A kernel that is judged once all sizes are right.
 lent-near : (dictionary kernel registers bytes : List ℕ) → allSized dictionary kernel registers bytes ≡ true
     → Near kernelBytes instructionLimit (judgedKernel longAndShort dictionary kernel)
 lent-near dictionary kernel registers bytes e =
-    near-more (length kernel) kernelBytes instructionLimit _ (sized-most dictionary kernel (and-left (sized dictionary kernel) _ e))
+    near-more (length kernel) kernelBytes instructionLimit _ (sized-most dictionary kernel (both-true (sized dictionary kernel) _ e .0))
     (judged-near longAndShort dictionary kernel)
 
 -- A step answers 0, 20 or a refusal, and counts nothing.

@@ -17,6 +17,7 @@ use Rattle.paper.specs.Jump.{targetsOf, targetsLand, firstAstray, astray, withJ
 use Rattle.paper.specs.Calls.{sized, judgedKernel, accepted}
 use Rattle.laws.specs.Judged.{Passed, asLong, asShort, judge-passed}
 use Rattle.answers.specs.Judging.{Modest, modest-number, modest-above, judged-modest}
+use Rattle.laws.specs.Truth.{both-true}
 
 -- Every instruction starts at a byte before `end`.
 unfoldable pub Inside : ℕ → List Instr → Type 0
@@ -112,14 +113,9 @@ near-jumps end n (good k) h = near-astray end n k k h (near-inside end n k h)
 
 -- ---- a kernel as it is lent
 
--- The second of two that both hold.
-and-right : (a b : Bool) → (a && b) ≡ true → b ≡ true
-and-right true b e = e
-and-right false b e = absurd (false≢true e)
-
 -- A kernel of the right size has at most 16,384 bytes.
 pub sized-most : (dictionary kernel : List ℕ) → sized dictionary kernel ≡ true → length kernel ≤ kernelBytes
-sized-most dictionary kernel e = leb-true (length kernel) kernelBytes (and-right (eqb (length dictionary) dictionaryBytes) _ e)
+sized-most dictionary kernel e = leb-true (length kernel) kernelBytes (both-true (eqb (length dictionary) dictionaryBytes) _ e .1)
 
 -- 2, 17 and 3 to 12 of a kernel of any length.
 pub judged-near : (forms : Forms) (dictionary kernel : List ℕ) → Near (length kernel) instructionLimit (judgedKernel forms dictionary kernel)

@@ -29,6 +29,7 @@ use Rattle.run.specs.Landing.{legalBy, legal-same}
 use Rattle.run.specs.declared.running.Outcome.{Outcome}
 use Rattle.run.specs.Running.{instructions, Running, running-end, running-on}
 use Rattle.run.specs.Outcomes.{outcomeIs}
+use Rattle.laws.specs.Truth.{both-true}
 
 -- ---- 1
 
@@ -39,15 +40,11 @@ pub record Sizes (dictionary kernel registers bytes : List ℕ) : Type 0 where
   pub registers-are : length registers ≡ registerBytes
   pub state-is : length bytes ≡ stateLength
 
-and-parts : (a b : Bool) → (a && b) ≡ true → (a ≡ true) × (b ≡ true)
-and-parts true b e = (refl, e)
-and-parts false b e = absurd (true≢false (sym e))
-
 module _ (dictionary kernel registers bytes : List ℕ) where
   sizes-of : allSized dictionary kernel registers bytes ≡ true → Sizes dictionary kernel registers bytes
   sizes-of e =
-      let p = and-parts (sized dictionary kernel) (eqb (length registers) registerBytes && eqb (length bytes) stateLength) e in
-      let q = and-parts (eqb (length registers) registerBytes) (eqb (length bytes) stateLength) (p .1) in
+      let p = both-true (sized dictionary kernel) (eqb (length registers) registerBytes && eqb (length bytes) stateLength) e in
+      let q = both-true (eqb (length registers) registerBytes) (eqb (length bytes) stateLength) (p .1) in
       record { all = e; right = p .0; registers-are = eqb-true _ _ (q .0); state-is = eqb-true _ _ (q .1) }
 
   -- What the code says of the sizes.
@@ -157,7 +154,7 @@ module _ (dictionary kernel registers bytes : List ℕ) (sizes : Sizes dictionar
 
   legal-parts : (allThree bytes 16 ≡ true) × (stateLands k (stateOf registers bytes) ≡ true)
   unfolding stateLegal
-  legal-parts = and-parts (allThree bytes 16) (stateLands k (stateOf registers bytes)) (law .legal)
+  legal-parts = both-true (allThree bytes 16) (stateLands k (stateOf registers bytes)) (law .legal)
 
   -- Steps are made from it.
   pub opened : Running dictionary kernel registers s
