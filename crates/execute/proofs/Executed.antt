@@ -17,7 +17,7 @@ use Rattle.laws.specs.Regions.{LegalPlain}
 use Rattle.laws.specs.Lasting.{Fit, effect-fits}
 use Rattle.lanes.specs.Masks.{enableMask, quarterMask, raisedMask, awakeList}
 use Rattle.lanes.specs.MaskLaws.{predicateOf, enableOf}
-use Rattle.execute.specs.declared.flags.Flags.{Flags}
+use Rattle.lanes.specs.declared.flags.Flags.{Flags}
 use Rattle.execute.specs.Stores.{storeOf, FlagsOf}
 use Rattle.execute.specs.Results.{Makes}
 use Rattle.execute.specs.Compared.{lowestBits}

@@ -8,7 +8,7 @@ use Rattle.paper.specs.Word.{flagChoice}
 use Rattle.paper.specs.Store.{Store}
 use Rattle.paper.specs.Enable.{chosenFlag}
 use Rattle.paper.specs.Effect.{withFlag}
-use Rattle.execute.specs.declared.flags.Flags.{Flags}
+use Rattle.lanes.specs.declared.flags.Flags.{Flags}
 
 -- The paper's store of registers and flags.
 abbrev pub storeOf : List ℕ → Flags → Store

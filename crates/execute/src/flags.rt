@@ -1,17 +1,12 @@
-// The two flags, and the one that a word chooses.
+// The flag that a word chooses.
 ghost use mathlib.Core.List.{[]};
 ghost use mathlib.Core.Path.{_≡_};
 ghost use Rattle.paper.specs.Enable.{chosenFlag};
 ghost use Rattle.words.specs.Words.{toWord};
 ghost use Rattle.execute.specs.Stores.{storeOf, FlagsOf};
+use lanes::flags::Flags;
 use words::bytes::Word;
 use words::fields::flag_choice;
-
-// f0.0 and f0.1, each a number of 16 bits.
-pub struct Flags {
-    pub flag0: u64,
-    pub flag1: u64,
-}
 
 // The flag that a word chooses.
 pub fn chosen(w: Word, f: Flags) -> u64

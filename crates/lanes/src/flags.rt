@@ -4,6 +4,12 @@ ghost use Prim.Native.Nat.{_+_, _<_, _≤_};
 ghost use Rattle.paper.specs.Bits.{bit};
 ghost use Rattle.paper.specs.Enable.{flagAfter};
 
+// f0.0 and f0.1.
+pub struct Flags {
+    pub flag0: u64,
+    pub flag1: u64,
+}
+
 // A flag after cmp on n channels from `first` on: their bits are the results where enabled, else 0; the other bits stay.
 // Enabled channels and results are masks by channel number.
 pub fn flag_after(old: u64, first: u64, n: u64, enable: u64, result: u64) -> u64

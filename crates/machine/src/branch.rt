@@ -5,7 +5,7 @@ use crate::channels::someone_awake;
 use crate::channels::someone_here;
 use crate::ways::Ways;
 use execute::enable::predicate_of;
-use execute::flags::Flags;
+use lanes::flags::Flags;
 use lanes::mask::bit;
 use words::bytes::Word;
 use words::operation::Branch;

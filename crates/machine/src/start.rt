@@ -2,7 +2,7 @@
 use crate::channels::Channels;
 use crate::state::State;
 use crate::state::write_state;
-use execute::flags::Flags;
+use lanes::flags::Flags;
 use words::answer::Answer;
 ghost use mathlib.Core.Path.{_≡_};
 ghost use mathlib.Core.List.{List};

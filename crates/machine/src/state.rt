@@ -1,6 +1,6 @@
 // The state between two steps, and the 42 bytes in which it is lent.
 use crate::channels::Channels;
-use execute::flags::Flags;
+use lanes::flags::Flags;
 use lanes::mask::bit;
 use words::bytes::read2;
 use words::bytes::write2;

@@ -5,7 +5,7 @@ use crate::channels::wake;
 use crate::state::State;
 use crate::ways::Ways;
 use execute::execute::execute;
-use execute::flags::Flags;
+use lanes::flags::Flags;
 use words::bytes::Word;
 use words::fields::operation;
 use words::operation::Operation;

@@ -14,7 +14,7 @@ use Rattle.paper.specs.Machine as paper
 use Rattle.paper.specs.Machine.{Ways, leads, waysOf, perform, stepAt, stops, step}
 use Rattle.paper.specs.Dictionary.{dictionaryOf}
 use Rattle.lanes.specs.Masks.{awakeList}
-use Rattle.execute.specs.declared.flags.Flags.{Flags}
+use Rattle.lanes.specs.declared.flags.Flags.{Flags}
 use Rattle.execute.specs.Stores.{storeOf}
 use Rattle.kernel.specs.Standing.{Fetches}
 use Rattle.kernel.specs.Jumps.{instrOf}

@@ -1,10 +1,10 @@
 // Steps one after the other of instructions that are no branches, while no channel waits where the kernel stands: only registers, flags and place
 // change.
 use execute::execute::execute;
-use execute::flags::Flags;
 use execute::plain::is_plain;
 use execute::plain::plain_of;
 use kernel::fetch::word_at;
+use lanes::flags::Flags;
 use machine::channels::waits_mask;
 use machine::state::State;
 use words::fields::opcode;
