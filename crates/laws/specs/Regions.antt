@@ -4,17 +4,18 @@ use mathlib.Core.Bool.{Bool, true, false, not, cond, _&&_, _||_, true≢false, f
 use mathlib.Core.List.{List, List·Memᴰ, List·Memᴰ·head, List·Memᴰ·tail}
 use Prim.Native.Nat.{ℕ, zero, suc, _+_, _-_, _*_, _/_, _%_, _^_, _≤_, _<_}
 use native.Mathlib.Omega.{arith}
-use native.Mathlib.Nat.{mul-le-mul-right, mod-lt, sub-add-cancel, suc-mul, add-mul, pow-suc}
+use native.Mathlib.Nat.{mul-le-mul-right, mod-lt, sub-add-cancel, suc-mul, add-mul, add-zero, div-one, mod-one, pow-suc}
 use lib.Dec.{ltb}
 use lib.Pow.{pow-pos, shr-mono, ones-split, low, ones-lt}
 use borrow.Author.Tests.{ltb-false, leb-false, eqb-false, not-false}
 use Rattle.paper.specs.Limits.{registerBytes}
-use Rattle.paper.specs.Word.{Source, execSize, srcType, srcWidth, srcHorzStride, srcVertStride, dstType, dstStride, isImmediate}
+use Rattle.paper.specs.Bits.{bits}
+use Rattle.paper.specs.Word.{Source, shiftOf, execSize, srcType, srcField, srcWidth, dstType, dstStride, isNull, isImmediate}
 use Rattle.paper.specs.Operation.{Plain, plain, operation, sources}
-use Rattle.paper.specs.Region.{strideOf, channels, elementAt, srcOrigin, srcSize, srcElement, dstOrigin, dstSize, dstElement}
-use Rattle.paper.specs.Word.{isNull}
-use Rattle.paper.specs.Legal.{anyOf, someOperand, reservedSet, plainServed, operandRuleBroken, shapeBroken, srcShapeBroken, alignmentBroken}
-use Rattle.paper.specs.Legal.{tooFar, lastChannel, reachBroken, later, refusalOf}
+use Rattle.paper.specs.Region.{Region, strideOf, channels, elementAt, srcRegion, dstOrigin, dstSize, dstElement}
+use Rattle.paper.specs.Legal.{anyOf, someOperand, reservedSet, plainServed, operandRuleBroken, shapeRefused, shapeBroken, srcShapeBroken, alignmentBroken}
+use Rattle.paper.specs.Legal.{tooFar, regionTooFar, lastChannel, reachBroken, later, refusalOf}
+use Rattle.laws.specs.Bits.{bits-within}
 use Rattle.laws.specs.Values.{size-least}
 
 -- ---- the rules one by one
@@ -82,24 +83,37 @@ by-source p w dst src e x m i =
     (none-of (λ y. not (isImmediate y w) && src y) (or-false (not (isNull w) && dst) _ e .1) m)
     (ap not i)
 
--- A register source's shape: its codes mean something, and a row is no wider than the channels are many.
-pub record SourceShape (x : Source) (w : ℕ) : Type 0 where
-  pub vertical : srcVertStride x w ≤ 6
-  pub width : srcWidth x w ≤ 4
-  pub wide : srcWidth x w ≤ execSize w
+-- ---- shapes
 
--- Every register source of a legal word has such a shape.
-pub source-shape : (p : Plain) (w : ℕ) → shapeBroken p w ≡ false
-    → (x : Source) → List·Memᴰ x (sources p) → isImmediate x w ≡ false → SourceShape x w
-unfolding shapeBroken
-source-shape p w s x m i =
-    let v = or-false (ltb 6 (srcVertStride x w)) _ (by-source p w _ (srcShapeBroken w) s x m i) in
-    let k = or-false (ltb 4 (srcWidth x w)) (ltb (execSize w) (srcWidth x w)) (v .1) in
+-- The shape that twelve source bits say at an ExecSize code: its codes mean something, and a row is no wider than the channels are many.
+pub record Shape (size field : ℕ) : Type 0 where
+  pub vertical : bits field 8 4 ≤ 6
+  pub width : bits field 5 3 ≤ 4
+  pub wide : bits field 5 3 ≤ size
+
+-- What 9 does not refuse has such a shape.
+pub shape-kept : (size field : ℕ) → shapeRefused size field ≡ false → Shape size field
+unfolding shapeRefused
+shape-kept size field e =
+    let v = or-false (ltb 6 (bits field 8 4)) _ e in
+    let k = or-false (ltb 4 (bits field 5 3)) (ltb size (bits field 5 3)) (v .1) in
     record {
-      vertical = ltb-false 6 (srcVertStride x w) (v .0);
-      width = ltb-false 4 (srcWidth x w) (k .0);
-      wide = ltb-false (execSize w) (srcWidth x w) (k .1);
+      vertical = ltb-false 6 (bits field 8 4) (v .0);
+      width = ltb-false 4 (bits field 5 3) (k .0);
+      wide = ltb-false size (bits field 5 3) (k .1);
     }
+
+-- Every register source of a legal word has one.
+pub source-shape : (p : Plain) (w : ℕ) → shapeBroken p w ≡ false
+    → (x : Source) → List·Memᴰ x (sources p) → isImmediate x w ≡ false → Shape (execSize w) (srcField x w)
+unfolding shapeBroken
+source-shape p w s x m i = shape-kept (execSize w) (srcField x w) (by-source p w _ (srcShapeBroken w) s x m i)
+
+-- Of the twelve bits, those of Width are the word's.
+field-width : (x : Source) (w : ℕ) → bits (srcField x w) 5 3 ≡ srcWidth x w
+field-width x w =
+    let e : 77 + shiftOf x + 5 ≡ 82 + shiftOf x = omega arith in
+    bits-within w (77 + shiftOf x) 5 3 4 ∙ ap (λ (k : ℕ). bits w k 3) e
 
 -- ---- elements inside the registers
 
@@ -109,15 +123,15 @@ last-column x k h =
     subst (λ (t : ℕ). (2 ^ t - 1) % 2 ^ k ≡ 2 ^ k - 1) (sub-add-cancel h)
     (ap (λ (t : ℕ). t % 2 ^ k) (ones-split (x - k) k) ∙ low (2 ^ (x - k) - 1) k (ones-lt k))
 
--- No channel's element starts past the last channel's.
-pub element-last : (origin vert horz size x k n : ℕ) → k ≤ x → n < 2 ^ x
-    → elementAt origin vert (2 ^ k) horz size n ≤ elementAt origin vert (2 ^ k) horz size (2 ^ x - 1)
+-- Where rows are whole, no channel's element starts past the last channel's.
+pub region-last : (r : Region) (x k n : ℕ) → r .wide ≡ 2 ^ k → k ≤ x → n < 2 ^ x → elementAt r n ≤ elementAt r (2 ^ x - 1)
 unfolding elementAt
-element-last origin vert horz size x k n hk hn =
-    let r : n / 2 ^ k * vert ≤ (2 ^ x - 1) / 2 ^ k * vert = mul-le-mul-right vert (shr-mono k (omega arith)) in
-    let c : n % 2 ^ k * horz ≤ (2 ^ x - 1) % 2 ^ k * horz = mul-le-mul-right horz (omega (arith, last-column x k hk, mod-lt n (pow-pos k))) in
-    let t : (n / 2 ^ k * vert + n % 2 ^ k * horz) * size ≤ ((2 ^ x - 1) / 2 ^ k * vert + (2 ^ x - 1) % 2 ^ k * horz) * size =
-    mul-le-mul-right size (omega arith) in
+region-last r x k n e hk hn =
+    let row : n / r .wide * r .vert ≤ (2 ^ x - 1) / r .wide * r .vert = rw e (mul-le-mul-right (r .vert) (shr-mono k (omega arith))) in
+    let column : n % r .wide * r .horz ≤ (2 ^ x - 1) % r .wide * r .horz =
+    rw e (mul-le-mul-right (r .horz) (omega (arith, last-column x k hk, mod-lt n (pow-pos k)))) in
+    let t : (n / r .wide * r .vert + n % r .wide * r .horz) * r .size ≤ ((2 ^ x - 1) / r .wide * r .vert + (2 ^ x - 1) % r .wide * r .horz) * r .size =
+    mul-le-mul-right (r .size) (omega arith) in
     omega arith
 
 -- An element that does not reach too far ends inside the registers.
@@ -132,45 +146,52 @@ near origin element size h e =
 ends-before : (a b size end : ℕ) → a ≤ b → b + size ≤ end → a + size ≤ end
 ends-before a b size end h k = omega arith
 
+-- The elements of the first `count` channels of a region lie inside the registers.
+abbrev pub Inside : Region → ℕ → Type 0
+Inside r count = (n : ℕ) → n < count → elementAt r n + r .size ≤ registerBytes
+
+-- They do where rows are whole and the last one is not too far.
+pub region-inside : (r : Region) (x k : ℕ) → r .wide ≡ 2 ^ k → k ≤ x → 0 < r .size → regionTooFar r (2 ^ x - 1) ≡ false → Inside r (2 ^ x)
+region-inside r x k e hk size far n h =
+    ends-before _ _ _ _ (region-last r x k n e hk h) (near (r .origin) (elementAt r (2 ^ x - 1)) (r .size) size far)
+
 -- Every channel of a legal word reads its register sources inside the registers.
 pub source-inside : (p : Plain) (w : ℕ) → shapeBroken p w ≡ false → reachBroken p w ≡ false
-    → (x : Source) → List·Memᴰ x (sources p) → isImmediate x w ≡ false
-    → (n : ℕ) → n < channels w → srcElement x w n + srcSize x w ≤ registerBytes
+    → (x : Source) → List·Memᴰ x (sources p) → isImmediate x w ≡ false → Inside (srcRegion x w) (channels w)
 unfolding reachBroken
-source-inside p w s r x m i n h =
-    let wide = source-shape p w s x m i .wide in
-    let reach : srcElement x w (lastChannel w) + srcSize x w ≤ registerBytes =
-    near (srcOrigin x w) (srcElement x w (lastChannel w)) (srcSize x w) (size-least (srcType x w))
-    (by-source p w _ (λ y. tooFar (srcOrigin y w) (srcElement y w (lastChannel w)) (srcSize y w)) r x m i) in
-    ends-before _ _ _ _
-    (element-last (srcOrigin x w) (strideOf (srcVertStride x w)) (strideOf (srcHorzStride x w)) (srcSize x w) (execSize w) (srcWidth x w) n wide h)
-    reach
+source-inside p w s r x m i =
+    let wide : srcWidth x w ≤ execSize w = rw (field-width x w) at (source-shape p w s x m i .wide) in
+    region-inside (srcRegion x w) (execSize w) (srcWidth x w) refl wide (size-least (srcType x w))
+    (by-source p w _ (λ y. regionTooFar (srcRegion y w) (lastChannel w)) r x m i)
 
--- Elements of a stride keep their order.
-ordered : (origin stride size m n : ℕ) → m ≤ n → origin + m * stride * size ≤ origin + n * stride * size
-ordered origin stride size m n h =
-    let t : m * stride * size ≤ n * stride * size = mul-le-mul-right size (mul-le-mul-right stride h) in
-    omega arith
+-- ---- the destination
+
+-- The destination's elements are a region's: each channel is a row.
+abbrev pub dstRegion : ℕ → Region
+dstRegion w = record { origin = dstOrigin w; vert = strideOf (dstStride w); wide = 1; horz = 0; size = dstSize w }
+
+destination-element : (w n : ℕ) → elementAt (dstRegion w) n ≡ dstElement w n
+unfolding elementAt
+destination-element w n = rw (div-one n, mod-one n) (ap (λ (e : ℕ). dstOrigin w + e * dstSize w) (add-zero (n * strideOf (dstStride w))))
 
 -- Every channel of a legal word that has a destination writes inside the registers.
 pub destination-inside : (p : Plain) (w : ℕ) → reachBroken p w ≡ false → isNull w ≡ false
     → (n : ℕ) → n < channels w → dstElement w n + dstSize w ≤ registerBytes
 unfolding reachBroken
 destination-inside p w r d n h =
-    ends-before _ _ _ _ (ordered (dstOrigin w) (strideOf (dstStride w)) (dstSize w) n (lastChannel w) (before (channels w) n h))
-    (near (dstOrigin w) (dstElement w (lastChannel w)) (dstSize w) (size-least (dstType w)) (by-destination p w _ _ r d))
-  where
-    before : (c n : ℕ) → n < c → n ≤ c - 1
-    before c n h = omega arith
+    rw (destination-element w n) at
+    (region-inside (dstRegion w) (execSize w) 0 refl (omega arith) (size-least (dstType w))
+    (ap (λ (e : ℕ). tooFar (dstOrigin w) e (dstSize w)) (destination-element w (lastChannel w)) ∙ by-destination p w _ _ r d) n h)
 
 -- ---- elements apart
 
--- Elements of a stride of 1 or more do not overlap: each ends where a later one starts, or before.
-apart : (origin stride size m n : ℕ) → 0 < stride → m < n → origin + m * stride * size + size ≤ origin + n * stride * size
-apart origin stride size m n hs h =
-    let a : suc m * stride * size ≤ n * stride * size = mul-le-mul-right size (mul-le-mul-right stride h) in
-    let b : size ≤ stride * size = omega (arith, mul-le-mul-right {m = 1} {n = stride} size hs) in
-    omega (arith, simp (suc-mul, add-mul) at a, b)
+-- Where each channel is a row, and rows have a stride, elements do not overlap: each ends where a later one starts, or before.
+pub region-apart : (r : Region) (m n : ℕ) → r .wide ≡ 1 → 0 < r .vert → m < n → elementAt r m + r .size ≤ elementAt r n
+unfolding elementAt
+region-apart r m n e hs h =
+    let a : suc m * r .vert * r .size ≤ n * r .vert * r .size = mul-le-mul-right (r .size) (mul-le-mul-right (r .vert) h) in
+    let b : r .size ≤ r .vert * r .size = omega (arith, mul-le-mul-right {m = 1} {n = r .vert} (r .size) hs) in
+    rw (e, div-one m, div-one n, mod-one m, mod-one n) (omega (arith, simp (suc-mul, add-mul) at a, b))
 
 -- A stride code other than 0 means a stride of 1 or more.
 pub stride-least : (c : ℕ) → (c ≡ 0 → ⊥) → 0 < strideOf c
@@ -184,4 +205,5 @@ destination-strides p w s d = eqb-false (dstStride w) 0 (by-destination p w _ (s
 
 -- No two channels of a word whose destination has a stride write the same byte.
 pub destination-apart : (w m n : ℕ) → (dstStride w ≡ 0 → ⊥) → m < n → dstElement w m + dstSize w ≤ dstElement w n
-destination-apart w m n h l = apart (dstOrigin w) (strideOf (dstStride w)) (dstSize w) m n (stride-least (dstStride w) h) l
+destination-apart w m n h l =
+    rw (destination-element w m, destination-element w n) at (region-apart (dstRegion w) m n refl (stride-least (dstStride w) h) l)

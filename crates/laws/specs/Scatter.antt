@@ -14,13 +14,14 @@ use lib.ListN.{length, getD, set, length-set}
 use lib.Seq.{getD-set-same, getD-set-other, drop-nil}
 use Rattle.paper.specs.Bits.{number, numberAt, putAt}
 use Rattle.paper.specs.Limits.{registerBytes}
-use Rattle.paper.specs.Word.{dstType, saturate}
+use Rattle.paper.specs.Word.{condModifier, dstType, saturate}
 use Rattle.paper.specs.Operation.{Plain}
 use Rattle.paper.specs.Region.{channels, dstSize, dstElement}
 use Rattle.paper.specs.Word.{isNull}
 use Rattle.paper.specs.Store.{Store}
-use Rattle.paper.specs.Effect.{scattered, channelResult, channelStores, isOn, registersAfter}
-use Rattle.laws.specs.Values.{size-patterns, stored-fits}
+use Rattle.paper.specs.Enable.{channelOf, holds}
+use Rattle.paper.specs.Effect.{scattered, channelStores, isOn, registersAfter}
+use Rattle.laws.specs.Values.{size-patterns, made-fits}
 use Rattle.laws.specs.Regions.{LegalPlain, destination-inside, destination-strides, destination-apart}
 
 -- ---- reading
@@ -180,11 +181,11 @@ module _ (p : Plain) (w : ℕ) (awake : List Bool) (st : Store) where
   pub registers-hold : LegalPlain p w → isNull w ≡ false → length (st .registers) ≡ registerBytes
       → (n : ℕ) → n < channels w → isOn p w awake st n ≡ true
       → numberAt (registersAfter p w awake st) (dstElement w n) (dstSize w) ≡ channelStores p w st n
-  unfolding registersAfter
+  unfolding registersAfter channelStores
   registers-hold legal d long n h on =
       rw d
       (scattered-holds (st .registers) (dstElement w) (dstSize w) (isOn p w awake st) (channelStores p w st) (channels w) n h on
       (λ j q. rw long (destination-inside p w (legal .reach) d j q))
       (λ i j q r. destination-apart w i j (destination-strides p w (legal .shape) d) q)
       ∙ ap (λ (m : ℕ). channelStores p w st n % m) (size-patterns (dstType w))
-      ∙ mod-eq-of-lt (stored-fits (eqb (saturate w) 1) (dstType w) (channelResult p w st n)))
+      ∙ mod-eq-of-lt (made-fits p (condModifier w) (holds w st (channelOf w n)) (eqb (saturate w) 1) (dstType w) _ _))

@@ -10,45 +10,36 @@ use lib.IntN.{ℤ, pos, negsuc, negℤ, subℕ, _+ℤ_, _*ℤ_}
 use lib.Signed.{ltZ, _≤ℤ_, leZ-yes, ltZ-no, ≤ℤ-refl}
 use lib.Pow.{pow-pos}
 use Rattle.paper.specs.Value.{width, sizeOf, isSigned, value, least, greatest, modZ, floorZ, clampTo, stored}
+use Rattle.paper.specs.Operation.{Plain}
+use Rattle.paper.specs.Element.{Element, meaning, result, made}
 use Rattle.laws.specs.Differences.{neg-of, is-neg, is-pos, sub-add, sub-mod}
 
--- ---- sizes
+-- ---- types
+
+-- What holds of four bytes and 32 bits, of two and 16, and of one and 8, holds of every type.
+pub by-type : (P : ℕ → ℕ → Type 0) → P 4 32 → P 2 16 → P 1 8 → (t : ℕ) → P (sizeOf t) (width t)
+by-type P dword word byte t = pick (ltb t 2) (ltb t 4)
+  where
+    pick : (p q : Bool) → P (cond p 4 (cond q 2 1)) (cond p 32 (cond q 16 8))
+    pick true q = dword
+    pick false true = word
+    pick false false = byte
 
 -- A type's bits are eight times its bytes.
 pub width-size : (t : ℕ) → width t ≡ 8 * sizeOf t
-width-size t = pick (ltb t 2) (ltb t 4)
-  where
-    pick : (p q : Bool) → cond p 32 (cond q 16 8) ≡ 8 * cond p 4 (cond q 2 1)
-    pick true q = refl
-    pick false true = refl
-    pick false false = refl
+width-size = by-type (λ size bits. bits ≡ 8 * size) refl refl refl
 
 -- A type has one byte at least.
 pub size-least : (t : ℕ) → 0 < sizeOf t
-size-least t = pick (ltb t 2) (ltb t 4)
-  where
-    pick : (p q : Bool) → 0 < cond p 4 (cond q 2 1)
-    pick true q = lit< tt
-    pick false true = lit< tt
-    pick false false = lit< tt
+size-least = by-type (λ size bits. 0 < size) (lit< tt) (lit< tt) (lit< tt)
 
 -- And four at most.
 pub size-most : (t : ℕ) → sizeOf t ≤ 4
-size-most t = pick (ltb t 2) (ltb t 4)
-  where
-    pick : (p q : Bool) → cond p 4 (cond q 2 1) ≤ 4
-    pick true q = lit≤ tt
-    pick false true = lit≤ tt
-    pick false false = lit≤ tt
+size-most = by-type (λ size bits. size ≤ 4) (lit≤ tt) (lit≤ tt) (lit≤ tt)
 
 -- So many bytes hold so many patterns as the bits do.
 pub size-patterns : (t : ℕ) → 256 ^ sizeOf t ≡ 2 ^ width t
-size-patterns t = pick (ltb t 2) (ltb t 4)
-  where
-    pick : (p q : Bool) → 256 ^ cond p 4 (cond q 2 1) ≡ 2 ^ cond p 32 (cond q 16 8)
-    pick true q = refl
-    pick false true = refl
-    pick false false = refl
+size-patterns = by-type (λ size bits. 256 ^ size ≡ 2 ^ bits) refl refl refl
 
 -- ---- quotient and remainder
 
@@ -74,6 +65,11 @@ floor-mod (negsuc a) m h =
 pub stored-fits : (s : Bool) (t : ℕ) (v : ℤ) → stored s t v < 2 ^ width t
 unfolding stored
 stored-fits s t v = mod-less (cond s (clampTo t v) v) (2 ^ width t) (pow-pos (width t))
+
+-- So has what an operation stores.
+pub made-fits : (p : Plain) (c : ℕ) (holds saturated : Bool) (t : ℕ) (a b : Element) → made p c holds saturated t a b < 2 ^ width t
+unfolding made
+made-fits p c holds saturated t a b = stored-fits saturated t (result p c holds (meaning a) (meaning b))
 
 -- A pattern's value is stored as that pattern: patterns and values are one to one, at every type.
 pub stored-value : (t n : ℕ) → n < 2 ^ width t → stored false t (value t n) ≡ n

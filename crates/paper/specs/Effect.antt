@@ -4,33 +4,33 @@ use mathlib.Core.Bool.{Bool, true, false, not, cond}
 use mathlib.Core.List.{List}
 use Prim.Native.Nat.{ℕ, zero, suc, _+_, _*_, _-_}
 use lib.Dec.{eqb}
-use lib.IntN.{ℤ}
 use Rattle.paper.specs.Bits.{numberAt, putAt}
-use Rattle.paper.specs.Word.{Source, src0, src1, condModifier, saturate, dstType, srcType, srcModifier, flagChoice, isImmediate, immediate}
+use Rattle.paper.specs.Word.{Source, src0, src1, condModifier, saturate, dstType, srcType, srcModifier, flagChoice, isNull, isImmediate}
 use Rattle.paper.specs.Operation.{Plain, Operation, plain, nop, branch, unlisted, operation, traits}
-use Rattle.paper.specs.Value.{width, value, modified, stored}
-use Rattle.paper.specs.Element.{compares, result}
-use Rattle.paper.specs.Region.{channels, srcSize, srcElement, dstSize, dstElement}
-use Rattle.paper.specs.Word.{isNull}
+use Rattle.paper.specs.Element.{Element, made, meets}
+use Rattle.paper.specs.Region.{channels, elementAt, Operand, fixed, direct, operandOf, dstSize, dstElement}
 use Rattle.paper.specs.Store.{Store}
 use Rattle.paper.specs.Enable.{chosenFlag, holds, channelOf, enabled, flagAfter}
-use lib.IntN.{_-ℤ_}
 
--- What channel n of source x reads: an immediate, the same for all channels, or its element of the registers, modified.
-unfoldable pub operand : ℕ → List ℕ → Source → ℕ → ℤ
+-- The pattern that channel n of an operand reads: an immediate, the same for all channels, or its element of the registers.
+unfoldable pub patternAt : List ℕ → Operand → ℕ → ℕ
+patternAt registers (fixed pattern) n = pattern
+patternAt registers (direct r) n = numberAt registers (elementAt r n) (r .size)
+
+-- What channel n of source x reads. An immediate has no modifier.
+unfoldable pub operand : ℕ → List ℕ → Source → ℕ → Element
 operand w registers x n =
-    cond (isImmediate x w)
-    (value (srcType x w) (immediate (width (srcType x w)) w))
-    (modified (srcModifier x w) (value (srcType x w) (numberAt registers (srcElement x w n) (srcSize x w))))
-
--- The result of channel n.
-unfoldable pub channelResult : Plain → ℕ → Store → ℕ → ℤ
-channelResult p w st n =
-    result p (condModifier w) (holds w st (channelOf w n)) (operand w (st .registers) src0 n) (operand w (st .registers) src1 n)
+    record {
+      kind = srcType x w;
+      modifier = cond (isImmediate x w) 0 (srcModifier x w);
+      pattern = patternAt registers (operandOf x w) n;
+    }
 
 -- The pattern that channel n stores.
-abbrev pub channelStores : Plain → ℕ → Store → ℕ → ℕ
-channelStores p w st n = stored (eqb (saturate w) 1) (dstType w) (channelResult p w st n)
+unfoldable pub channelStores : Plain → ℕ → Store → ℕ → ℕ
+channelStores p w st n =
+    made p (condModifier w) (holds w st (channelOf w n)) (eqb (saturate w) 1) (dstType w)
+    (operand w (st .registers) src0 n) (operand w (st .registers) src1 n)
 
 -- The registers with the first n channels' patterns stored, channel k's at byte `element k`, where it is enabled.
 unfoldable pub scattered : List ℕ → (ℕ → ℕ) → ℕ → (ℕ → Bool) → (ℕ → ℕ) → ℕ → List ℕ
@@ -47,11 +47,11 @@ registersAfter p w awake st =
     let written = scattered (st .registers) (dstElement w) (dstSize w) (isOn p w awake st) (channelStores p w st) (channels w) in
     cond (isNull w) (st .registers) written
 
--- What cmp finds for channel number m: src0 − src1 compared with 0.
+-- What cmp finds for channel number m.
 unfoldable pub finds : ℕ → Store → ℕ → Bool
 finds w st m =
     let n = m - channelOf w 0 in
-    compares (condModifier w) (operand w (st .registers) src0 n -ℤ operand w (st .registers) src1 n)
+    meets (condModifier w) (operand w (st .registers) src0 n) (operand w (st .registers) src1 n)
 
 -- The chosen flag after cmp.
 unfoldable pub comparedFlag : ℕ → List Bool → Store → ℕ

@@ -1,11 +1,11 @@
--- What each operation makes of one channel's values (the paper, "Operations"). Assumes nothing.
+-- What each operation makes of one channel's elements: patterns in, a pattern out, whole numbers in between (the paper, "Operations"). Assumes nothing.
 use mathlib.Core.Bool.{Bool, true, false, not, cond}
 use Prim.Native.Nat.{ℕ, _+_, _-_, _*_, _^_}
 use lib.Dec.{eqb}
 use lib.IntN.{ℤ, pos, negsuc, natAbs, _+ℤ_, _-ℤ_, _*ℤ_}
 use lib.Signed.{ltZ}
 use lib.Bits.{bitAnd, bitOr, bitXor}
-use Rattle.paper.specs.Value.{modZ, floorZ}
+use Rattle.paper.specs.Value.{value, modified, modZ, floorZ, stored}
 use Rattle.paper.specs.Operation.{Plain}
 
 -- (a + b + 1) / 2, rounded down.
@@ -58,3 +58,23 @@ result Plain.cmp c p a b = oneIf (compares c (a -ℤ b))
 result Plain.add c p a b = a +ℤ b
 result Plain.mul c p a b = a *ℤ b
 result Plain.avg c p a b = average a b
+
+-- ---- patterns in, a pattern out
+
+-- What an operation takes from a source: a pattern, its type, and the modifier under which it is read.
+pub record Element : Type 0 where
+  pub kind : ℕ
+  pub modifier : ℕ
+  pub pattern : ℕ
+
+-- The whole number that it stands for.
+abbrev pub meaning : Element → ℤ
+meaning a = modified (a .modifier) (value (a .kind) (a .pattern))
+
+-- The pattern of type `kind` that an operation stores for its sources' elements a and b.
+unfoldable pub made : Plain → ℕ → Bool → Bool → ℕ → Element → Element → ℕ
+made p c holds saturated kind a b = stored saturated kind (result p c holds (meaning a) (meaning b))
+
+-- What cmp finds for them: src0 − src1 compared with 0.
+unfoldable pub meets : ℕ → Element → Element → Bool
+meets c a b = compares c (meaning a -ℤ meaning b)

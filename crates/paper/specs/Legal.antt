@@ -8,11 +8,11 @@ use Rattle.paper.specs.Bits.{bits, bit}
 use Rattle.paper.specs.Limits.{registerBytes}
 use Rattle.paper.specs.Word.{Source, src0, src1, accessMode, weCtrl, qtrCtrl, predCtrl, execSize, condModifier, accWrCtrl, saturate}
 use Rattle.paper.specs.Word.{dstFile, dstType, dstSubregister, dstRegister, dstStride, dstAddrMode}
-use Rattle.paper.specs.Word.{srcFile, srcType, srcSubregister, srcModifier, srcAddrMode, srcWidth, srcVertStride}
+use Rattle.paper.specs.Word.{srcFile, srcType, srcSubregister, srcModifier, srcAddrMode, srcField}
 use Rattle.paper.specs.Word.{grf, isNull, isImmediate, immediateForm}
 use Rattle.paper.specs.Operation.{Plain, Branch, jmpi, if, else, endif, while, Operation, plain, nop, branch, unlisted, operation, isBranch, traits, sources}
 use Rattle.paper.specs.Value.{isSigned}
-use Rattle.paper.specs.Region.{channels, srcOrigin, srcSize, srcElement, dstOrigin, dstSize, dstElement}
+use Rattle.paper.specs.Region.{Region, channels, elementAt, srcRegion, dstOrigin, dstSize, dstElement}
 
 -- Some source of the list passes the test.
 abbrev pub anyOf : (Source → Bool) → List Source → Bool
@@ -125,10 +125,18 @@ operandRuleBroken p w =
 abbrev pub someOperand : Plain → ℕ → Bool → (Source → Bool) → Bool
 someOperand p w dst src = (not (isNull w) && dst) || anyOf (λ x. not (isImmediate x w) && src x) (sources p)
 
--- 9: a stride or width code is undefined, or ExecSize lies under Width; the destination's stride is 0.
-abbrev pub srcShapeBroken : ℕ → Source → Bool
-srcShapeBroken w x = ltb 6 (srcVertStride x w) || (ltb 4 (srcWidth x w) || ltb (execSize w) (srcWidth x w))
+-- 9: a stride or width code is undefined, or ExecSize lies under Width. It is asked of the twelve bits that say a source's region (`srcField`), and of the code of
+-- ExecSize: nothing else decides it.
+unfoldable pub shapeRefused : ℕ → ℕ → Bool
+shapeRefused size field =
+    let vert = bits field 8 4 in
+    let wide = bits field 5 3 in
+    ltb 6 vert || (ltb 4 wide || ltb size wide)
 
+abbrev pub srcShapeBroken : ℕ → Source → Bool
+srcShapeBroken w x = shapeRefused (execSize w) (srcField x w)
+
+-- The destination's stride is not 0.
 unfoldable pub shapeBroken : Plain → ℕ → Bool
 shapeBroken p w = someOperand p w (eqb (dstStride w) 0) (srcShapeBroken w)
 
@@ -137,13 +145,16 @@ abbrev pub unaligned : ℕ → ℕ → Bool
 unaligned subregister size = not (eqb (subregister % size) 0)
 
 unfoldable pub alignmentBroken : Plain → ℕ → Bool
-alignmentBroken p w = someOperand p w (unaligned (dstSubregister w) (dstSize w)) (λ x. unaligned (srcSubregister x w) (srcSize x w))
+alignmentBroken p w = someOperand p w (unaligned (dstSubregister w) (dstSize w)) (λ x. unaligned (srcSubregister x w) (srcRegion x w .size))
 
 -- 11: the first and the last byte lie in registers more than one apart, or past r127. `element` is where the last channel's element starts: no channel's lies
 -- farther, since 9 has passed and so rows are whole.
 unfoldable pub tooFar : ℕ → ℕ → ℕ → Bool
 tooFar origin element size =
     let last = element + size - 1 in ltb (origin / 32 + 1) (last / 32) || leb registerBytes last
+
+abbrev pub regionTooFar : Region → ℕ → Bool
+regionTooFar r last = tooFar (r .origin) (elementAt r last) (r .size)
 
 abbrev pub lastChannel : ℕ → ℕ
 lastChannel w = channels w - 1
@@ -152,7 +163,7 @@ unfoldable pub reachBroken : Plain → ℕ → Bool
 reachBroken p w =
     someOperand p w
     (tooFar (dstOrigin w) (dstElement w (lastChannel w)) (dstSize w))
-    (λ x. tooFar (srcOrigin x w) (srcElement x w (lastChannel w)) (srcSize x w))
+    (λ x. regionTooFar (srcRegion x w) (lastChannel w))
 
 -- ---- the six in order: the number of the first rule that is broken, or 0
 

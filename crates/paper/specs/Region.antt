@@ -1,7 +1,9 @@
 -- Regions: at which byte each channel's element starts (the paper, "Operations"; source document 001). Assumes nothing.
-use Prim.Native.Nat.{ℕ, _+_, _-_, _*_, _/_, _%_, _^_}
-use Rattle.paper.specs.Word.{Source, execSize, dstType, dstSubregister, dstRegister, dstStride, srcType, srcSubregister, srcRegister, srcHorzStride, srcWidth, srcVertStride}
-use Rattle.paper.specs.Value.{sizeOf}
+use mathlib.Core.Bool.{cond}
+use Prim.Native.Nat.{ℕ, _+_, _*_, _/_, _%_, _^_}
+use Rattle.paper.specs.Word.{Source, execSize, dstType, dstSubregister, dstRegister, dstStride}
+use Rattle.paper.specs.Word.{srcType, srcSubregister, srcRegister, srcHorzStride, srcWidth, srcVertStride, isImmediate, immediate}
+use Rattle.paper.specs.Value.{width, sizeOf}
 
 -- ExecSize and Width codes 0 to 4 mean 1 to 16.
 abbrev pub countOf : ℕ → ℕ
@@ -15,20 +17,44 @@ strideOf c = 2 ^ c / 2
 abbrev pub channels : ℕ → ℕ
 channels w = countOf (execSize w)
 
+-- ---- regions
+
+-- A region: the byte at which it begins, the strides from row to row and from channel to channel, in elements, how many channels a row has, and
+-- how many bytes an element has.
+pub record Region : Type 0 where
+  pub origin : ℕ
+  pub vert : ℕ
+  pub wide : ℕ
+  pub horz : ℕ
+  pub size : ℕ
+
 -- Channel j of row i reads byte origin + (i × VertStride + j × HorzStride) × size; channel n of all stands in row n / Width at n modulo Width.
-unfoldable pub elementAt : ℕ → ℕ → ℕ → ℕ → ℕ → ℕ → ℕ
-elementAt origin vert wide horz size n = origin + (n / wide * vert + n % wide * horz) * size
+unfoldable pub elementAt : Region → ℕ → ℕ
+elementAt r n = r .origin + (n / r .wide * r .vert + n % r .wide * r .horz) * r .size
 
-abbrev pub srcOrigin : Source → ℕ → ℕ
-srcOrigin x w = srcRegister x w * 32 + srcSubregister x w
+-- The region of source x.
+abbrev pub srcRegion : Source → ℕ → Region
+srcRegion x w =
+    record {
+      origin = srcRegister x w * 32 + srcSubregister x w;
+      vert = strideOf (srcVertStride x w);
+      wide = countOf (srcWidth x w);
+      horz = strideOf (srcHorzStride x w);
+      size = sizeOf (srcType x w);
+    }
 
-abbrev pub srcSize : Source → ℕ → ℕ
-srcSize x w = sizeOf (srcType x w)
+-- ---- operands
 
--- The first byte of channel n of source x.
-abbrev pub srcElement : Source → ℕ → ℕ → ℕ
-srcElement x w n =
-    elementAt (srcOrigin x w) (strideOf (srcVertStride x w)) (countOf (srcWidth x w)) (strideOf (srcHorzStride x w)) (srcSize x w) n
+-- What a source names: an immediate's pattern, or a region of the registers.
+pub data Operand : Type 0 where
+  fixed : ℕ → Operand
+  direct : Region → Operand
+
+-- An immediate is as many of the low bits as its type has.
+abbrev pub operandOf : Source → ℕ → Operand
+operandOf x w = cond (isImmediate x w) (fixed (immediate (width (srcType x w)) w)) (direct (srcRegion x w))
+
+-- ---- the destination
 
 abbrev pub dstOrigin : ℕ → ℕ
 dstOrigin w = dstRegister w * 32 + dstSubregister w

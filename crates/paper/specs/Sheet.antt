@@ -9,7 +9,7 @@ use Rattle.paper.specs.Bits.{_at_, numberAt, bytesOf, putAt}
 use Rattle.paper.specs.Operation.{Plain}
 use Rattle.paper.specs.Value.{value, modified, stored}
 use Rattle.paper.specs.Element.{result}
-use Rattle.paper.specs.Region.{srcElement}
+use Rattle.paper.specs.Region.{elementAt, srcRegion}
 use Rattle.paper.specs.Word.{src0}
 use Rattle.paper.specs.Calls.{Answer, numberOf, offsetOf, countOf, Written, Changed, checkCall, packCall, unpackCall, shortenCall, expandCall, runCall, stepCall}
 use Rattle.paper.specs.Assembler.{dwords, to, from0, from1, immediate0, immediate1, op, structuredTo, jmpiTo, nopWord, long, numbers, zeros, blankDictionary, dictionaryA, clear, ramp, begin}
@@ -99,9 +99,9 @@ rowsCDEF =
 
 unfoldable pub rowsG : List Row
 rowsG =
-    (map (srcElement src0 (op 0x01 4 + from0 4 0 0 1 2 3)) (count 0 16)
+    (map (elementAt (srcRegion src0 (op 0x01 4 + from0 4 0 0 1 2 3))) (count 0 16)
     gives 0 ∷ 4 ∷ 8 ∷ 12 ∷ 1 ∷ 5 ∷ 9 ∷ 13 ∷ 2 ∷ 6 ∷ 10 ∷ 14 ∷ 3 ∷ 7 ∷ 11 ∷ 15 ∷ [])
-    ∷ (map (srcElement src0 (op 0x01 4 + from0 4 0 0 3 2 1)) (count 0 16) gives count 0 16)
+    ∷ (map (elementAt (srcRegion src0 (op 0x01 4 + from0 4 0 0 3 2 1))) (count 0 16) gives count 0 16)
     ∷ []
 
 -- ---- H

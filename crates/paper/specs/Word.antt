@@ -107,6 +107,10 @@ srcWidth x w = bits w (82 + shiftOf x) 3
 abbrev pub srcVertStride : Source → ℕ → ℕ
 srcVertStride x w = bits w (85 + shiftOf x) 4
 
+-- The twelve bits that say how a source is read, as one number: modifier, AddrMode at 2, HorzStride at 3, Width at 5, VertStride at 8.
+abbrev pub srcField : Source → ℕ → ℕ
+srcField x w = bits w (77 + shiftOf x) 12
+
 abbrev pub flagChoice : ℕ → ℕ
 flagChoice w = bits w 89 1
 
