@@ -3,14 +3,14 @@ use mathlib.Core.Bool.{Bool, true, false, not, cond, _&&_, _||_}
 use mathlib.Core.Path.{_≡_, refl, sym, ap, ap₂, _∙_}
 use Prim.Native.Nat.{ℕ, _+_, _-_, _*_, _/_, _%_}
 use lib.Dec.{eqb, ltb, leb}
-use Rattle.paper.specs.Word.{Source, src0, src1, dstSubregister, dstStride, srcSubregister, srcWidth, srcVertStride, srcHorzStride, isImmediate}
+use Rattle.paper.specs.Word.{Source, src0, src1, dstSubregister, dstStride, srcSubregister, isNull, isImmediate}
 use Rattle.paper.specs.Operation.{Plain, Branch, Operation, plain, nop, branch, unlisted, operation, traits, sources}
-use Rattle.paper.specs.Region.{countOf, strideOf, elementAt, dstSize, dstOrigin, dstElement, srcSize, srcOrigin, srcElement}
-use Rattle.paper.specs.Word.{isNull}
+use Rattle.paper.specs.Region.{srcRegion, dstSize, dstOrigin, dstElement}
 use Rattle.paper.specs.Legal.{anyOf, controlServed, dstServed, srcServed, plainServed}
 use Rattle.paper.specs.Legal.{misplaced, unequalHalves, badModifier, ownRuleBroken, operandRuleBroken}
-use Rattle.paper.specs.Legal.{someOperand, srcShapeBroken, shapeBroken, unaligned, alignmentBroken, tooFar, lastChannel, reachBroken}
+use Rattle.paper.specs.Legal.{someOperand, srcShapeBroken, shapeBroken, unaligned, alignmentBroken, tooFar, regionTooFar, lastChannel, reachBroken}
 use Rattle.paper.specs.Legal.{reservedSet, branchServed, later, refusalOf}
+use Rattle.laws.specs.Regions.{dstRegion, destination-element}
 use Rattle.words.specs.Traits.{readsTwo, two-counted}
 use Rattle.judge.specs.Sources.{anySource, any-source}
 
@@ -51,28 +51,21 @@ shape-rule p w = some-operand p w (eqb (dstStride w) 0) (srcShapeBroken w)
 -- 10
 pub alignment-rule : (p : Plain) (w : ℕ)
     → alignmentBroken p w
-    ≡ operandTest p w (unaligned (dstSubregister w) (dstSize w)) (unaligned (srcSubregister src0 w) (srcSize src0 w)) (unaligned (srcSubregister src1 w) (srcSize src1 w))
+    ≡ operandTest p w (unaligned (dstSubregister w) (dstSize w)) (unaligned (srcSubregister src0 w) (srcRegion src0 w .size)) (unaligned (srcSubregister src1 w) (srcRegion src1 w .size))
 unfolding alignmentBroken
-alignment-rule p w = some-operand p w (unaligned (dstSubregister w) (dstSize w)) (λ x. unaligned (srcSubregister x w) (srcSize x w))
+alignment-rule p w = some-operand p w (unaligned (dstSubregister w) (dstSize w)) (λ x. unaligned (srcSubregister x w) (srcRegion x w .size))
 
 -- 11
 
--- How far a source's last element lies from its origin.
-abbrev pub srcOffset : Source → ℕ → ℕ
-srcOffset x w =
-    let n = lastChannel w in
-    let wide = countOf (srcWidth x w) in
-    (n / wide * strideOf (srcVertStride x w) + n % wide * strideOf (srcHorzStride x w)) * srcSize x w
-
-pub src-element : (x : Source) (w : ℕ) → srcElement x w (lastChannel w) ≡ srcOrigin x w + srcOffset x w
-unfolding elementAt
-src-element x w = refl
-
 abbrev pub srcFar : Source → ℕ → Bool
-srcFar x w = tooFar (srcOrigin x w) (srcElement x w (lastChannel w)) (srcSize x w)
+srcFar x w = regionTooFar (srcRegion x w) (lastChannel w)
 
 abbrev pub dstFar : ℕ → Bool
 dstFar w = tooFar (dstOrigin w) (dstElement w (lastChannel w)) (dstSize w)
+
+-- The destination's rule over its region.
+pub dst-far : (w : ℕ) → regionTooFar (dstRegion w) (lastChannel w) ≡ dstFar w
+dst-far w = ap (λ (e : ℕ). tooFar (dstOrigin w) e (dstSize w)) (destination-element w (lastChannel w))
 
 pub reach-rule : (p : Plain) (w : ℕ) → reachBroken p w ≡ operandTest p w (dstFar w) (srcFar src0 w) (srcFar src1 w)
 unfolding reachBroken

@@ -15,11 +15,11 @@ use words::fields::bits_121;
 use words::fields::cond_modifier;
 use words::fields::dst_addr_mode;
 use words::fields::dst_file;
-use words::fields::dst_register;
 use words::fields::dst_type;
 use words::fields::exec_size;
 use words::fields::immediate_form;
 use words::fields::is_immediate;
+use words::fields::is_null;
 use words::fields::operation;
 use words::fields::pred_ctrl;
 use words::fields::qtr_ctrl;
@@ -35,7 +35,6 @@ use words::traits::compares;
 use words::traits::saturates;
 ghost use mathlib.Core.Path.{_≡_};
 ghost use Rattle.paper.specs.Operation.{jmpi};
-ghost use Rattle.paper.specs.Word.{isNull};
 ghost use Rattle.paper.specs.Legal.{reservedSet, quarterServed, conditionServed, controlServed, dstServed, srcServed, plainServed, structured, ownNeeds, branchServed};
 ghost use Rattle.words.specs.Operations.{plainIs, branchIs};
 ghost use Rattle.words.specs.Words.{toWord, sourceIs};
@@ -83,13 +82,6 @@ pub fn control_served(comparing: bool, saturating: bool, w: Word) -> bool
 }
 
 // ---- 7: operands
-
-// The destination is null: file 00, register 0.
-pub fn is_null(w: Word) -> bool
-    ensures { λ r. ⌜ r ≡ isNull (toWord w) ⌝ }
-{
-    both(dst_file(w) == 0, dst_register(w) == 0)
-}
 
 // Registers or null, addressed directly, of a listed type.
 pub fn dst_served(w: Word) -> bool

@@ -80,8 +80,8 @@ pub bits-above : (p k n w : ℕ) → bits (w / 2 ^ p) k n ≡ bits w (p + k) n
 bits-above p k n w = ap (λ (x : ℕ). x % 2 ^ n) (shr-shr w p k)
 
 -- A field of a field is a field of the whole.
-pub bits-within : (w k j m q : ℕ) → bits (bits w k (j + m + q)) j m ≡ bits w (k + j) m
-bits-within w k j m q = bits-below j m q (w / 2 ^ k) ∙ bits-above k j m w
+pub bits-inner : (w k j m q : ℕ) → bits (bits w k (j + m + q)) j m ≡ bits w (k + j) m
+bits-inner w k j m q = bits-below j m q (w / 2 ^ k) ∙ bits-above k j m w
 
 -- Two halves of 64 bits are a word of 128.
 pub whole-lt : (lo hi : ℕ) → lo < 2 ^ 64 → hi < 2 ^ 64 → lo + hi * 2 ^ 64 < 2 ^ 128

@@ -15,7 +15,7 @@ use Rattle.paper.specs.Operation.{Plain, plain, operation, sources}
 use Rattle.paper.specs.Region.{Region, strideOf, channels, elementAt, srcRegion, dstOrigin, dstSize, dstElement}
 use Rattle.paper.specs.Legal.{anyOf, someOperand, reservedSet, plainServed, operandRuleBroken, shapeRefused, shapeBroken, srcShapeBroken, alignmentBroken}
 use Rattle.paper.specs.Legal.{tooFar, regionTooFar, lastChannel, reachBroken, later, refusalOf}
-use Rattle.laws.specs.Bits.{bits-within}
+use Rattle.laws.specs.Bits.{bits-inner}
 use Rattle.laws.specs.Values.{size-least}
 
 -- ---- the rules one by one
@@ -113,7 +113,7 @@ source-shape p w s x m i = shape-kept (execSize w) (srcField x w) (by-source p w
 field-width : (x : Source) (w : ℕ) → bits (srcField x w) 5 3 ≡ srcWidth x w
 field-width x w =
     let e : 77 + shiftOf x + 5 ≡ 82 + shiftOf x = omega arith in
-    bits-within w (77 + shiftOf x) 5 3 4 ∙ ap (λ (k : ℕ). bits w k 3) e
+    bits-inner w (77 + shiftOf x) 5 3 4 ∙ ap (λ (k : ℕ). bits w k 3) e
 
 -- ---- elements inside the registers
 
@@ -170,7 +170,7 @@ source-inside p w s r x m i =
 abbrev pub dstRegion : ℕ → Region
 dstRegion w = record { origin = dstOrigin w; vert = strideOf (dstStride w); wide = 1; horz = 0; size = dstSize w }
 
-destination-element : (w n : ℕ) → elementAt (dstRegion w) n ≡ dstElement w n
+pub destination-element : (w n : ℕ) → elementAt (dstRegion w) n ≡ dstElement w n
 unfolding elementAt
 destination-element w n = rw (div-one n, mod-one n) (ap (λ (e : ℕ). dstOrigin w + e * dstSize w) (add-zero (n * strideOf (dstStride w))))
 

@@ -6,4 +6,6 @@ pub mod Words
 pub mod Bytes
 pub mod Fields
 pub mod Answer
+pub mod Regions
+pub mod Operands
 pub mod Meaning

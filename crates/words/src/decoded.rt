@@ -1,15 +1,17 @@
-// What a word says, field by field.
+// What a word says: its operation, its control fields, its operands and its distances. With these all its fields are named; a field that nothing executes is carried.
 use crate::bytes::Word;
 use crate::fields::Source;
+use crate::fields::acc_wr_ctrl;
+use crate::fields::access_mode;
+use crate::fields::cmpt_ctrl;
 use crate::fields::cond_modifier;
+use crate::fields::debug_ctrl;
+use crate::fields::dep_ctrl;
+use crate::fields::dst_addr_mode;
 use crate::fields::dst_file;
-use crate::fields::dst_register;
-use crate::fields::dst_stride;
-use crate::fields::dst_subregister;
 use crate::fields::dst_type;
 use crate::fields::exec_size;
 use crate::fields::flag_choice;
-use crate::fields::immediate_value;
 use crate::fields::long_distance;
 use crate::fields::operation;
 use crate::fields::pred_ctrl;
@@ -17,20 +19,21 @@ use crate::fields::pred_inv;
 use crate::fields::qtr_ctrl;
 use crate::fields::saturate;
 use crate::fields::short_distance;
+use crate::fields::src_addr_mode;
 use crate::fields::src_file;
-use crate::fields::src_horz_stride;
 use crate::fields::src_modifier;
-use crate::fields::src_register;
-use crate::fields::src_subregister;
 use crate::fields::src_type;
-use crate::fields::src_vert_stride;
-use crate::fields::src_width;
+use crate::fields::thread_ctrl;
 use crate::fields::we_ctrl;
+use crate::operand::Operand;
+use crate::operand::operand_of;
 use crate::operation::Operation;
+use crate::region::Region;
+use crate::region::dst_region;
 ghost use Rattle.words.specs.Words.{toWord, sourceIs};
-ghost use Rattle.words.specs.Meaning.{ControlMeans, DestinationMeans, OperandMeans, Means};
+ghost use Rattle.words.specs.Meaning.{ControlMeans, CarriedMeans, DestinationMeans, InputMeans, Means};
 
-// Which channels work, and on what conditions. Sizes are codes.
+// Which channels work, and on what conditions. The size is a code.
 pub struct Control {
     pub size: u64,
     pub quarter: u64,
@@ -42,35 +45,41 @@ pub struct Control {
     pub unmasked: u64,
 }
 
-// Where a result goes. The stride is a code.
+// The control fields that no step looks at: AccessMode, DepCtrl, ThreadCtrl, AccWrCtrl, CmptCtrl, DebugCtrl.
+pub struct Carried {
+    pub access: u64,
+    pub dependency: u64,
+    pub thread: u64,
+    pub accumulator: u64,
+    pub compact: u64,
+    pub debug: u64,
+}
+
+// Where a result goes: its register file, its type, its AddrMode and its region.
 pub struct Destination {
     pub file: u64,
     pub kind: u64,
-    pub register: u64,
-    pub subregister: u64,
-    pub stride: u64,
+    pub mode: u64,
+    pub region: Region,
 }
 
-// Where a source comes from. Strides and width are codes.
-pub struct Operand {
+// Where a source comes from: its register file, its type, its modifier, its AddrMode and what it names.
+pub struct Input {
     pub file: u64,
     pub kind: u64,
-    pub register: u64,
-    pub subregister: u64,
     pub modifier: u64,
-    pub vertical: u64,
-    pub width: u64,
-    pub horizontal: u64,
+    pub mode: u64,
+    pub operand: Operand,
 }
 
 // A word, taken apart. `near` is the distance of if, else, endif and while, `far` is jmpi's.
 pub struct Decoded {
     pub operation: Operation,
     pub control: Control,
+    pub carried: Carried,
     pub destination: Destination,
-    pub first: Operand,
-    pub second: Operand,
-    pub immediate: u64,
+    pub first: Input,
+    pub second: Input,
     pub near: u64,
     pub far: u64,
 }
@@ -91,6 +100,20 @@ pub fn control_of(w: Word) -> Control
     }
 }
 
+// Those that are only carried.
+pub fn carried_of(w: Word) -> Carried
+    ensures { λ r. ⌜ CarriedMeans r (toWord w) ⌝ }
+{
+    Carried {
+        access: access_mode(w),
+        dependency: dep_ctrl(w),
+        thread: thread_ctrl(w),
+        accumulator: acc_wr_ctrl(w),
+        compact: cmpt_ctrl(w),
+        debug: debug_ctrl(w),
+    }
+}
+
 // Its destination.
 pub fn destination_of(w: Word) -> Destination
     ensures { λ r. ⌜ DestinationMeans r (toWord w) ⌝ }
@@ -98,25 +121,21 @@ pub fn destination_of(w: Word) -> Destination
     Destination {
         file: dst_file(w),
         kind: dst_type(w),
-        register: dst_register(w),
-        subregister: dst_subregister(w),
-        stride: dst_stride(w),
+        mode: dst_addr_mode(w),
+        region: dst_region(w),
     }
 }
 
 // One of its sources.
-pub fn operand_of(x: Source, w: Word) -> Operand
-    ensures { λ r. ⌜ OperandMeans r (sourceIs x) (toWord w) ⌝ }
+pub fn input_of(x: Source, w: Word) -> Input
+    ensures { λ r. ⌜ InputMeans r (sourceIs x) (toWord w) ⌝ }
 {
-    Operand {
+    Input {
         file: src_file(x, w),
         kind: src_type(x, w),
-        register: src_register(x, w),
-        subregister: src_subregister(x, w),
         modifier: src_modifier(x, w),
-        vertical: src_vert_stride(x, w),
-        width: src_width(x, w),
-        horizontal: src_horz_stride(x, w),
+        mode: src_addr_mode(x, w),
+        operand: operand_of(x, w),
     }
 }
 
@@ -126,19 +145,19 @@ pub fn decode(w: Word) -> Decoded
 {
     let o = operation(w);
     let control = control_of(w);
+    let carried = carried_of(w);
     let destination = destination_of(w);
-    let first = operand_of(Source::First, w);
-    let second = operand_of(Source::Second, w);
-    let immediate = immediate_value(w);
+    let first = input_of(Source::First, w);
+    let second = input_of(Source::Second, w);
     let near = short_distance(w);
     let far = long_distance(w);
     Decoded {
         operation: o,
         control: control,
+        carried: carried,
         destination: destination,
         first: first,
         second: second,
-        immediate: immediate,
         near: near,
         far: far,
     }

@@ -7,9 +7,9 @@ ghost use Prim.Native.Nat.{_+_, _<_, _≤_, _^_};
 ghost use Rattle.paper.specs.Bits.{bits};
 ghost use Rattle.paper.specs.Expand.{isShort};
 ghost use Rattle.paper.specs.Operation.{operation};
-ghost use Rattle.paper.specs.Word.{accWrCtrl, accessMode, cmptCtrl, condModifier, execSize, flagChoice, opcode, predCtrl, predInv, qtrCtrl, saturate, weCtrl};
+ghost use Rattle.paper.specs.Word.{accWrCtrl, accessMode, cmptCtrl, condModifier, debugCtrl, depCtrl, execSize, flagChoice, opcode, predCtrl, predInv, qtrCtrl, saturate, threadCtrl, weCtrl};
 ghost use Rattle.paper.specs.Word.{dstAddrMode, dstFile, dstRegister, dstStride, dstSubregister, dstType};
-ghost use Rattle.paper.specs.Word.{immediate, immediateForm, isImmediate, shiftOf, srcAddrMode, srcFile, srcHorzStride, srcModifier, srcRegister, srcSubregister, srcType, srcVertStride, srcWidth};
+ghost use Rattle.paper.specs.Word.{immediateForm, isImmediate, isNull, shiftOf, srcAddrMode, srcField, srcFile, srcHorzStride, srcModifier, srcRegister, srcSubregister, srcType, srcVertStride, srcWidth};
 ghost use Rattle.words.specs.Operations.{operationIs};
 ghost use Rattle.words.specs.Words.{toWord, sourceIs};
 
@@ -79,11 +79,25 @@ pub fn we_ctrl(w: Word) -> u64
     low(w, 9, 1)
 }
 
+// DepCtrl.
+pub fn dep_ctrl(w: Word) -> u64
+    ensures { λ r. ⌜ (r ≡ depCtrl (toWord w)) × (r < 4) ⌝ }
+{
+    low(w, 10, 2)
+}
+
 // QtrCtrl, the quarter.
 pub fn qtr_ctrl(w: Word) -> u64
     ensures { λ r. ⌜ (r ≡ qtrCtrl (toWord w)) × (r < 4) ⌝ }
 {
     low(w, 12, 2)
+}
+
+// ThreadCtrl.
+pub fn thread_ctrl(w: Word) -> u64
+    ensures { λ r. ⌜ (r ≡ threadCtrl (toWord w)) × (r < 4) ⌝ }
+{
+    low(w, 14, 2)
 }
 
 // PredCtrl.
@@ -126,6 +140,13 @@ pub fn cmpt_ctrl(w: Word) -> u64
     ensures { λ r. ⌜ (r ≡ cmptCtrl (toWord w)) × (r < 2) ⌝ }
 {
     low(w, 29, 1)
+}
+
+// DebugCtrl.
+pub fn debug_ctrl(w: Word) -> u64
+    ensures { λ r. ⌜ (r ≡ debugCtrl (toWord w)) × (r < 2) ⌝ }
+{
+    low(w, 30, 1)
 }
 
 // Saturate.
@@ -175,6 +196,16 @@ pub fn dst_addr_mode(w: Word) -> u64
     ensures { λ r. ⌜ (r ≡ dstAddrMode (toWord w)) × (r < 2) ⌝ }
 {
     low(w, 63, 1)
+}
+
+// The destination is null.
+pub fn is_null(w: Word) -> bool
+    ensures { λ r. ⌜ r ≡ isNull (toWord w) ⌝ }
+{
+    if dst_file(w) == 0 {
+        return dst_register(w) == 0;
+    }
+    false
 }
 
 // The flag register that a word chooses.
@@ -255,11 +286,11 @@ pub fn src_vert_stride(x: Source, w: Word) -> u64
     of_source(x, w, 21, 4)
 }
 
-// The immediate, 32 bits.
-pub fn immediate_value(w: Word) -> u64
-    ensures { λ r. ⌜ (r ≡ immediate 32 (toWord w)) × (r < 2 ^ 32) ⌝ }
+// The twelve bits that say how a source is read: modifier, AddrMode, HorzStride, Width, VertStride.
+pub fn src_field(x: Source, w: Word) -> u64
+    ensures { λ r. ⌜ (r ≡ srcField (sourceIs x) (toWord w)) × (r < 4096) ⌝ }
 {
-    high(w, 32, 32)
+    of_source(x, w, 13, 12)
 }
 
 // The source is an immediate.

@@ -3,6 +3,8 @@ pub mod answer;
 pub mod bytes;
 pub mod decoded;
 pub mod fields;
+pub mod operand;
 pub mod operation;
+pub mod region;
 pub mod traits;
 pub mod types;

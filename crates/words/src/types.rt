@@ -1,7 +1,7 @@
 // What the code of a type says.
 ghost use mathlib.Core.Path.{_≡_};
 ghost use Prim.Native.Nat.{_<_, _≤_};
-ghost use Rattle.paper.specs.Value.{sizeOf};
+ghost use Rattle.paper.specs.Value.{width, sizeOf};
 
 // The bytes of its elements.
 pub fn size_of(kind: u64) -> u64
@@ -14,4 +14,17 @@ pub fn size_of(kind: u64) -> u64
         return 2;
     }
     1
+}
+
+// Their bits.
+pub fn width_of(kind: u64) -> u32
+    ensures { λ r. ⌜ (r ≡ width kind) × (r ≤ 32) ⌝ }
+{
+    if kind < 2 {
+        return 32;
+    }
+    if kind < 4 {
+        return 16;
+    }
+    8
 }

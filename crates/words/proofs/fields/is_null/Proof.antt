@@ -1,8 +1,8 @@
 -- The tests are those of the definition. Assumes nothing.
 use borrow.Author.Tests.{ne-eqb}
 use borrow.Author.Needs.{needs}
-use Rattle.execute.proofs.destination.is_null.Statement.{statement}
-use Rattle.execute.proofs.destination.is_null.Tie as tie
+use Rattle.words.proofs.fields.is_null.Statement.{statement}
+use Rattle.words.proofs.fields.is_null.Tie as tie
 
 dst-file-requires : tie.Need-dst-file-requires
 dst-file-requires c κs = search needs

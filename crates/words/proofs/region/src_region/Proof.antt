@@ -1,0 +1,82 @@
+use native.Mathlib.Omega.{arith}
+use borrow.Author.Needs.{needs}
+use Rattle.words.specs.Regions.{region-is}
+use Rattle.words.proofs.region.src_region.Statement.{statement}
+use Rattle.words.proofs.region.src_region.Tie as tie
+use Rattle.words.proofs.region.src_region.Reads as reads
+use Rattle.words.proofs.region.src_region.Lts as lts
+use Rattle.words.proofs.fields.src_horz_stride.Reads as src-horz-stride-reads
+use Rattle.words.proofs.fields.src_register.Reads as src-register-reads
+use Rattle.words.proofs.fields.src_subregister.Reads as src-subregister-reads
+use Rattle.words.proofs.fields.src_type.Reads as src-type-reads
+use Rattle.words.proofs.fields.src_vert_stride.Reads as src-vert-stride-reads
+use Rattle.words.proofs.fields.src_width.Reads as src-width-reads
+use Rattle.words.proofs.region.stride_of.Reads as stride-of-reads
+use Rattle.words.proofs.types.size_of.Reads as size-of-reads
+
+-- src/region.rt:51:19
+src-register-requires : tie.Need-src-register-requires
+src-register-requires c κs = search needs
+
+-- src/region.rt:51:19
+mul-origin : tie.Need-mul-origin
+mul-origin c = search needs
+
+-- src/region.rt:51:45
+src-subregister-requires : tie.Need-src-subregister-requires
+src-subregister-requires c κs = search needs
+
+-- src/region.rt:51:19
+add-origin : tie.Need-add-origin
+add-origin c = search needs
+
+-- src/region.rt:52:26
+src-vert-stride-requires : tie.Need-src-vert-stride-requires
+src-vert-stride-requires c κs = search needs
+
+-- src/region.rt:52:9
+stride-of-requires : tie.Need-stride-of-requires
+stride-of-requires c κs = search needs
+
+-- src/region.rt:53:16
+src-width-requires : tie.Need-src-width-requires
+src-width-requires c κs = search needs
+
+-- src/region.rt:54:26
+src-horz-stride-requires : tie.Need-src-horz-stride-requires
+src-horz-stride-requires c κs = search needs
+
+-- src/region.rt:54:9
+stride-of-requires-2 : tie.Need-stride-of-requires-2
+stride-of-requires-2 c κs = search needs
+
+-- src/region.rt:55:24
+src-type-requires : tie.Need-src-type-requires
+src-type-requires c κs = search needs
+
+-- src/region.rt:55:16
+size-of-requires : tie.Need-size-of-requires
+size-of-requires c κs = search needs
+
+-- src/region.rt:48:1
+returns : tie.Need-returns
+returns c =
+    (region-is _ _ (cc) (cc) (cc) (cc) (cc),
+    record { start = omega arith; rows = omega arith; wide = omega arith; columns = omega arith; least = omega arith; most = omega arith })
+
+pub src-region-spec : {M : Type 1} → statement M
+src-region-spec =
+    tie.close
+    (tie.spec
+    src-register-requires
+    mul-origin
+    src-subregister-requires
+    add-origin
+    src-vert-stride-requires
+    stride-of-requires
+    src-width-requires
+    src-horz-stride-requires
+    stride-of-requires-2
+    src-type-requires
+    size-of-requires
+    returns)
