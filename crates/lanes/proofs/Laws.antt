@@ -1,8 +1,8 @@
--- Laws of shifts and products, at variable shifts, of reading byte by byte, and of a channel's store. Assumes nothing.
+-- Laws of a shift by a variable, of reading byte by byte, and of a channel's store. Assumes nothing.
 use mathlib.Core.Path.{_≡_, refl, ap, _∙_, sym}
-use Prim.Native.Nat.{ℕ, zero, suc, _+_, _-_, _*_, _/_, _%_, _^_, _≤_, _<_}
+use Prim.Native.Nat.{ℕ, zero, suc, _+_, _*_, _%_, _^_, _<_}
 use native.Mathlib.Omega.{arith}
-use native.Mathlib.Nat.{mod-eq-of-lt, mod-eq-sub-div-mul, div-add-mod', mul-le-mul, div-le-self, mod-le, one-mul}
+use native.Mathlib.Nat.{one-mul}
 use mathlib.Core.Bool.{Bool, cond}
 use mathlib.Core.List.{List}
 use lib.Dec.{lit<}
@@ -15,25 +15,6 @@ use Rattle.laws.specs.Bytes.{numberAt-suc}
 -- The code's 1 << k is 2^k.
 pub one-shl : (k : ℕ) → k < 64 → (1 * 2 ^ k) % 2 ^ 64 ≡ 2 ^ k
 one-shl k h = rw (shl-exact 1 k 64 (lit< tt) (omega arith), one-mul)
-
--- (n >> k) << k loses nothing at the top.
-pub floor-shl : (n k : ℕ) → n < 2 ^ 64 → (n / 2 ^ k * 2 ^ k) % 2 ^ 64 ≡ n / 2 ^ k * 2 ^ k
-floor-shl n k h = mod-eq-of-lt (omega (arith, div-add-mod' n (2 ^ k)))
-
--- n − ((n >> k) << k) is the remainder.
-pub rest-shl : (n k : ℕ) → n < 2 ^ 64 → n - (n / 2 ^ k * 2 ^ k) % 2 ^ 64 ≡ n % 2 ^ k
-rest-shl n k h = rw floor-shl (sym (mod-eq-sub-div-mul n (2 ^ k)))
-
--- How far from its origin an element can lie.
-module _ (n wide vert horz size : ℕ) (hn : n < 16) (hv : vert ≤ 32) (hh : horz ≤ 32) (hz : size ≤ 4) where
-  pub row-le : n / wide * vert ≤ 480
-  row-le = mul-le-mul {n₂ = 15} {m₂ = 32} (omega (arith, div-le-self n wide)) hv
-
-  pub column-le : n % wide * horz ≤ 480
-  column-le = mul-le-mul {n₂ = 15} {m₂ = 32} (omega (arith, mod-le n wide)) hh
-
-  pub offset-le : (n / wide * vert + n % wide * horz) * size ≤ 3840
-  offset-le = mul-le-mul {n₂ = 960} {m₂ = 4} (omega (arith, row-le, column-le)) hz
 
 -- The number of no bytes is 0.
 numberAt-none : (l : List ℕ) (from : ℕ) → numberAt l from 0 ≡ 0

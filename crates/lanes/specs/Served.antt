@@ -1,64 +1,28 @@
--- What a legal word gives the code of this crate: small regions, sizes, channels below 16; and its masks as the paper's effect needs them.
+-- What a legal word gives the code of this crate: channels below 16; and its masks as the paper's effect needs them.
 -- Assumes nothing.
 use mathlib.Core.Path.{_≡_, refl}
-use mathlib.Core.Bool.{Bool, true, false, cond, _&&_, _||_}
+use mathlib.Core.Bool.{Bool, true, false, _&&_, _||_}
 use mathlib.Core.List.{List}
 use mathlib.Core.Logic.{_⊎_, inl, inr, ⊎-elim}
 use Prim.Native.Nat.{ℕ, _+_, _*_, _^_, _≤_, _<_}
 use native.Mathlib.Omega.{arith}
-use lib.Dec.{eqb, ltb, leb, lit<, lit≤}
+use lib.Dec.{eqb, leb}
 use lib.ListN.{getD}
 use lib.Pow.{pow-mono}
 use borrow.Author.Tests.{eqb-true, leb-true}
 use Rattle.paper.specs.Bits.{bit}
-use Rattle.paper.specs.Word.{Source, shiftOf, accessMode, accWrCtrl, execSize, qtrCtrl, srcRegister, srcSubregister, srcHorzStride, srcVertStride, srcWidth}
+use Rattle.paper.specs.Word.{accessMode, accWrCtrl, execSize, qtrCtrl}
 use Rattle.paper.specs.Operation.{Plain, traits}
-use Rattle.paper.specs.Value.{sizeOf}
-use Rattle.paper.specs.Region.{channels, strideOf, srcOrigin}
+use Rattle.paper.specs.Region.{channels}
 use Rattle.paper.specs.Legal.{quarterServed, controlServed, plainServed}
 use Rattle.paper.specs.Store.{Store}
 use Rattle.paper.specs.Enable.{channelOf, enabled, flagAfter}
 use Rattle.paper.specs.Effect.{scattered, isOn}
-use Rattle.laws.specs.Bits.{bits-lt}
 use Rattle.laws.specs.Truth.{both-true}
-use Rattle.laws.specs.Regions.{SourceShape}
 use Rattle.laws.specs.Scatter.{scattered-same}
 use Rattle.lanes.specs.Masks.{quarterMask}
 use Rattle.lanes.specs.MaskLaws.{enableOf, bit-enable, bit-on}
 use Rattle.lanes.specs.FlagLaws.{flag-same}
-use Rattle.lanes.specs.Regions.{Size, Small}
-
--- ---- sizes and regions
-
--- Every type's element has 1, 2 or 4 bytes.
-pub type-size : (t : ℕ) → Size (sizeOf t)
-type-size t = chosen (ltb t 2) (ltb t 4)
-  where
-    chosen : (a b : Bool) → Size (cond a 4 (cond b 2 1))
-    chosen true b = record { least = lit< tt; most = lit≤ tt; even = λ e. omega arith }
-    chosen false true = record { least = lit< tt; most = lit≤ tt; even = λ e. omega arith }
-    chosen false false = record { least = lit< tt; most = lit≤ tt; even = λ e. omega arith }
-
--- A stride's code of at most 6 means at most 32.
-stride-most : (c : ℕ) → c ≤ 6 → strideOf c ≤ 32
-stride-most c h = omega (arith, pow-mono {i = c} {j = 6} h)
-
--- The region of a legal word's register source is small.
-pub source-small : (x : Source) (w : ℕ) → SourceShape x w
-    → Small (srcOrigin x w) (strideOf (srcVertStride x w)) (srcWidth x w) (strideOf (srcHorzStride x w))
-source-small x w shape =
-    record {
-      start = start;
-      rows = stride-most (srcVertStride x w) (shape .vertical);
-      wide = shape .width;
-      columns = stride-most (srcHorzStride x w) columns;
-    }
-  where
-    start : srcRegister x w * 32 + srcSubregister x w < 65536
-    start = omega (arith, bits-lt w (69 + shiftOf x) 8, bits-lt w (64 + shiftOf x) 5)
-
-    columns : srcHorzStride x w ≤ 6
-    columns = omega (arith, bits-lt w (80 + shiftOf x) 2)
 
 -- ---- channels
 

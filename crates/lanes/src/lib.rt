@@ -1,7 +1,6 @@
-// Channels: masks and flags, regions, elements read and stored.
+// Channels: masks and flags, elements read and stored.
 pub mod flags;
 pub mod load;
 pub mod mask;
-pub mod region;
 pub mod scatter;
 pub mod store;

@@ -3,7 +3,7 @@ ghost use mathlib.Core.Path.{_≡_};
 ghost use Prim.Native.Nat.{_+_, _*_, _≤_};
 ghost use lib.ListN.{length};
 ghost use Rattle.paper.specs.Bits.{numberAt};
-ghost use Rattle.lanes.specs.Regions.{Size};
+ghost use Rattle.lanes.specs.Sizes.{Size};
 
 // One byte as a number.
 fn one_byte(p: u8) -> u64

@@ -7,7 +7,7 @@ ghost use Prim.Native.Nat.{ℕ, _+_, _*_, _<_, _≤_};
 ghost use lib.ListN.{length, getD};
 ghost use Rattle.paper.specs.Bits.{bit, putAt};
 ghost use Rattle.paper.specs.Effect.{scattered};
-ghost use Rattle.lanes.specs.Regions.{Size};
+ghost use Rattle.lanes.specs.Sizes.{Size};
 
 // Channel k's value stored where the mask enables it. A disabled channel's bytes are not touched.
 fn store_channel(registers: &mut [u8], from: usize, size: usize, enable: u64, k: usize, v: u64)

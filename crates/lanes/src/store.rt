@@ -3,7 +3,7 @@ ghost use mathlib.Core.Path.{_≡_};
 ghost use Prim.Native.Nat.{_+_, _≤_};
 ghost use lib.ListN.{length};
 ghost use Rattle.paper.specs.Bits.{putAt};
-ghost use Rattle.lanes.specs.Regions.{Size};
+ghost use Rattle.lanes.specs.Sizes.{Size};
 
 // The `size` lowest bytes of v stored from byte `from` on.
 pub fn write_element(registers: &mut [u8], from: usize, size: usize, v: u64)

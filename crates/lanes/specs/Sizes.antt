@@ -1,0 +1,21 @@
+-- The sizes of elements. Assumes nothing.
+use mathlib.Core.Path.{_≡_}
+use Prim.Native.Nat.{ℕ, _≤_, _<_}
+use native.Mathlib.Omega.{arith}
+use lib.Dec.{lit<, lit≤}
+use Rattle.paper.specs.Value.{sizeOf}
+use Rattle.laws.specs.Values.{by-type}
+
+-- An element of 1, 2 or 4 bytes.
+pub record Size (size : ℕ) : Type 0 where
+  pub least : 0 < size
+  pub most : size ≤ 4
+  pub even : size ≡ 3 → ⊥
+
+-- Every type's element has so many.
+pub type-size : (t : ℕ) → Size (sizeOf t)
+type-size =
+    by-type (λ size bits. Size size)
+    (record { least = lit< tt; most = lit≤ tt; even = λ e. omega arith })
+    (record { least = lit< tt; most = lit≤ tt; even = λ e. omega arith })
+    (record { least = lit< tt; most = lit≤ tt; even = λ e. omega arith })
