@@ -19,3 +19,7 @@ type-size =
     (record { least = lit< tt; most = lit≤ tt; even = λ e. omega arith })
     (record { least = lit< tt; most = lit≤ tt; even = λ e. omega arith })
     (record { least = lit< tt; most = lit≤ tt; even = λ e. omega arith })
+
+-- What is neither four bytes nor two is one.
+pub size-one : (size kind : ℕ) → size ≡ sizeOf kind → (size ≡ 4 → ⊥) → (size ≡ 2 → ⊥) → size ≡ 1
+size-one size kind e four two = by-type (λ n bits. size ≡ n → size ≡ 1) (λ q. absurd (four q)) (λ q. absurd (two q)) (λ q. q) kind e

@@ -1,5 +1,4 @@
 -- What is read of the registers, as numbers.
 pub mod Reads
 pub mod Shapes
-pub mod Halves
 pub mod Sources

@@ -1,23 +1,44 @@
 -- The two plain shapes of a region: elements side by side, and one element for all channels. Assumes nothing.
-use mathlib.Core.Path.{_≡_, refl, sym, ap, _∙_}
-use Prim.Native.Nat.{ℕ, suc, _+_, _*_, _/_, _%_, _^_}
+use mathlib.Core.Path.{_≡_, ap, sym, _∙_, subst}
+use mathlib.Core.List.{List}
+use Prim.Native.Nat.{ℕ, _+_, _*_, _/_, _%_, _<_}
 use native.Mathlib.Omega.{arith}
-use native.Mathlib.Nat.{div-add-mod', mul-one, mul-zero, pow-suc}
-use native.Mathlib.Numerals.{add-one}
-use Rattle.paper.specs.Region.{strideOf, elementAt}
-
--- A stride code one above a width's code means that width.
-stride-above : (c : ℕ) → strideOf (c + 1) ≡ 2 ^ c
-stride-above c = rw (add-one c, pow-suc 2 c) (omega arith)
+use native.Mathlib.Nat.{div-add-mod', mul-one, mul-zero}
+use Rattle.paper.specs.Region.{Region, elementAt}
+use Rattle.lanes.specs.Mapped.{Mapped, mapped-weaker}
+use Rattle.operands.specs.Reads.{ElementRead, ElementsRead}
 
 -- Where HorzStride is 1 and VertStride is the width, the elements lie side by side.
-pub packed-at : (origin code size k : ℕ) → elementAt origin (strideOf (code + 1)) (2 ^ code) (strideOf 1) size k ≡ origin + k * size
+pub beside-at : (r : Region) (k : ℕ) → r .horz ≡ 1 → r .vert ≡ r .wide → r .origin + k * r .size ≡ elementAt r k
 unfolding elementAt
-packed-at origin code size k =
-    let row : k / 2 ^ code * 2 ^ code + k % 2 ^ code * 1 ≡ k = ap (λ (x : ℕ). k / 2 ^ code * 2 ^ code + x) (mul-one (k % 2 ^ code)) ∙ div-add-mod' k (2 ^ code) in
-    rw (stride-above code) (ap (λ (x : ℕ). origin + x * size) row)
+beside-at r k h v =
+    let row : k / r .wide * r .wide + k % r .wide * 1 ≡ k = ap (λ (x : ℕ). k / r .wide * r .wide + x) (mul-one (k % r .wide)) ∙ div-add-mod' k (r .wide) in
+    rw (h, v) (sym (ap (λ (x : ℕ). r .origin + x * r .size) row))
 
 -- Where both strides are 0, all channels read one element.
-pub single-at : (origin code size k : ℕ) → elementAt origin (strideOf 0) (2 ^ code) (strideOf 0) size k ≡ origin
+pub single-at : (r : Region) (k : ℕ) → r .horz ≡ 0 → r .vert ≡ 0 → r .origin ≡ elementAt r k
 unfolding elementAt
-single-at origin code size k = rw (mul-zero (k / 2 ^ code), mul-zero (k % 2 ^ code)) (omega arith)
+single-at r k h v = rw (h, v, mul-zero (k / r .wide), mul-zero (k % r .wide)) (omega arith)
+
+-- ---- what is read
+
+-- Elements at equal bytes are the same.
+pub elements-same : (registers : List ℕ) (f g : ℕ → ℕ) (kind size n : ℕ) (old new : List ℕ) → ((k : ℕ) → k < n → f k ≡ g k)
+    → ElementsRead registers f kind size n old new → ElementsRead registers g kind size n old new
+unfolding ElementsRead
+elements-same registers f g kind size n old new e m =
+    mapped-weaker _ _ n old new (λ k a b h r. subst (λ (x : ℕ). ElementRead registers x kind size b) (e k h) r) m
+
+-- One element for all channels.
+pub elements-single : (registers : List ℕ) (from : ℕ) (f : ℕ → ℕ) (kind size n v : ℕ) (old new : List ℕ) → ((k : ℕ) → from ≡ f k)
+    → ElementRead registers from kind size v → Mapped (λ k a b. b ≡ v) n old new → ElementsRead registers f kind size n old new
+unfolding ElementsRead
+elements-single registers from f kind size n v old new e r m =
+    mapped-weaker _ _ n old new
+    (λ k a b h q. subst (λ (y : ℕ). ElementRead registers (f k) kind size y) (sym q)
+    (subst (λ (x : ℕ). ElementRead registers x kind size v) (e k) r)) m
+
+-- Elements of an equal size are the same.
+pub elements-sized : (registers : List ℕ) (f : ℕ → ℕ) (kind n : ℕ) (old new : List ℕ) (a b : ℕ) → a ≡ b
+    → ElementsRead registers f kind b n old new → ElementsRead registers f kind a n old new
+elements-sized registers f kind n old new a b e m = subst (λ (z : ℕ). ElementsRead registers f kind z n old new) (sym e) m

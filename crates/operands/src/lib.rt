@@ -1,7 +1,7 @@
 // What the channels of a source read, as numbers.
+pub mod beside;
 pub mod gather;
 pub mod modify;
-pub mod packed;
 pub mod read;
 pub mod rows;
 pub mod sources;

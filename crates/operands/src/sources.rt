@@ -5,40 +5,35 @@ use crate::spread::spread;
 use element::value::load;
 use words::bytes::Word;
 use words::fields::Source;
-use words::fields::high;
-use words::fields::is_immediate;
 use words::fields::src_modifier;
 use words::fields::src_type;
+use words::operand::Operand;
+use words::operand::operand_of;
 ghost use mathlib.Core.Path.{_≡_};
-ghost use Prim.Native.Nat.{_≤_};
 ghost use lib.ListN.{length};
 ghost use Rattle.paper.specs.Limits.{registerBytes};
-ghost use Rattle.paper.specs.Word.{src0, src1, srcType, immediate};
-ghost use Rattle.paper.specs.Value.{width};
+ghost use Rattle.paper.specs.Word.{src0, src1};
 ghost use Rattle.paper.specs.Region.{channels};
 ghost use Rattle.words.specs.Words.{toWord, sourceIs};
-ghost use Rattle.operands.specs.Reads.{Reads};
 ghost use Rattle.operands.specs.Sources.{Readable, OperandRead};
 
-// A type's bits.
-fn width_of(kind: u64) -> u32
-    ensures { λ r. ⌜ (r ≡ width kind) × (r ≤ 32) ⌝ }
-{
-    if kind < 2 {
-        return 32;
-    }
-    if kind < 4 {
-        return 16;
-    }
-    8
-}
-
-// The number that an immediate means: as many of its low bits as its type has.
-fn immediate_number(x: Source, w: Word) -> u64
-    ensures { λ r. ⌜ Reads (srcType (sourceIs x) (toWord w)) (immediate (width (srcType (sourceIs x) (toWord w))) (toWord w)) r ⌝ }
+// What the channels of a source read.
+fn read_source(x: Source, w: Word, n: usize, registers: &[u8], values: &mut [u64; 16])
+    requires { ⌜ Readable (sourceIs x) (toWord w) × (n ≡ channels (toWord w)) × (length (now registers) ≡ registerBytes) × (length (now values) ≡ 16) ⌝ }
+    ensures { λ r. ⌜ OperandRead (toWord w) (now (registers .entry)) (sourceIs x) n (now (values .entry)) (now (values .exit)) ⌝ }
 {
     let kind = src_type(x, w);
-    load(kind, high(w, 32, width_of(kind)))
+    let o = operand_of(x, w);
+    match o {
+        Operand::Fixed(pattern) => {
+            let number = load(kind, pattern);
+            spread(number, n, values);
+        }
+        Operand::Direct(r) => {
+            gather(r, kind, n, registers, values);
+            modify_all(src_modifier(x, w), n, values);
+        }
+    }
 }
 
 // What the channels of src0 read.
@@ -46,29 +41,13 @@ pub fn first_operand(w: Word, n: usize, registers: &[u8], values: &mut [u64; 16]
     requires { ⌜ Readable src0 (toWord w) × (n ≡ channels (toWord w)) × (length (now registers) ≡ registerBytes) × (length (now values) ≡ 16) ⌝ }
     ensures { λ r. ⌜ OperandRead (toWord w) (now (registers .entry)) src0 n (now (values .entry)) (now (values .exit)) ⌝ }
 {
-    if is_immediate(Source::First, w) {
-        spread(immediate_number(Source::First, w), n, values);
-        return;
-    }
-    gather(w.hi, src_type(Source::First, w), n, registers, values);
-    modify_all(src_modifier(Source::First, w), n, values);
+    read_source(Source::First, w, n, registers, values);
 }
 
-// What the channels of src1 read: its fields stand 32 bits above src0's.
+// What the channels of src1 read.
 pub fn second_operand(w: Word, n: usize, registers: &[u8], values: &mut [u64; 16])
     requires { ⌜ Readable src1 (toWord w) × (n ≡ channels (toWord w)) × (length (now registers) ≡ registerBytes) × (length (now values) ≡ 16) ⌝ }
     ensures { λ r. ⌜ OperandRead (toWord w) (now (registers .entry)) src1 n (now (values .entry)) (now (values .exit)) ⌝ }
 {
-    if is_immediate(Source::Second, w) {
-        spread(immediate_number(Source::Second, w), n, values);
-        return;
-    }
-    gather(
-        w.hi >> 32,
-        src_type(Source::Second, w),
-        n,
-        registers,
-        values,
-    );
-    modify_all(src_modifier(Source::Second, w), n, values);
+    read_source(Source::Second, w, n, registers, values);
 }

@@ -1,5 +1,5 @@
 -- What a source names, in the paper's terms. Assumes nothing.
-use mathlib.Core.Path.{_≡_, refl, sym, ap, _∙_}
+use mathlib.Core.Path.{_≡_, refl, sym, ap, _∙_, subst}
 use mathlib.Core.Bool.{Bool, true, false, cond, true≢false}
 use Prim.Native.Nat.{ℕ, _^_, _<_}
 use Rattle.paper.specs.Word.{Source, srcType, isImmediate, immediate}
@@ -56,3 +56,23 @@ pub direct-chosen : (b : Bool) (q : ℕ) (r s : paper.Region) → paper.direct r
 unfolding isFixed regionOf
 direct-chosen true q r s e = absurd (true≢false (sym (ap isFixed e)))
 direct-chosen false q r s e = (refl, ap (regionOf s) e)
+
+-- ---- what a match on an operand tells
+
+module _ (x : Source) (w : ℕ) (o : Operand) (named : (operandIs o ≡ paper.operandOf x w) × Bounded (srcType x w) o) where
+  -- It is an immediate: this is its pattern.
+  pub fixed-told : (pattern : ℕ) → o ≡ Fixed pattern
+      → (isImmediate x w ≡ true) × (pattern ≡ immediate (width (srcType x w)) w) × (pattern < 2 ^ width (srcType x w))
+  unfolding Bounded
+  fixed-told pattern e =
+      let chosen = fixed-chosen (isImmediate x w) pattern (immediate (width (srcType x w)) w) (paper.srcRegion x w) (sym (ap operandIs e) ∙ named .0) in
+      (chosen .0, chosen .1, subst (Bounded (srcType x w)) e (named .1))
+
+  -- It lies in the registers: this is its region.
+  pub direct-told : (r : Region) → o ≡ Direct r
+      → (isImmediate x w ≡ false) × (regionIs r ≡ paper.srcRegion x w) × Small r × (r .size ≡ sizeOf (srcType x w))
+  unfolding Bounded
+  direct-told r e =
+      let chosen = direct-chosen (isImmediate x w) (immediate (width (srcType x w)) w) (regionIs r) (paper.srcRegion x w) (sym (ap operandIs e) ∙ named .0) in
+      let bounded = subst (Bounded (srcType x w)) e (named .1) in
+      (chosen .0, chosen .1, bounded .0, bounded .1)

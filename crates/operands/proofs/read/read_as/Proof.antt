@@ -1,6 +1,6 @@
 -- An element has as many bits as its type, so that its value can be told. Assumes nothing.
 use borrow.Author.Needs.{needs}
-use Rattle.lanes.specs.Served.{type-size}
+use Rattle.lanes.specs.Sizes.{type-size}
 use Rattle.operands.specs.Reads.{ElementRead, element-less}
 use Rattle.operands.proofs.read.read_as.Statement.{statement}
 use Rattle.operands.proofs.read.read_as.Tie as tie

@@ -4,32 +4,31 @@ use mathlib.Core.Path.{_≡_}
 use Prim.Native.Nat.{_-_, _≤_}
 use native.Mathlib.Omega.{arith}
 use Rattle.lanes.specs.Mapped.{mapped-none, mapped-more}
-use Prim.Native.Nat.{_^_}
 use Rattle.paper.specs.Region.{elementAt}
-use Rattle.lanes.specs.Served.{type-size}
+use Rattle.words.specs.Regions.{regionIs}
 use Rattle.operands.specs.Reads.{ElementsRead}
 use Rattle.operands.proofs.rows.lines.Statement.{statement}
 use Rattle.operands.proofs.rows.lines.Tie as tie
 
 abbrev Inv-loop : tie.InvT-loop
-Inv-loop registers at kind size n values₀ k₀ values k = (k ≤ n) × ElementsRead registers (elementAt (at .origin) (at .vert) (2 ^ at .code) (at .horz) size) kind size k values₀ values
+Inv-loop registers r kind size n values₀ k₀ values k = (k ≤ n) × ElementsRead registers (elementAt (regionIs r)) kind size k values₀ values
 
 abbrev μ-loop : tie.MeasureT-loop
-μ-loop registers at kind size n values₀ k₀ values k = n - k
+μ-loop registers r kind size n values₀ k₀ values k = n - k
 
 loop-holds : tie.Need-loop-holds Inv-loop μ-loop
 unfolding ElementsRead
-loop-holds c = (omega arith, mapped-none _ _ (c .before .pre .0 .3))
+loop-holds c = (omega arith, mapped-none _ _ (c .before .pre .0 .4))
 
 element-at-requires : tie.Need-element-at-requires Inv-loop μ-loop
 element-at-requires c κs =
     let p = c .before .before .before .pre .0 in
-    (p .0, rw (p .1) (type-size (c .before .before .before .args .kind)), omega arith)
+    (p .0, omega arith)
 
 read-as-requires : tie.Need-read-as-requires Inv-loop μ-loop
 read-as-requires c κs =
     let p = c .before .before .before .before .pre in
-    (p .0 .1, rw (c .element-at .ensures .0) (p .1 (c .before .before .loop .k) (c .before .loop-test .taken)))
+    (p .0 .2, rw (c .element-at .ensures .0) (p .1 (c .before .before .loop .k) (c .before .loop-test .taken)))
 
 mul-values : tie.Need-mul-values Inv-loop μ-loop
 mul-values c = search needs

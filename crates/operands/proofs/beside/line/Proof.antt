@@ -6,8 +6,8 @@ use native.Mathlib.Omega.{arith}
 use Rattle.lanes.specs.Mapped.{mapped-none, mapped-more}
 use Prim.Native.Nat.{_+_, _*_}
 use Rattle.operands.specs.Reads.{ElementsRead}
-use Rattle.operands.proofs.packed.line.Statement.{statement}
-use Rattle.operands.proofs.packed.line.Tie as tie
+use Rattle.operands.proofs.beside.line.Statement.{statement}
+use Rattle.operands.proofs.beside.line.Tie as tie
 
 abbrev Inv-loop : tie.InvT-loop
 Inv-loop registers from kind size n values₀ k₀ values k = (k ≤ n) × ElementsRead registers (λ k. from + k * size) kind size k values₀ values

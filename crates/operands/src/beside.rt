@@ -74,38 +74,38 @@ fn sixteen_bytes(registers: &[u8], from: usize, kind: u64, values: &mut [u64; 16
     line(registers, from, kind, 1, 16, values)
 }
 
-// Sixteen elements of a type.
-fn sixteen(registers: &[u8], from: usize, kind: u64, values: &mut [u64; 16])
-    requires { ⌜ length (now values) ≡ 16 ⌝ }
-    requires { ⌜ ((k : ℕ) → k < 16 → from + k * sizeOf kind + sizeOf kind ≤ length (now registers)) ⌝ }
-    ensures { λ r. ⌜ ElementsRead (now (registers .entry)) (λ k. from + k * sizeOf kind) kind (sizeOf kind) 16 (now (values .entry)) (now (values .exit)) ⌝ }
+// Sixteen elements.
+fn sixteen(registers: &[u8], from: usize, kind: u64, size: usize, values: &mut [u64; 16])
+    requires { ⌜ (size ≡ sizeOf kind) × (length (now values) ≡ 16) ⌝ }
+    requires { ⌜ ((k : ℕ) → k < 16 → from + k * size + size ≤ length (now registers)) ⌝ }
+    ensures { λ r. ⌜ ElementsRead (now (registers .entry)) (λ k. from + k * size) kind size 16 (now (values .entry)) (now (values .exit)) ⌝ }
 {
-    if kind < 2 {
+    if size == 4 {
         sixteen_dwords(registers, from, kind, values);
         return;
     }
-    if kind < 4 {
+    if size == 2 {
         sixteen_words(registers, from, kind, values);
         return;
     }
     sixteen_bytes(registers, from, kind, values);
 }
 
-// The n first elements of a type from byte `from` on, as numbers: each size has loops of its own, and one for sixteen channels.
-pub fn packed(registers: &[u8], from: usize, kind: u64, n: usize, values: &mut [u64; 16])
-    requires { ⌜ (n ≤ 16) × (length (now values) ≡ 16) ⌝ }
-    requires { ⌜ ((k : ℕ) → k < n → from + k * sizeOf kind + sizeOf kind ≤ length (now registers)) ⌝ }
-    ensures { λ r. ⌜ ElementsRead (now (registers .entry)) (λ k. from + k * sizeOf kind) kind (sizeOf kind) n (now (values .entry)) (now (values .exit)) ⌝ }
+// The n first elements from byte `from` on, as numbers: each size has loops of its own, and one for sixteen channels.
+pub fn beside(registers: &[u8], from: usize, kind: u64, size: usize, n: usize, values: &mut [u64; 16])
+    requires { ⌜ (size ≡ sizeOf kind) × (n ≤ 16) × (length (now values) ≡ 16) ⌝ }
+    requires { ⌜ ((k : ℕ) → k < n → from + k * size + size ≤ length (now registers)) ⌝ }
+    ensures { λ r. ⌜ ElementsRead (now (registers .entry)) (λ k. from + k * size) kind size n (now (values .entry)) (now (values .exit)) ⌝ }
 {
     if n == 16 {
-        sixteen(registers, from, kind, values);
+        sixteen(registers, from, kind, size, values);
         return;
     }
-    if kind < 2 {
+    if size == 4 {
         some_dwords(registers, from, kind, n, values);
         return;
     }
-    if kind < 4 {
+    if size == 2 {
         some_words(registers, from, kind, n, values);
         return;
     }
