@@ -1,25 +1,25 @@
 -- What cmp finds, as a mask taken from its results: channel k's bit is the lowest of what the channel stores. Assumes nothing.
 use mathlib.Core.Path.{_≡_, refl, sym, ap, _∙_, subst}
-use mathlib.Core.Bool.{Bool, true, false, cond}
+use mathlib.Core.Bool.{Bool, true, false}
 use mathlib.Core.List.{List}
 use Prim.Native.Nat.{ℕ, _+_, _-_, _*_, _%_, _^_, _≤_, _<_}
 use native.Mathlib.Omega.{arith}
 use native.Mathlib.Nat.{mul-le-mul-right, mod-eq-of-lt}
 use native.Mathlib.Numerals.{add-one}
-use lib.Dec.{eqb, ltb}
-use lib.IntN.{_-ℤ_}
+use lib.Dec.{eqb}
 use lib.ListN.{getD}
 use lib.Pow.{pow-mono}
 use Rattle.paper.specs.Bits.{bit}
 use Rattle.paper.specs.Word.{src0, src1, condModifier, saturate, dstType, qtrCtrl}
 use Rattle.paper.specs.Operation.{Plain}
 use Rattle.paper.specs.Value.{width, modZ, stored}
-use Rattle.paper.specs.Element.{compares, oneIf, result}
+use Rattle.paper.specs.Element.{oneIf, result, made, meets}
 use Rattle.paper.specs.Region.{channels}
 use Rattle.paper.specs.Store.{Store}
 use Rattle.paper.specs.Enable.{digit, ofBits, channelOf}
 use Rattle.paper.specs.Effect.{operand, finds}
 use Rattle.laws.specs.Bits.{bits-mod, bits-below}
+use Rattle.laws.specs.Values.{by-type}
 use Rattle.laws.specs.Masks.{digit-bit, ofBits-less, bit-ofBits}
 use Rattle.lanes.specs.Masks.{raisedMask}
 use Rattle.lanes.specs.MaskLaws.{bit-raised}
@@ -47,34 +47,21 @@ lowest-less results n h = omega (arith, ofBits-less (λ k. bit (getD results k 0
 -- What a destination of any type stores for an outcome has the outcome as its lowest bit.
 stored-outcome : (t : ℕ) (b : Bool) → bit (stored false t (oneIf b)) 0 ≡ b
 unfolding stored modZ
-stored-outcome t b = go (ltb t 2) (ltb t 4) b
-  where
-    go : (p q b : Bool) → bit (modZ (oneIf b) (2 ^ cond p 32 (cond q 16 8))) 0 ≡ b
-    go true q true = refl
-    go true q false = refl
-    go false true true = refl
-    go false true false = refl
-    go false false true = refl
-    go false false false = refl
+stored-outcome t true = by-type (λ size bits. bit (1 % 2 ^ bits) 0 ≡ true) refl refl refl t
+stored-outcome t false = by-type (λ size bits. bit (0 % 2 ^ bits) 0 ≡ false) refl refl refl t
 
 -- What cmp stores for a channel has what it finds as its lowest bit.
 makes-outcome : (w predicate : ℕ) (registers : List ℕ) (k : ℕ) → saturate w ≡ 0
-    → bit (channelMakes Plain.cmp w predicate registers k) 0 ≡ compares (condModifier w) (operand w registers src0 k -ℤ operand w registers src1 k)
-unfolding channelMakes result
-makes-outcome w predicate registers k e =
-    rw e (stored-outcome (dstType w) (compares (condModifier w) (operand w registers src0 k -ℤ operand w registers src1 k)))
+    → bit (channelMakes Plain.cmp w predicate registers k) 0 ≡ meets (condModifier w) (operand w registers src0 k) (operand w registers src1 k)
+unfolding channelMakes made meets result
+makes-outcome w predicate registers k e = rw e (stored-outcome (dstType w) _)
 
 -- A number's lowest bit is that of its low bits.
 bit-low : (kind v : ℕ) → bit v 0 ≡ bit (v % 2 ^ width kind) 0
-bit-low kind v = go (ltb kind 2) (ltb kind 4)
+bit-low kind v = by-type (λ size bits. bit v 0 ≡ bit (v % 2 ^ bits) 0) (same 31) (same 15) (same 7) kind
   where
     same : (q : ℕ) → bit v 0 ≡ bit (v % 2 ^ (1 + q)) 0
     same q = ap (λ (x : ℕ). eqb x 1) (sym (bits-below 0 1 q v))
-
-    go : (p q : Bool) → bit v 0 ≡ bit (v % 2 ^ cond p 32 (cond q 16 8)) 0
-    go true q = same 31
-    go false true = same 15
-    go false false = same 7
 
 -- By channel number, the mask says what the paper's cmp finds.
 pub bit-finds : (w predicate : ℕ) (st : Store) (made : List ℕ) → saturate w ≡ 0 → Makes Plain.cmp w predicate (st .registers) made

@@ -10,12 +10,12 @@ use borrow.Author.Tests.{leb-true, ltb-false, eqb-true}
 use Rattle.paper.specs.Limits.{registerBytes}
 use Rattle.paper.specs.Word.{Source, src0, src1, accessMode, accWrCtrl, execSize, saturate, predCtrl, condModifier, srcType, isImmediate}
 use Rattle.paper.specs.Operation.{Plain, traits, sources}
-use Rattle.paper.specs.Region.{channels, srcSize, srcElement, dstSize, dstElement}
+use Rattle.paper.specs.Region.{channels, dstSize, dstElement}
 use Rattle.paper.specs.Word.{isNull}
 use Rattle.paper.specs.Legal.{anyOf, misplaced, unequalHalves, badModifier, quarterServed, conditionServed, controlServed, operandRuleBroken}
 use Rattle.paper.specs.Enable.{channelOf}
 use Rattle.laws.specs.Truth.{both-true}
-use Rattle.laws.specs.Regions.{LegalPlain, source-shape, source-inside, destination-inside}
+use Rattle.laws.specs.Regions.{LegalPlain, source-inside, destination-inside}
 use Rattle.lanes.specs.Served.{plain-control, plain-channels}
 use Rattle.operands.specs.Sources.{Readable}
 
@@ -48,7 +48,6 @@ pub legal-readable : (p : Plain) (w : ℕ) → LegalPlain p w → (x : Source) �
 legal-readable p w l x m =
     record {
       count = legal-count p w l;
-      shape = source-shape p w (l .shape) x m;
       inside = source-inside p w (l .shape) (l .reach) x m;
     }
 

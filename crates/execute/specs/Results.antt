@@ -11,11 +11,11 @@ use Rattle.paper.specs.Bits.{bit}
 use Rattle.paper.specs.Word.{src0, src1, condModifier, saturate, dstType, srcType, qtrCtrl}
 use Rattle.paper.specs.Operation as paper
 use Rattle.paper.specs.Value.{width, modZ, clampTo, stored}
-use Rattle.paper.specs.Element.{result}
+use Rattle.paper.specs.Element.{meaning, result, made}
 use Rattle.paper.specs.Region.{channels}
 use Rattle.paper.specs.Store.{Store}
 use Rattle.paper.specs.Enable.{channelOf}
-use Rattle.paper.specs.Effect.{operand, channelResult, channelStores}
+use Rattle.paper.specs.Effect.{operand, channelStores}
 use Rattle.laws.specs.Regions.{LegalPlain}
 use Rattle.words.specs.Operations.{plainIs}
 use Rattle.words.specs.Traits.{readsTwo, one-source}
@@ -38,7 +38,7 @@ secondType p w = cond (readsTwo p) (srcType src1 w) 4
 -- Each of the n first numbers lies near, and stands for what its channel of src1 reads if there is a second source.
 pub record SecondRead (p : paper.Plain) (w : ℕ) (registers : List ℕ) (n : ℕ) (values : List ℕ) : Type 0 where
   pub near : (k : ℕ) → k < n → Near (width (secondType p w)) (getD values k 0)
-  pub reads : readsTwo p ≡ true → (k : ℕ) → k < n → ex (getD values k 0) ≡ operand w registers src1 k
+  pub reads : readsTwo p ≡ true → (k : ℕ) → k < n → ex (getD values k 0) ≡ meaning (operand w registers src1 k)
 
 pub second-read : (p : paper.Plain) (w : ℕ) (registers : List ℕ) (n : ℕ) (old new : List ℕ) → readsTwo p ≡ true
     → OperandRead w registers src1 n old new → SecondRead p w registers n new
@@ -78,8 +78,7 @@ combined-sixteen p condition predicate n first second made m = m .sixteen
 -- What a channel makes in the paper's terms; bit k of the predicate mask says whether its predicate holds.
 unfoldable pub channelMakes : paper.Plain → ℕ → ℕ → List ℕ → ℕ → ℕ
 channelMakes p w predicate registers k =
-    stored (eqb (saturate w) 1) (dstType w)
-    (result p (condModifier w) (bit predicate k) (operand w registers src0 k) (operand w registers src1 k))
+    made p (condModifier w) (bit predicate k) (eqb (saturate w) 1) (dstType w) (operand w registers src0 k) (operand w registers src1 k)
 
 -- The low bits of each channel's number are what it makes.
 unfoldable pub Makes : paper.Plain → ℕ → ℕ → List ℕ → List ℕ → Type 0
@@ -128,21 +127,21 @@ module _ (p : Plain) (w : ℕ) (registers : List ℕ) (n : ℕ) (old first secon
   -- The result is the paper's, whether or not there is a second source.
   result-read : (c : ℕ) (holds : Bool) (k : ℕ) → k < n
       → result (plainIs p) c holds (ex (getD first k 0)) (ex (getD second k 0))
-      ≡ result (plainIs p) c holds (operand w registers src0 k) (operand w registers src1 k)
+      ≡ result (plainIs p) c holds (meaning (operand w registers src0 k)) (meaning (operand w registers src1 k))
   unfolding OperandRead
   result-read c holds k h = ap (λ (z : ℤ). result (plainIs p) c holds z (ex (getD second k 0))) (a .done k h .0) ∙ go (readsTwo (plainIs p)) refl
     where
       go : (t : Bool) → readsTwo (plainIs p) ≡ t
-          → result (plainIs p) c holds (operand w registers src0 k) (ex (getD second k 0))
-          ≡ result (plainIs p) c holds (operand w registers src0 k) (operand w registers src1 k)
-      go true e = ap (result (plainIs p) c holds (operand w registers src0 k)) (b .reads e k h)
+          → result (plainIs p) c holds (meaning (operand w registers src0 k)) (ex (getD second k 0))
+          ≡ result (plainIs p) c holds (meaning (operand w registers src0 k)) (meaning (operand w registers src1 k))
+      go true e = ap (result (plainIs p) c holds (meaning (operand w registers src0 k))) (b .reads e k h)
       go false e = result-one (plainIs p) c holds _ _ _ (one-source (plainIs p) e)
 
   -- So is what is made of it.
   pub results-made : (predicate c kind : ℕ) (saturated : Bool) (combined made : List ℕ)
       → n ≡ channels w → c ≡ condModifier w → kind ≡ dstType w → saturated ≡ eqb (saturate w) 1
       → Combined (plainIs p) c predicate n first second combined → Kept saturated kind n combined made → Makes (plainIs p) w predicate registers made
-  unfolding Combined Kept Makes channelMakes
+  unfolding Combined Kept Makes channelMakes made
   results-made predicate c kind saturated combined made en ec ek es m q k h =
       let below : k < n = rw en h in
       rw (← ek, ← es, ← ec) (q .done k below ∙ ap (stored saturated kind) (m .done k below ∙ result-read c (bit predicate k) k below))
@@ -152,6 +151,6 @@ module _ (p : Plain) (w : ℕ) (registers : List ℕ) (n : ℕ) (old first secon
 -- What the channels make, by the mask of the predicate as the instruction numbers its channels, is what the paper says that they store.
 pub makes-stores : (p : paper.Plain) (w : ℕ) (st : Store) → channelOf w 0 + channels w ≤ 16 → (k : ℕ) → k < channels w
     → channelMakes p w (quarterMask (predicateOf w st) (qtrCtrl w)) (st .registers) k ≡ channelStores p w st k
-unfolding channelMakes channelResult
+unfolding channelMakes channelStores
 makes-stores p w st count k h =
     rw (bit-quarter (predicateOf w st) (qtrCtrl w) k, bit-predicate w st (channelOf w k) (omega arith))

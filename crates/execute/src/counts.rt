@@ -1,7 +1,7 @@
 // How many channels an instruction has.
-use lanes::region::count_of;
 use words::bytes::Word;
 use words::fields::exec_size;
+use words::region::count_of;
 ghost use mathlib.Core.Path.{_≡_};
 ghost use Prim.Native.Nat.{_≤_};
 ghost use Rattle.paper.specs.Word.{execSize};
@@ -13,5 +13,5 @@ pub fn channels(w: Word) -> usize
     requires { ⌜ execSize (toWord w) ≤ 4 ⌝ }
     ensures { λ r. ⌜ (r ≡ channels (toWord w)) × (r ≤ 16) ⌝ }
 {
-    count_of(exec_size(w) as usize)
+    count_of(exec_size(w))
 }
