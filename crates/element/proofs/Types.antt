@@ -10,6 +10,7 @@ use lib.Pow.{pow-mono, pow-pos}
 use lib.Bits.{bitXor, xor-zero-r, xor-comm, xor-shifted, xor-block}
 use borrow.Author.Tests.{eq-eqb, ne-eqb, leb-true, leb-false}
 use Rattle.paper.specs.Value.{width, isSigned, value, least, greatest, clampTo}
+use Rattle.laws.specs.Values.{by-type}
 use Rattle.laws.specs.Differences.{is-pos, sub-eq, neg-of}
 use Rattle.element.specs.Biased.{ex, Near, signBit}
 use Rattle.element.specs.Operands.{width-most}
@@ -22,12 +23,7 @@ abbrev half : ℕ → ℕ
 half t = 2 ^ (width t - 1)
 
 width-half : (t : ℕ) → 2 * half t ≡ 2 ^ width t
-width-half t = pick (ltb t 2) (ltb t 4)
-  where
-    pick : (p q : Bool) → 2 * 2 ^ (cond p 32 (cond q 16 8) - 1) ≡ 2 ^ cond p 32 (cond q 16 8)
-    pick true q = refl
-    pick false true = refl
-    pick false false = refl
+width-half = by-type (λ size bits. 2 * 2 ^ (bits - 1) ≡ 2 ^ bits) refl refl refl
 
 half-most : (t : ℕ) → half t ≤ 2 ^ 31
 half-most t = pow-mono {i = width t - 1} {j = 31} (omega (arith, width-most t))

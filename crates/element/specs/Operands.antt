@@ -11,6 +11,7 @@ use Rattle.paper.specs.Operation as paper
 use Rattle.paper.specs.Word.{Source, src0, src1}
 use Rattle.paper.specs.Value.{width, modified}
 use Rattle.paper.specs.Element.{result}
+use Rattle.laws.specs.Values.{by-type}
 use Rattle.words.specs.Operations.{plainIs}
 use Rattle.words.specs.declared.operation.Plain.{Plain}
 use Rattle.element.specs.Biased.{Near}
@@ -23,12 +24,7 @@ pub record Operands (p : Plain) (a b : ℕ) : Type 0 where
 
 -- A type has 32 bits at most.
 pub width-most : (t : ℕ) → width t ≤ 32
-width-most t = pick (ltb t 2) (ltb t 4)
-  where
-    pick : (p q : Bool) → cond p 32 (cond q 16 8) ≤ 32
-    pick true q = lit≤ tt
-    pick false true = lit≤ tt
-    pick false false = lit≤ tt
+width-most = by-type (λ size bits. bits ≤ 32) (lit≤ tt) (lit≤ tt) (lit≤ tt)
 
 -- A word or a byte has 16 at most.
 pub width-short : (t : ℕ) → 2 ≤ t → width t ≤ 16

@@ -7,7 +7,7 @@ ghost use Rattle.element.specs.Biased.{ex, Near};
 use super::value::BASE;
 
 // How far a count shifts: its value modulo 32.
-fn places(count: u64) -> u64
+fn shift_count(count: u64) -> u64
     ensures { λ r. ⌜ (r ≡ modZ (ex count) 32) × (r < 32) ⌝ }
 {
     count % 32
@@ -18,7 +18,7 @@ pub fn shift_right(v: u64, count: u64) -> u64
     requires { ⌜ Near 32 v ⌝ }
     ensures { λ r. ⌜ ex r ≡ shiftRight (ex v) (ex count) ⌝ }
 {
-    let n = places(count);
+    let n = shift_count(count);
     (v >> n) + (BASE - (BASE >> n))
 }
 
@@ -27,6 +27,6 @@ pub fn shift_left(v: u64, count: u64) -> u64
     requires { ⌜ Near 32 v ⌝ }
     ensures { λ r. ⌜ ex r ≡ shiftLeft (ex v) (ex count) ⌝ }
 {
-    let n = places(count);
+    let n = shift_count(count);
     ((v - (BASE - 4294967296)) << n) + (BASE - (4294967296 << n))
 }

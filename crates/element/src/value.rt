@@ -5,6 +5,7 @@ ghost use lib.Dec.{ltb};
 ghost use Prim.Native.Nat.{_+_, _-_, _^_, _<_};
 ghost use Rattle.paper.specs.Value.{width, value, clampTo};
 ghost use Rattle.element.specs.Biased.{ex, Near, signBit};
+use words::types::width_of;
 
 // What stands for 0.
 pub const BASE: u64 = 9223372036854775808;
@@ -13,13 +14,7 @@ pub const BASE: u64 = 9223372036854775808;
 fn ones(kind: u64) -> u64
     ensures { λ r. ⌜ r ≡ 2 ^ width kind - 1 ⌝ }
 {
-    if kind < 2 {
-        return 4294967295;
-    }
-    if kind < 4 {
-        return 65535;
-    }
-    255
+    (1 << width_of(kind)) - 1
 }
 
 // The bit of a type's patterns that says that a value is negative; 0 where the type has none.

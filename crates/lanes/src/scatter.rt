@@ -60,7 +60,7 @@ fn store_dwords(
 }
 
 // Dwords side by side, all of them.
-fn pack_dwords(registers: &mut [u8], origin: usize, n: usize, values: &[u64; 16])
+fn lay_dwords(registers: &mut [u8], origin: usize, n: usize, values: &[u64; 16])
     requires { ⌜ n ≤ 16 ⌝ }
     requires { ⌜ ((k : ℕ) → k < n → origin + k * 1 * 4 + 4 ≤ length (now registers)) ⌝ }
     ensures { λ r. ⌜ now (registers .exit)
@@ -87,7 +87,7 @@ fn store_words(
 }
 
 // Words side by side, all of them.
-fn pack_words(registers: &mut [u8], origin: usize, n: usize, values: &[u64; 16])
+fn lay_words(registers: &mut [u8], origin: usize, n: usize, values: &[u64; 16])
     requires { ⌜ n ≤ 16 ⌝ }
     requires { ⌜ ((k : ℕ) → k < n → origin + k * 1 * 2 + 2 ≤ length (now registers)) ⌝ }
     ensures { λ r. ⌜ now (registers .exit)
@@ -114,7 +114,7 @@ fn store_bytes(
 }
 
 // Bytes side by side, all of them.
-fn pack_bytes(registers: &mut [u8], origin: usize, n: usize, values: &[u64; 16])
+fn lay_bytes(registers: &mut [u8], origin: usize, n: usize, values: &[u64; 16])
     requires { ⌜ n ≤ 16 ⌝ }
     requires { ⌜ ((k : ℕ) → k < n → origin + k * 1 * 1 + 1 ≤ length (now registers)) ⌝ }
     ensures { λ r. ⌜ now (registers .exit)
@@ -150,21 +150,21 @@ fn store_sized(
 }
 
 // Elements of a size side by side, all of them: a mask that has every bit enables them.
-fn pack_sized(registers: &mut [u8], origin: usize, size: usize, n: usize, values: &[u64; 16])
+fn lay_sized(registers: &mut [u8], origin: usize, size: usize, n: usize, values: &[u64; 16])
     requires { ⌜ Size size × (n ≤ 16) ⌝ }
     requires { ⌜ ((k : ℕ) → k < n → origin + k * 1 * size + size ≤ length (now registers)) ⌝ }
     ensures { λ r. ⌜ now (registers .exit)
         ≡ scattered (now (registers .entry)) (λ k. origin + k * 1 * size) size (bit 18446744073709551615) (λ k. getD (now (values .entry)) k 0) n ⌝ }
 {
     if size == 4 {
-        pack_dwords(registers, origin, n, values);
+        lay_dwords(registers, origin, n, values);
         return;
     }
     if size == 2 {
-        pack_words(registers, origin, n, values);
+        lay_words(registers, origin, n, values);
         return;
     }
-    pack_bytes(registers, origin, n, values);
+    lay_bytes(registers, origin, n, values);
 }
 
 // The mask enables each of the n first channels.
@@ -176,7 +176,7 @@ fn all_on(enable: u64, n: usize) -> bool
 }
 
 // Elements side by side, all of which are enabled.
-fn is_plain(stride: usize, enable: u64, n: usize) -> bool
+fn is_whole(stride: usize, enable: u64, n: usize) -> bool
     requires { ⌜ n ≤ 16 ⌝ }
     ensures { λ r. ⌜ (r ≡ true → (stride ≡ 1) × ((k : ℕ) → k < n → bit enable k ≡ true)) ⌝ }
 {
@@ -202,8 +202,8 @@ pub fn scatter(
     ensures { λ r. ⌜ now (registers .exit)
         ≡ scattered (now (registers .entry)) (λ k. origin + k * stride * size) size (bit enable) (λ k. getD (now (values .entry)) k 0) n ⌝ }
 {
-    if is_plain(stride, enable, n) {
-        pack_sized(registers, origin, size, n, values);
+    if is_whole(stride, enable, n) {
+        lay_sized(registers, origin, size, n, values);
         return;
     }
     store_sized(registers, origin, stride, size, n, enable, values);

@@ -92,7 +92,14 @@ fn sixteen(registers: &[u8], from: usize, kind: u64, size: usize, values: &mut [
 }
 
 // The n first elements from byte `from` on, as numbers: each size has loops of its own, and one for sixteen channels.
-pub fn beside(registers: &[u8], from: usize, kind: u64, size: usize, n: usize, values: &mut [u64; 16])
+pub fn beside(
+    registers: &[u8],
+    from: usize,
+    kind: u64,
+    size: usize,
+    n: usize,
+    values: &mut [u64; 16],
+)
     requires { ⌜ (size ≡ sizeOf kind) × (n ≤ 16) × (length (now values) ≡ 16) ⌝ }
     requires { ⌜ ((k : ℕ) → k < n → from + k * size + size ≤ length (now registers)) ⌝ }
     ensures { λ r. ⌜ ElementsRead (now (registers .entry)) (λ k. from + k * size) kind size n (now (values .entry)) (now (values .exit)) ⌝ }

@@ -9,8 +9,8 @@ use borrow.Author.Needs.{needs}
 use Rattle.element.proofs.shift.shift_left.Statement.{statement}
 use Rattle.element.proofs.shift.shift_left.Tie as tie
 
-places-requires : tie.Need-places-requires
-places-requires c κs = search needs
+shift-count-requires : tie.Need-shift-count-requires
+shift-count-requires c κs = search needs
 
 sub-result : tie.Need-sub-result
 sub-result c = search needs
@@ -25,23 +25,23 @@ shl-result-2 : tie.Need-shl-result-2
 shl-result-2 c = search needs
 
 sub-result-3 : tie.Need-sub-result-3
-sub-result-3 c = lowered-most (c .places .result) (c .places .ensures .1)
+sub-result-3 c = lowered-most (c .shift-count .result) (c .shift-count .ensures .1)
 
 add-result : tie.Need-add-result
 add-result c =
-    record { fits = shift-left-fits (c .before .args .v) (c .places .result) (c .places .ensures .1) (omega arith) }
+    record { fits = shift-left-fits (c .before .args .v) (c .shift-count .result) (c .shift-count .ensures .1) (omega arith) }
 
 returns : tie.Need-returns
 returns c =
     let v = c .before .args .v in
-    ex-shift-left v (c .places .result) (c .places .ensures .1) (omega arith) (omega arith)
-    ∙ ap (λ (n : ℕ). ex v *ℤ pos (2 ^ n)) (c .places .ensures .0)
+    ex-shift-left v (c .shift-count .result) (c .shift-count .ensures .1) (omega arith) (omega arith)
+    ∙ ap (λ (n : ℕ). ex v *ℤ pos (2 ^ n)) (c .shift-count .ensures .0)
 
 pub shift-left-spec : {M : Type 1} → statement M
 shift-left-spec =
     tie.close
     (tie.spec
-    places-requires
+    shift-count-requires
     sub-result
     sub-result-2
     shl-result

@@ -25,7 +25,7 @@ channels-requires : tie.Need-channels-requires
 channels-requires c κs = search needs
 
 scatter-requires : tie.Need-scatter-requires
-scatter-requires c κs = 
+scatter-requires c κs =
     let s = c .before .before .before .before .before .before in
     let w = toWord (s .args .w) in
     let kept : isNull w ≡ false = rw (← (c .before .before .before .before .is-null .ensures)) (c .before .before .before .if1 .left) in
@@ -37,7 +37,7 @@ same-length c = search needs
 
 returns-2 : tie.Need-returns-2
 unfolding written
-returns-2 c = 
+returns-2 c =
     rw (← (c .before .before .before .before .before .before .before .is-null .ensures), c .before .before .before .before .before .before .if1 .left, c .before .before .scatter .ensures, c .before .before .before .channels .ensures .0, ap (λ (s : Region). s .origin) (c .before .before .before .before .before .dst-region .ensures .0), ap (λ (s : Region). s .vert) (c .before .before .before .before .before .dst-region .ensures .0), ap (λ (s : Region). s .size) (c .before .before .before .before .before .dst-region .ensures .0))
 
 pub write-spec : {M : Type 1} → statement M

@@ -9,13 +9,13 @@ use borrow.Author.Needs.{needs}
 use Rattle.lanes.proofs.scatter.scatter.Statement.{statement}
 use Rattle.lanes.proofs.scatter.scatter.Tie as tie
 
-is-plain-requires : tie.Need-is-plain-requires
-is-plain-requires c κs = search needs
+is-whole-requires : tie.Need-is-whole-requires
+is-whole-requires c κs = search needs
 
-pack-sized-requires : tie.Need-pack-sized-requires
-pack-sized-requires c κs =
+lay-sized-requires : tie.Need-lay-sized-requires
+lay-sized-requires c κs =
     let s = c .before .before .before .before in
-    let plain = c .before .before .is-plain .ensures (c .before .if1 .taken) in
+    let plain = c .before .before .is-whole .ensures (c .before .if1 .taken) in
     (s .pre .0, λ k h. subst (λ (z : ℕ). s .args .origin + k * z * s .args .size + s .args .size ≤ length (s .args .registers .now)) (plain .0) (s .pre .1 k h))
 
 same-length : tie.Need-same-length
@@ -24,8 +24,8 @@ same-length c = search needs
 returns : tie.Need-returns
 returns c =
     let s = c .before .before .before .before .before .before .before in
-    let plain = c .before .before .before .before .before .is-plain .ensures (c .before .before .before .before .if1 .taken) in
-    rw (plain .0) (c .before .before .pack-sized .ensures
+    let plain = c .before .before .before .before .before .is-whole .ensures (c .before .before .before .before .if1 .taken) in
+    rw (plain .0) (c .before .before .lay-sized .ensures
     ∙ scattered-same _ _ _ _ _ _ _ _ (λ k h. bit-ones 64 k (omega (arith, s .pre .0 .1)) ∙ sym (plain .1 k h)) (λ k h. refl))
 
 store-sized-requires : tie.Need-store-sized-requires
@@ -41,8 +41,8 @@ pub scatter-spec : {M : Type 1} → statement M
 scatter-spec =
     tie.close
     (tie.spec
-    is-plain-requires
-    pack-sized-requires
+    is-whole-requires
+    lay-sized-requires
     same-length
     returns
     store-sized-requires

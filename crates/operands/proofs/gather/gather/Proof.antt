@@ -9,13 +9,13 @@ is-beside-requires : tie.Need-is-beside-requires
 is-beside-requires c κs = search needs
 
 beside-requires : tie.Need-beside-requires
-beside-requires c κs = 
+beside-requires c κs =
     let s = c .before .before .before .before in
     let e = c .before .before .is-beside .ensures (c .before .if1 .taken) in
     ((s .pre .0 .1, s .pre .0 .3, s .pre .0 .4), λ k h. rw (beside-at (regionIs (s .args .r)) k (e .0) (e .1)) (s .pre .1 k h))
 
 returns : tie.Need-returns
-returns c = 
+returns c =
     let s = c .before .before .before .before .before in
     let e = c .before .before .before .is-beside .ensures (c .before .before .if1 .taken) in
     elements-same _ _ _ _ _ _ _ _ (λ k h. beside-at (regionIs (s .args .r)) k (e .0) (e .1)) (c .beside .ensures)
@@ -24,7 +24,7 @@ is-single-requires : tie.Need-is-single-requires
 is-single-requires c κs = search needs
 
 read-as-requires : tie.Need-read-as-requires
-read-as-requires c κs = 
+read-as-requires c κs =
     let s = c .before .before .before .before .before in
     let e = c .before .is-single .ensures (c .if2 .taken) in
     (s .pre .0 .1, rw (single-at (regionIs (s .args .r)) 0 (e .0) (e .1)) (s .pre .1 0 (s .pre .0 .2)))
@@ -33,7 +33,7 @@ spread-requires : tie.Need-spread-requires
 spread-requires c κs = search needs
 
 returns-2 : tie.Need-returns-2
-returns-2 c = 
+returns-2 c =
     let s = c .before .before .before .before .before .before .before .before in
     let e = c .before .before .before .before .is-single .ensures (c .before .before .before .if2 .taken) in
     elements-single (s .args .registers .now) _ _ _ _ _ _ _ _ (λ k. single-at (regionIs (s .args .r)) k (e .0) (e .1)) (c .before .before .read-as .ensures) (c .spread .ensures)

@@ -18,14 +18,14 @@ enum-known-o : tie.Need-enum-known-o
 enum-known-o c = search needs
 
 load-requires : tie.Need-load-requires
-load-requires c κs = 
+load-requires c κs =
     let s = c .before .before .before .before .before .before in
     let w = toWord (s .args .w) in
     let t = fixed-told (sourceIs (s .args .x)) w _ (c .before .before .before .operand-of .ensures) _ (c .before .o .given .1) in
     rw (c .before .before .before .before .src-type .ensures .0) (t .2)
 
 spread-requires : tie.Need-spread-requires
-spread-requires c κs = 
+spread-requires c κs =
     let s = c .before .before .before .before .before .before .before .before in
     let w = toWord (s .args .w) in
     (rw (s .pre .1) (count-channels w (s .pre .0 .count)), s .pre .3)
@@ -34,11 +34,10 @@ enum-known-o-2 : tie.Need-enum-known-o-2
 enum-known-o-2 c = search needs
 
 gather-requires : tie.Need-gather-requires
-gather-requires c κs = 
+gather-requires c κs =
     let s = c .before .before .before .before .before .before .before in
     let w = toWord (s .args .w) in
-    let t = direct-told (sourceIs (s .args .x)) w _ (c .before .before .before .before .operand-of .ensures) _ (c .before .before .o2 .given .1) in
-    (
+    let t = direct-told (sourceIs (s .args .x)) w _ (c .before .before .before .before .operand-of .ensures) _ (c .before .before .o2 .given .1) in (
       (t .2, t .3 ∙ sym (ap sizeOf (c .before .before .before .before .before .src-type .ensures .0)), rw (s .pre .1) (channels-some w), rw (s .pre .1) (count-channels w (s .pre .0 .count)), s .pre .3),
       region-read (sourceIs (s .args .x)) w _ (s .pre .0) (t .0) (t .1) _ _ (s .pre .1) (s .pre .2),
     )
@@ -47,20 +46,20 @@ src-modifier-requires : tie.Need-src-modifier-requires
 src-modifier-requires c κs = search needs
 
 modify-all-requires : tie.Need-modify-all-requires
-modify-all-requires c κs = 
+modify-all-requires c κs =
     let s = c .before .before .before .before .before .before .before .before .before .before in
     let w = toWord (s .args .w) in
     (rw (s .pre .1) (count-channels w (s .pre .0 .count)), elements-sixteen _ _ _ _ _ _ _ (c .before .before .gather .ensures), elements-near _ _ _ _ _ _ _ (c .before .before .gather .ensures))
 
 returns : tie.Need-returns
-returns c = 
+returns c =
     let s = c .before .before .before .before .before .before .before .before .before in
     let w = toWord (s .args .w) in
     let t = fixed-told (sourceIs (s .args .x)) w _ (c .before .before .before .before .before .before .operand-of .ensures) _ (c .before .before .before .before .o .given .1) in
     operand-fixed w (s .args .registers .now) (sourceIs (s .args .x)) _ _ _ _ _ _ (t .0) (c .before .before .before .before .before .before .before .src-type .ensures .0) (t .1) (c .before .before .load .ensures) (c .spread .ensures)
 
 returns-2 : tie.Need-returns-2
-returns-2 c = 
+returns-2 c =
     let s = c .before .before .before .before .before .before .before .before .before .before .before in
     let w = toWord (s .args .w) in
     let t = direct-told (sourceIs (s .args .x)) w _ (c .before .before .before .before .before .before .before .before .operand-of .ensures) _ (c .before .before .before .before .before .before .o2 .given .1) in

@@ -45,9 +45,10 @@ size-of-requires c κs = search needs
 
 -- src/region.rt:66:1
 returns : tie.Need-returns
-returns c =
-    (cc,
-    record { start = omega arith; rows = omega arith; wide = omega arith; columns = omega arith; least = omega arith; most = omega arith })
+returns c = (
+  cc,
+  record { start = omega arith; rows = omega arith; wide = omega arith; columns = omega arith; least = omega arith; most = omega arith },
+)
 
 pub dst-region-spec : {M : Type 1} → statement M
 dst-region-spec =

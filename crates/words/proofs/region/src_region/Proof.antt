@@ -60,9 +60,10 @@ size-of-requires c κs = search needs
 
 -- src/region.rt:48:1
 returns : tie.Need-returns
-returns c =
-    (region-is _ _ (cc) (cc) (cc) (cc) (cc),
-    record { start = omega arith; rows = omega arith; wide = omega arith; columns = omega arith; least = omega arith; most = omega arith })
+returns c = (
+  region-is _ _ (cc) (cc) (cc) (cc) (cc),
+  record { start = omega arith; rows = omega arith; wide = omega arith; columns = omega arith; least = omega arith; most = omega arith },
+)
 
 pub src-region-spec : {M : Type 1} → statement M
 src-region-spec =

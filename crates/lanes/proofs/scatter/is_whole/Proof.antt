@@ -2,8 +2,8 @@
 use mathlib.Core.Path.{sym}
 use mathlib.Core.Bool.{true≢false}
 use borrow.Author.Needs.{needs}
-use Rattle.lanes.proofs.scatter.is_plain.Statement.{statement}
-use Rattle.lanes.proofs.scatter.is_plain.Tie as tie
+use Rattle.lanes.proofs.scatter.is_whole.Statement.{statement}
+use Rattle.lanes.proofs.scatter.is_whole.Tie as tie
 
 all-on-requires : tie.Need-all-on-requires
 all-on-requires c κs = search needs
@@ -14,5 +14,5 @@ returns c e = (c .before .if1 .taken, c .all-on .ensures e)
 returns-2 : tie.Need-returns-2
 returns-2 c e = absurd (true≢false (sym e))
 
-pub is-plain-spec : {M : Type 1} → statement M
-is-plain-spec = tie.close (tie.spec all-on-requires returns returns-2)
+pub is-whole-spec : {M : Type 1} → statement M
+is-whole-spec = tie.close (tie.spec all-on-requires returns returns-2)

@@ -4,11 +4,11 @@ use Prim.Native.Nat.{ℕ, _+_, _*_, _≤_}
 use native.Mathlib.Omega.{arith}
 use lib.ListN.{length}
 use borrow.Author.Needs.{needs}
-use Rattle.lanes.proofs.scatter.pack_sized.Statement.{statement}
-use Rattle.lanes.proofs.scatter.pack_sized.Tie as tie
+use Rattle.lanes.proofs.scatter.lay_sized.Statement.{statement}
+use Rattle.lanes.proofs.scatter.lay_sized.Tie as tie
 
-pack-dwords-requires : tie.Need-pack-dwords-requires
-pack-dwords-requires c κs =
+lay-dwords-requires : tie.Need-lay-dwords-requires
+lay-dwords-requires c κs =
     let s = c .before .before .before in
     let e : s .args .size ≡ 4 = c .before .if1 .taken in
     (s .pre .0 .1, λ k h. subst (λ (z : ℕ). s .args .origin + k * 1 * z + z ≤ length (s .args .registers .now)) e (s .pre .1 k h))
@@ -17,10 +17,10 @@ same-length : tie.Need-same-length
 same-length c = search needs
 
 returns : tie.Need-returns
-returns c = rw (c .before .before .before .before .if1 .taken) (c .before .before .pack-dwords .ensures)
+returns c = rw (c .before .before .before .before .if1 .taken) (c .before .before .lay-dwords .ensures)
 
-pack-words-requires : tie.Need-pack-words-requires
-pack-words-requires c κs =
+lay-words-requires : tie.Need-lay-words-requires
+lay-words-requires c κs =
     let s = c .before .before .before .before in
     let e : s .args .size ≡ 2 = c .before .if2 .taken in
     (s .pre .0 .1, λ k h. subst (λ (z : ℕ). s .args .origin + k * 1 * z + z ≤ length (s .args .registers .now)) e (s .pre .1 k h))
@@ -29,10 +29,10 @@ same-length-2 : tie.Need-same-length-2
 same-length-2 c = search needs
 
 returns-2 : tie.Need-returns-2
-returns-2 c = rw (c .before .before .before .before .if2 .taken) (c .before .before .pack-words .ensures)
+returns-2 c = rw (c .before .before .before .before .if2 .taken) (c .before .before .lay-words .ensures)
 
-pack-bytes-requires : tie.Need-pack-bytes-requires
-pack-bytes-requires c κs =
+lay-bytes-requires : tie.Need-lay-bytes-requires
+lay-bytes-requires c κs =
     let s = c .before .before .before .before in
     let e : s .args .size ≡ 1 = omega (arith, s .pre .0 .0) in
     (s .pre .0 .1, λ k h. subst (λ (z : ℕ). s .args .origin + k * 1 * z + z ≤ length (s .args .registers .now)) e (s .pre .1 k h))
@@ -44,18 +44,18 @@ returns-3 : tie.Need-returns-3
 returns-3 c =
     let s = c .before .before .before .before .before .before .before in
     let e : s .args .size ≡ 1 = omega (arith, s .pre .0 .0) in
-    rw e (c .before .before .pack-bytes .ensures)
+    rw e (c .before .before .lay-bytes .ensures)
 
-pub pack-sized-spec : {M : Type 1} → statement M
-pack-sized-spec =
+pub lay-sized-spec : {M : Type 1} → statement M
+lay-sized-spec =
     tie.close
     (tie.spec
-    pack-dwords-requires
+    lay-dwords-requires
     same-length
     returns
-    pack-words-requires
+    lay-words-requires
     same-length-2
     returns-2
-    pack-bytes-requires
+    lay-bytes-requires
     same-length-3
     returns-3)
