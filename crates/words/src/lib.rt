@@ -3,6 +3,7 @@ pub mod answer;
 pub mod bytes;
 pub mod decoded;
 pub mod fields;
+pub mod limits;
 pub mod operation;
 pub mod traits;
 pub mod types;
