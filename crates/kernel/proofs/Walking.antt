@@ -16,7 +16,7 @@ use Rattle.paper.specs.Calls.{verdict}
 use Rattle.words.specs.Answer.{answerIs}
 use Rattle.words.specs.declared.answer.Answer.{Answer}
 use Rattle.words.specs.declared.answer.Answer.the-variants.{Told, Refused}
-use Rattle.kernel.specs.Marks.{places, marked, Says, says-bad, mark-more}
+use Rattle.kernel.specs.Marks.{placeCount, marked, Says, says-bad, mark-more}
 
 -- What the answer r and the marks m′ say of what is left, judged as q, from byte `from` on, with c instructions counted and the marks m made before it.
 unfoldable pub Goes : ℕ → ℕ → List ℕ → Parsed → Answer → List ℕ → Type 0
@@ -41,7 +41,7 @@ regroup false true f e = refl
 regroup false false f e = refl
 
 -- One instruction more is one more counted and one more marked.
-goes-more : (i : Instr) (from c : ℕ) (m : List ℕ) (r : Answer) (m′ : List ℕ) → i .place ≡ from / 8 → from / 8 < places → length m ≡ places → (q : Parsed)
+goes-more : (i : Instr) (from c : ℕ) (m : List ℕ) (r : Answer) (m′ : List ℕ) → i .place ≡ from / 8 → from / 8 < placeCount → length m ≡ placeCount → (q : Parsed)
     → Goes (from + 8 * i .size) (c + 1) (set m (from / 8) 1) q r m′ → Goes from c m (prepend i q) r m′
 unfolding fetch endFrom Goes
 goes-more i from c m r m′ e l z (bad number offset) h = h
@@ -70,7 +70,7 @@ eqb-swap a b = go (eqb b a) refl
     go false e = ne-eqb a b (λ h. eqb-false b a e (sym h))
 
 -- At the end only the end itself is marked.
-goes-end : (from c : ℕ) (m : List ℕ) → from / 8 < places → length m ≡ places → Goes from c m (good []) (Told 0 c) (set m (from / 8) 1)
+goes-end : (from c : ℕ) (m : List ℕ) → from / 8 < placeCount → length m ≡ placeCount → Goes from c m (good []) (Told 0 c) (set m (from / 8) 1)
 unfolding fetch endFrom Goes
 goes-end from c m l z =
     let n : c ≡ c + 0 = omega arith in
@@ -112,7 +112,7 @@ module _ (judge : ℕ → Judged) (end from c : ℕ) (m : List ℕ) (q : Parsed)
   leads-as : (x : Parsed) (r : Answer) (m′ : List ℕ) → walk judge end (instructionLimit - c) from ≡ x → Goes from c m x r m′ → Says q r m′
   leads-as x r m′ e g = leads r m′ (subst (λ (x : Parsed). Goes from c m x r m′) (sym e) g)
 
-  pub leads-end : end ≤ from → from / 8 < places → length m ≡ places → Says q (Told 0 c) (set m (from / 8) 1)
+  pub leads-end : end ≤ from → from / 8 < placeCount → length m ≡ placeCount → Says q (Told 0 c) (set m (from / 8) 1)
   leads-end h l z = leads-as (good []) (Told 0 c) (set m (from / 8) 1) (walk-end judge end from (instructionLimit - c) h) (goes-end from c m l z)
 
   module _ (inside : from < end) where
@@ -132,7 +132,7 @@ module _ (judge : ℕ → Judged) (end from c : ℕ) (m : List ℕ) (q : Parsed)
           leads-as (bad x from) (Refused x from) m
           (ap (λ (n : ℕ). walk judge end n from) left ∙ walk-refused judge end from inside (instructionLimit - (c + 1)) x j) (says-bad x from m)
 
-      pub leads-passed : (size w : ℕ) → judge from ≡ passed size w → from / 8 < places → length m ≡ places
+      pub leads-passed : (size w : ℕ) → judge from ≡ passed size w → from / 8 < placeCount → length m ≡ placeCount
           → Leads judge end (from + 8 * size) (c + 1) (set m (from / 8) 1) q
       leads-passed size w j l z r m′ s =
           let i : Instr = record { place = from / 8; size = size; word = w } in

@@ -16,17 +16,17 @@ use Rattle.words.specs.Answer.{answerIs}
 use Rattle.words.specs.declared.answer.Answer.{Answer}
 use Rattle.words.specs.declared.answer.Answer.the-variants.{Told, Refused}
 
--- How many places there are to mark: those of the longest kernel, eight bytes each, and its end.
-abbrev pub places : ℕ
-places = kernelBytes / 8 + 1
+-- How many places there are: those of the longest kernel, eight bytes each, and its end.
+abbrev pub placeCount : ℕ
+placeCount = kernelBytes / 8 + 1
 
 -- Place p is marked. No place past the marks is.
 unfoldable pub marked : List ℕ → ℕ → Bool
-marked marks p = cond (ltb p places) (eqb (getD marks p 0) 1) false
+marked marks p = cond (ltb p placeCount) (eqb (getD marks p 0) 1) false
 
 -- There is a mark for each place, and none is set.
 unfoldable pub Blank : List ℕ → Type 0
-Blank marks = (length marks ≡ places) × ((p : ℕ) → marked marks p ≡ false)
+Blank marks = (length marks ≡ placeCount) × ((p : ℕ) → marked marks p ≡ false)
 
 -- The marks of a kernel that is judged so: where it is accepted, the places at which an instruction starts or the kernel ends.
 abbrev pub MarksOf : Parsed → List ℕ → Type 0
@@ -89,18 +89,18 @@ blank-zero (suc n) (suc p) = blank-zero n p
 
 none-unmarked : (n p : ℕ) → marked (replicate n 0) p ≡ false
 unfolding marked
-none-unmarked n p = rw (blank-zero n p) (either (ltb p places))
+none-unmarked n p = rw (blank-zero n p) (either (ltb p placeCount))
   where
     either : (t : Bool) → cond t false false ≡ false
     either true = refl
     either false = refl
 
 -- Fresh marks, all 0, are blank.
-pub fresh : Blank (replicate places 0)
+pub fresh : Blank (replicate placeCount 0)
 unfolding Blank
-fresh = (length-replicate {A = ℕ} places 0, none-unmarked places)
+fresh = (length-replicate {A = ℕ} placeCount 0, none-unmarked placeCount)
 
-pub blank-length : (marks : List ℕ) → Blank marks → length marks ≡ places
+pub blank-length : (marks : List ℕ) → Blank marks → length marks ≡ placeCount
 unfolding Blank
 blank-length marks b = b .0
 
@@ -109,23 +109,23 @@ unfolding Blank
 blank-unmarked marks b = b .1
 
 -- One mark more.
-pub mark-more : (m : List ℕ) (q p : ℕ) → q < places → length m ≡ places → marked (set m q 1) p ≡ (marked m p || eqb q p)
+pub mark-more : (m : List ℕ) (q p : ℕ) → q < placeCount → length m ≡ placeCount → marked (set m q 1) p ≡ (marked m p || eqb q p)
 unfolding marked
 mark-more m q p h l = go (eqb q p) refl
   where
     go : (t : Bool) → eqb q p ≡ t → marked (set m q 1) p ≡ (marked m p || t)
     go true e =
         let same : q ≡ p = eqb-true q p e in
-        let lt : p < places = omega arith in
+        let lt : p < placeCount = omega arith in
         let one : getD (set m q 1) p 0 ≡ 1 = ap (λ (x : ℕ). getD (set m q 1) x 0) (sym same) ∙ getD-set-same m q 1 0 (omega arith) in
         rw (lt-ltb _ _ lt, one) (sym (or-true (eqb (getD m p 0) 1)))
     go false e = rw (getD-set-other m q p 1 0 (λ x. eqb-false q p e (sym x))) (sym (or-false (marked m p)))
 
 -- The code's two tests.
-pub marked-inside : (m : List ℕ) (p : ℕ) → p < places → marked m p ≡ eqb (getD m p 0) 1
+pub marked-inside : (m : List ℕ) (p : ℕ) → p < placeCount → marked m p ≡ eqb (getD m p 0) 1
 unfolding marked
 marked-inside m p h = rw (lt-ltb _ _ h)
 
-pub marked-past : (m : List ℕ) (p : ℕ) → places ≤ p → marked m p ≡ false
+pub marked-past : (m : List ℕ) (p : ℕ) → placeCount ≤ p → marked m p ≡ false
 unfolding marked
 marked-past m p h = rw (le-ltb _ _ h)

@@ -13,7 +13,7 @@ ghost use Rattle.paper.specs.Limits.{dictionaryBytes, kernelBytes};
 ghost use Rattle.paper.specs.Dictionary.{dictionaryOf};
 ghost use Rattle.paper.specs.Jump.{targetsOf};
 ghost use Rattle.words.specs.Words.{toWord};
-ghost use Rattle.kernel.specs.Marks.{marked};
+ghost use Rattle.kernel.specs.Marks.{placeCount, marked};
 ghost use Rattle.kernel.specs.Standing.{Standing};
 ghost use Rattle.kernel.specs.Jumps.{landsIn, landBy, instrOf, FirstOut};
 
@@ -46,7 +46,7 @@ fn target_lands(marks: &[u8; PLACES], t: Target) -> bool
 
 // Each distance in word w, an instruction of `size` places from place `here` on, leads to a mark.
 pub fn jump_lands(marks: &[u8; PLACES], w: Word, here: u64, size: u64) -> bool
-    requires { ⌜ (here < 65536) × (size < 65536) ⌝ }
+    requires { ⌜ (here < placeCount) × (size ≤ 2) ⌝ }
     ensures { λ r. ⌜ r ≡ landBy (marked (now (marks .entry))) (targetsOf (instrOf here size (toWord w))) ⌝ }
 {
     let held = distances_in(w);

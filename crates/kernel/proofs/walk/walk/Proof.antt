@@ -9,7 +9,7 @@ use Rattle.paper.specs.Limits.{instructionLimit}
 use Rattle.paper.specs.Dictionary.{dictionaryOf}
 use Rattle.paper.specs.Kernel.{judgeAt, parse}
 use Rattle.kernel.specs.Judging.{judgedIs, formsIs}
-use Rattle.kernel.specs.Marks.{places, blank-length, blank-unmarked}
+use Rattle.kernel.specs.Marks.{placeCount, blank-length, blank-unmarked}
 use Rattle.kernel.specs.Standing.{fits}
 use Rattle.kernel.proofs.Walking.{Leads, leads-start, leads-full, leads-refused, leads-passed, leads-end}
 use Rattle.kernel.proofs.walk.walk.Statement.{statement}
@@ -19,7 +19,7 @@ abbrev Inv-loop : tie.InvT-loop
 Inv-loop long dictionary kernel marks₀ from₀ count₀ marks from count =
     (from ≤ length kernel)
     × (count ≤ instructionLimit)
-    × (length marks ≡ places)
+    × (length marks ≡ placeCount)
     × Leads (judgeAt (formsIs long) (dictionaryOf dictionary) kernel) (length kernel) from count marks (parse (formsIs long) (dictionaryOf dictionary) kernel)
 
 abbrev μ-loop : tie.MeasureT-loop
