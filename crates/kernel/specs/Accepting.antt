@@ -1,5 +1,5 @@
 -- An accepted kernel: how the code comes to accept or refuse, and what is then known. Assumes nothing.
-use mathlib.Core.Bool.{Bool, true, false, cond, _&&_, true≢false}
+use mathlib.Core.Bool.{Bool, true, false, cond}
 use mathlib.Core.List.{List}
 use mathlib.Core.Option.{Option, none, some}
 use mathlib.Core.Path.{_≡_, refl, sym, ap, _∙_, subst}
@@ -10,7 +10,7 @@ use lib.ListN.{length}
 use borrow.Author.Tests.{eqb-true, leb-true}
 use Rattle.paper.specs.Limits.{instructionLimit, dictionaryBytes, kernelBytes}
 use Rattle.paper.specs.Dictionary.{dictionaryOf, inRange}
-use Rattle.paper.specs.Kernel.{Instr, Forms, passed, judgeAt, Parsed, bad, good, walk, parse}
+use Rattle.paper.specs.Kernel.{Instr, Forms, passed, judgeAt, Parsed, bad, good, parse}
 use Rattle.paper.specs.Jump.{fetch, endOf, lands, astray, withJumps}
 use Rattle.paper.specs.Calls.{sized, judgedKernel, accepted}
 use Rattle.laws.specs.Names.{Sound}

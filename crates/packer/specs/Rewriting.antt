@@ -1,10 +1,9 @@
 -- What rewriting a word comes to, by the distances that it holds. Assumes nothing.
 use mathlib.Core.List.{List, [], _∷_}
-use mathlib.Core.Path.{_≡_, refl, sym, ap, _∙_, subst}
-use Prim.Native.Nat.{ℕ, _+_, _<_, _≤_}
+use mathlib.Core.Path.{_≡_, sym, ap, _∙_, subst}
+use Prim.Native.Nat.{ℕ, _+_, _<_}
 use lib.ListN.{getD}
 use Rattle.paper.specs.Operation.{operation}
-use Rattle.paper.specs.Kernel.{Instr}
 use Rattle.paper.specs.Jump.{Distance, distances, reach, reached, placeOf}
 use Rattle.paper.specs.Packing.{aimed}
 use Rattle.laws.specs.Rename.{AtPlaces}
