@@ -1,12 +1,12 @@
 -- The four numbers that the checking program prints (the paper, "The checking program"). Assumes nothing.
-use mathlib.Core.Bool.{Bool, true, false, _&&_}
+use mathlib.Core.Bool.{and-false}
 use mathlib.Core.List.{List}
-use mathlib.Core.Path.{_≡_, refl, sym, ap, _∙_}
-use Prim.Native.Nat.{ℕ, _<_, _≤_}
+use mathlib.Core.Path.{_≡_, sym, ap, _∙_}
+use Prim.Native.Nat.{ℕ, _+_, _<_, _≤_}
 use native.Mathlib.Omega.{arith}
-use lib.Dec.{leb}
 use lib.ListN.{length, take, length-take}
 use borrow.Author.Tests.{lt-leb}
+use Rattle.paper.specs.Limits.{kernelBytes}
 use Rattle.paper.specs.Calls.{Answer, verdict, refusal, checkCall, accepted}
 use Rattle.front.specs.declared.report.Report.{Report}
 
@@ -34,19 +34,15 @@ pub printed-by : (dictionary kernel : List ℕ) (a : Answer) → checkCall dicti
 unfolding printed
 printed-by dictionary kernel a e = ap (λ x. printedAs x (length kernel)) e
 
-and-false : (b : Bool) → (b && false) ≡ false
-and-false true = refl
-and-false false = refl
-
 -- A kernel that is too long is refused by 1, whatever it holds.
-pub printed-over : (dictionary kernel : List ℕ) → 16384 < length kernel
+pub printed-over : (dictionary kernel : List ℕ) → kernelBytes < length kernel
     → printed dictionary kernel ≡ record { verdict = 1; at = 0; instructions = 0; bytes = 0 }
 unfolding printed printedAs checkCall accepted
 printed-over dictionary kernel h = rw (lt-leb _ _ h, and-false)
 
 -- So the program, which reads one byte more than is allowed, prints what the whole input calls for.
-pub printed-cut : (dictionary kernel : List ℕ) → 16384 < length kernel → printed dictionary kernel ≡ printed dictionary (take 16385 kernel)
+pub printed-cut : (dictionary kernel : List ℕ) → kernelBytes < length kernel → printed dictionary kernel ≡ printed dictionary (take (kernelBytes + 1) kernel)
 printed-cut dictionary kernel h =
-    let most : 16385 ≤ length kernel = omega arith in
-    let still : 16384 < length (take 16385 kernel) = simp length-take (omega arith) in
-    printed-over dictionary kernel h ∙ sym (printed-over dictionary (take 16385 kernel) still)
+    let most : kernelBytes + 1 ≤ length kernel = omega arith in
+    let still : kernelBytes < length (take (kernelBytes + 1) kernel) = simp length-take (omega arith) in
+    printed-over dictionary kernel h ∙ sym (printed-over dictionary (take (kernelBytes + 1) kernel) still)

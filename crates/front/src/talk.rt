@@ -1,6 +1,8 @@
 // Reads a dictionary and a kernel from a descriptor, and writes the four lines.
 use crate::report::report_on;
 use libc::STDOUT_FILENO;
+use words::limits::DICTIONARY_BYTES;
+use words::limits::KERNEL_BYTES;
 
 // One line: a name and a number.
 fn line(name: &[u8], value: u64) {
@@ -9,12 +11,12 @@ fn line(name: &[u8], value: u64) {
     io::write_all(STDOUT_FILENO, b"\n");
 }
 
-// The first 512 bytes are the dictionary, what follows is the kernel. Of a kernel that is too long, one byte more than is allowed is read, so that it is
+// The first bytes are the dictionary, what follows is the kernel. Of a kernel that is too long, one byte more than is allowed is read, so that it is
 // refused as too long; what follows that byte changes nothing (`printed-cut`) and stays unread.
 pub fn talk(descriptor: i32) {
-    let mut dictionary = [0u8; 512];
+    let mut dictionary = [0u8; DICTIONARY_BYTES];
     let d = io::read_full(descriptor, &mut dictionary);
-    let mut kernel = [0u8; 16385];
+    let mut kernel = [0u8; KERNEL_BYTES + 1];
     let k = io::read_full(descriptor, &mut kernel);
     let r = report_on(&dictionary[..d], &kernel[..k]);
     line(b"verdict=", r.verdict);

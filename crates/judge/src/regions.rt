@@ -15,6 +15,7 @@ use words::fields::part;
 use words::fields::src_field;
 use words::fields::src_subregister;
 use words::fields::src_type;
+use words::limits::REGISTER_BYTES;
 use words::operation::Plain;
 use words::region::Region;
 use words::region::count_of;
@@ -113,7 +114,7 @@ pub fn too_far(origin: usize, element: usize, size: usize) -> bool
     ensures { λ r. ⌜ r ≡ tooFar origin element size ⌝ }
 {
     let last = element + size - 1;
-    either(origin / 32 + 1 < last / 32, 4096 <= last)
+    either(origin / 32 + 1 < last / 32, REGISTER_BYTES <= last)
 }
 
 // A region does so from its first byte to the element of its last channel.

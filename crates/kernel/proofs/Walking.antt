@@ -12,22 +12,24 @@ use borrow.Author.Tests.{lt-ltb, le-ltb, eqb-true, eqb-false, eq-eqb, ne-eqb}
 use Rattle.paper.specs.Limits.{instructionLimit}
 use Rattle.paper.specs.Kernel.{Instr, Judged, refused, passed, Parsed, bad, good, prepend, walk}
 use Rattle.paper.specs.Jump.{nextOf, fetch, found, endFrom, lands}
-use Rattle.kernel.specs.declared.walk.Scan.{Scan}
-use Rattle.kernel.specs.Marks.{places, marked, Says, mark-more}
+use Rattle.paper.specs.Calls.{verdict}
+use Rattle.words.specs.Answer.{answerIs}
+use Rattle.words.specs.declared.answer.Answer.{Answer}
+use Rattle.words.specs.declared.answer.Answer.the-variants.{Told, Refused}
+use Rattle.kernel.specs.Marks.{placeCount, marked, Says, says-bad, mark-more}
 
--- What the scan r says of what is left, judged as q, from byte `from` on, with c instructions counted and the marks m made before it.
-unfoldable pub Goes : ℕ → ℕ → List ℕ → Parsed → Scan → Type 0
-Goes from c m (bad number offset) r = Says (bad number offset) r
-Goes from c m (good k) r =
-    (r .good ≡ true)
-    × (r .count ≡ c + length k)
-    × ((p : ℕ) → marked (r .marks) p ≡ (marked m p || (found (fetch k p) || eqb p (endFrom (from / 8) k))))
+-- What the answer r and the marks m′ say of what is left, judged as q, from byte `from` on, with c instructions counted and the marks m made before it.
+unfoldable pub Goes : ℕ → ℕ → List ℕ → Parsed → Answer → List ℕ → Type 0
+Goes from c m (bad number offset) r m′ = Says (bad number offset) r m′
+Goes from c m (good k) r m′ =
+    (answerIs r ≡ verdict 0 (c + length k))
+    × ((p : ℕ) → marked m′ p ≡ (marked m p || (found (fetch k p) || eqb p (endFrom (from / 8) k))))
 
 -- Nothing counted and nothing marked: what is left is the whole.
-goes-whole : (m : List ℕ) → ((p : ℕ) → marked m p ≡ false) → (q : Parsed) (r : Scan) → Goes 0 0 m q r → Says q r
+goes-whole : (m : List ℕ) → ((p : ℕ) → marked m p ≡ false) → (q : Parsed) (r : Answer) (m′ : List ℕ) → Goes 0 0 m q r m′ → Says q r m′
 unfolding lands Says Goes
-goes-whole m bare (bad number offset) r h = h
-goes-whole m bare (good k) r h = (h .0, omega (arith, h .1), λ p. h .2 p ∙ rw (bare p))
+goes-whole m bare (bad number offset) r m′ h = h
+goes-whole m bare (good k) r m′ h = let z : 0 + length k ≡ length k = omega arith in (h .0 ∙ ap (verdict 0) z, λ p. h .1 p ∙ rw (bare p))
 
 found-more : (t : Bool) (i : Instr) (o : Option Instr) → found (cond t (some i) o) ≡ (t || found o)
 found-more true i o = refl
@@ -39,12 +41,15 @@ regroup false true f e = refl
 regroup false false f e = refl
 
 -- One instruction more is one more counted and one more marked.
-goes-more : (i : Instr) (from c : ℕ) (m : List ℕ) (r : Scan) → i .place ≡ from / 8 → from / 8 < places → length m ≡ places → (q : Parsed)
-    → Goes (from + 8 * i .size) (c + 1) (set m (from / 8) 1) q r → Goes from c m (prepend i q) r
+goes-more : (i : Instr) (from c : ℕ) (m : List ℕ) (r : Answer) (m′ : List ℕ) → i .place ≡ from / 8 → from / 8 < placeCount → length m ≡ placeCount → (q : Parsed)
+    → Goes (from + 8 * i .size) (c + 1) (set m (from / 8) 1) q r m′ → Goes from c m (prepend i q) r m′
 unfolding fetch endFrom Goes
-goes-more i from c m r e l z (bad number offset) h = h
-goes-more i from c m r e l z (good k) h = (h .0, omega (arith, h .1), λ p. h .2 p ∙ marks-more p)
+goes-more i from c m r m′ e l z (bad number offset) h = h
+goes-more i from c m r m′ e l z (good k) h = (h .0 ∙ ap (verdict 0) counted, λ p. h .1 p ∙ marks-more p)
   where
+    counted : c + 1 + length k ≡ c + suc (length k)
+    counted = omega arith
+
     next : (from + 8 * i .size) / 8 ≡ nextOf i
     next = omega arith
 
@@ -65,11 +70,11 @@ eqb-swap a b = go (eqb b a) refl
     go false e = ne-eqb a b (λ h. eqb-false b a e (sym h))
 
 -- At the end only the end itself is marked.
-goes-end : (from c : ℕ) (m : List ℕ) (r : Scan) → from / 8 < places → length m ≡ places → r .good ≡ true → r .count ≡ c → r .marks ≡ set m (from / 8) 1
-    → Goes from c m (good []) r
+goes-end : (from c : ℕ) (m : List ℕ) → from / 8 < placeCount → length m ≡ placeCount → Goes from c m (good []) (Told 0 c) (set m (from / 8) 1)
 unfolding fetch endFrom Goes
-goes-end from c m r l z g n e =
-    (g, omega arith, λ p. ap (λ (x : List ℕ). marked x p) e ∙ mark-more m (from / 8) p l z ∙ ap (λ (x : Bool). marked m p || x) (eqb-swap (from / 8) p))
+goes-end from c m l z =
+    let n : c ≡ c + 0 = omega arith in
+    (ap (verdict 0) n, λ p. mark-more m (from / 8) p l z ∙ ap (λ (x : Bool). marked m p || x) (eqb-swap (from / 8) p))
 
 -- ---- the walk, a turn at a time
 
@@ -95,41 +100,42 @@ module _ (judge : ℕ → Judged) (end from : ℕ) where
 
 -- ---- the loop
 
--- The whole is judged as q if what is left is: any scan that says the rest says q.
+-- The whole is judged as q if what is left is: any answer and marks that say the rest say q.
 abbrev pub Leads : (ℕ → Judged) → ℕ → ℕ → ℕ → List ℕ → Parsed → Type 0
-Leads judge end from c m q = (r : Scan) → Goes from c m (walk judge end (instructionLimit - c) from) r → Says q r
+Leads judge end from c m q = (r : Answer) (m′ : List ℕ) → Goes from c m (walk judge end (instructionLimit - c) from) r m′ → Says q r m′
 
 pub leads-start : (judge : ℕ → Judged) (end : ℕ) (m : List ℕ) → ((p : ℕ) → marked m p ≡ false) → Leads judge end 0 0 m (walk judge end instructionLimit 0)
-leads-start judge end m bare r h = goes-whole m bare (walk judge end instructionLimit 0) r h
+leads-start judge end m bare r m′ h = goes-whole m bare (walk judge end instructionLimit 0) r m′ h
 
 module _ (judge : ℕ → Judged) (end from c : ℕ) (m : List ℕ) (q : Parsed) (leads : Leads judge end from c m q) where
-  pub leads-end : end ≤ from → from / 8 < places → length m ≡ places → (r : Scan) → r .good ≡ true → r .count ≡ c → r .marks ≡ set m (from / 8) 1 → Says q r
-  leads-end h l z r g n e =
-      leads r (subst (λ (x : Parsed). Goes from c m x r) (sym (walk-end judge end from (instructionLimit - c) h)) (goes-end from c m r l z g n e))
+  -- What is left is judged as x.
+  leads-as : (x : Parsed) (r : Answer) (m′ : List ℕ) → walk judge end (instructionLimit - c) from ≡ x → Goes from c m x r m′ → Says q r m′
+  leads-as x r m′ e g = leads r m′ (subst (λ (x : Parsed). Goes from c m x r m′) (sym e) g)
+
+  pub leads-end : end ≤ from → from / 8 < placeCount → length m ≡ placeCount → Says q (Told 0 c) (set m (from / 8) 1)
+  leads-end h l z = leads-as (good []) (Told 0 c) (set m (from / 8) 1) (walk-end judge end from (instructionLimit - c) h) (goes-end from c m l z)
 
   module _ (inside : from < end) where
-    pub leads-full : c ≡ instructionLimit → (r : Scan) → Says (bad 17 from) r → Says q r
+    pub leads-full : c ≡ instructionLimit → Says q (Refused 17 from) m
     unfolding Goes
-    leads-full e r s =
+    leads-full e =
         let n : instructionLimit - c ≡ 0 = omega arith in
-        leads r (subst (λ (x : Parsed). Goes from c m x r) (sym (ap (λ (n : ℕ). walk judge end n from) n ∙ walk-full judge end from inside)) s)
+        leads-as (bad 17 from) (Refused 17 from) m (ap (λ (n : ℕ). walk judge end n from) n ∙ walk-full judge end from inside) (says-bad 17 from m)
 
     module _ (few : c < instructionLimit) where
       left : instructionLimit - c ≡ suc (instructionLimit - (c + 1))
       left = omega arith
 
-      pub leads-refused : (x : ℕ) → judge from ≡ refused x → (r : Scan) → Says (bad x from) r → Says q r
+      pub leads-refused : (x : ℕ) → judge from ≡ refused x → Says q (Refused x from) m
       unfolding Goes
-      leads-refused x j r s =
-          leads r
-          (subst (λ (x : Parsed). Goes from c m x r)
-          (sym (ap (λ (n : ℕ). walk judge end n from) left ∙ walk-refused judge end from inside (instructionLimit - (c + 1)) x j)) s)
+      leads-refused x j =
+          leads-as (bad x from) (Refused x from) m
+          (ap (λ (n : ℕ). walk judge end n from) left ∙ walk-refused judge end from inside (instructionLimit - (c + 1)) x j) (says-bad x from m)
 
-      pub leads-passed : (size w : ℕ) → judge from ≡ passed size w → from / 8 < places → length m ≡ places
+      pub leads-passed : (size w : ℕ) → judge from ≡ passed size w → from / 8 < placeCount → length m ≡ placeCount
           → Leads judge end (from + 8 * size) (c + 1) (set m (from / 8) 1) q
-      leads-passed size w j l z r s =
-          leads r
-          (subst (λ (x : Parsed). Goes from c m x r)
-          (sym (ap (λ (n : ℕ). walk judge end n from) left ∙ walk-passed judge end from inside (instructionLimit - (c + 1)) size w j))
-          (goes-more (record { place = from / 8; size = size; word = w }) from c m r refl l z
-          (walk judge end (instructionLimit - (c + 1)) (from + 8 * size)) s))
+      leads-passed size w j l z r m′ s =
+          let i : Instr = record { place = from / 8; size = size; word = w } in
+          leads-as (prepend i (walk judge end (instructionLimit - (c + 1)) (from + 8 * size))) r m′
+          (ap (λ (n : ℕ). walk judge end n from) left ∙ walk-passed judge end from inside (instructionLimit - (c + 1)) size w j)
+          (goes-more i from c m r m′ refl l z (walk judge end (instructionLimit - (c + 1)) (from + 8 * size)) s)

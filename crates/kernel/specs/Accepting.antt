@@ -1,8 +1,8 @@
 -- An accepted kernel: how the code comes to accept or refuse, and what is then known. Assumes nothing.
-use mathlib.Core.Bool.{Bool, true, false, cond, _&&_, true≢false}
+use mathlib.Core.Bool.{Bool, true, false, cond}
 use mathlib.Core.List.{List}
 use mathlib.Core.Option.{Option, none, some}
-use mathlib.Core.Path.{_≡_, refl, sym, ap, _∙_}
+use mathlib.Core.Path.{_≡_, refl, sym, ap, _∙_, subst}
 use Prim.Native.Nat.{ℕ, _*_, _<_, _≤_}
 use native.Mathlib.Omega.{arith}
 use lib.Dec.{eqb, leb}
@@ -10,17 +10,18 @@ use lib.ListN.{length}
 use borrow.Author.Tests.{eqb-true, leb-true}
 use Rattle.paper.specs.Limits.{instructionLimit, dictionaryBytes, kernelBytes}
 use Rattle.paper.specs.Dictionary.{dictionaryOf, inRange}
-use Rattle.paper.specs.Kernel.{Instr, Forms, passed, judgeAt, Parsed, bad, good, walk, parse}
+use Rattle.paper.specs.Kernel.{Instr, Forms, passed, judgeAt, Parsed, bad, good, parse}
 use Rattle.paper.specs.Jump.{fetch, endOf, lands, astray, withJumps}
 use Rattle.paper.specs.Calls.{sized, judgedKernel, accepted}
 use Rattle.laws.specs.Names.{Sound}
 use Rattle.laws.specs.Walk.{walked}
 use Rattle.laws.specs.Parse.{jumps-good}
-use Rattle.kernel.specs.declared.walk.Scan.{Scan}
+use Rattle.words.specs.declared.answer.Answer.{Answer}
+use Rattle.words.specs.declared.answer.Answer.the-variants.{Told, Refused}
 use Rattle.kernel.specs.declared.jumps.Astray.{Astray}
 use Rattle.kernel.specs.declared.jumps.Astray.the-variants.{Nowhere, Branch}
 use Rattle.kernel.specs.Standing.{Whole, Fetches, Fits, fits, Stands, Standing, walk-stands, stands-fetch}
-use Rattle.kernel.specs.Marks.{marked, Says, says-bad, says-refused, says-accepted}
+use Rattle.kernel.specs.Marks.{marked, Says, says-bad, says-refused, Accepts, says-accepted}
 use Rattle.kernel.specs.Jumps.{instrOf, FirstOut, astrayIs, out-astray}
 use Rattle.laws.specs.Truth.{both-true}
 
@@ -42,64 +43,68 @@ pub parse-stands : (forms : Forms) (dictionary kernel : List ℕ) (k : List Inst
 unfolding parse
 parse-stands forms dictionary kernel k e = walk-stands forms (dictionaryOf dictionary) kernel instructionLimit 0 (omega arith) k e
 
-pub parse-standing : (forms : Forms) (dictionary kernel : List ℕ) (r : Scan) → Says (parse forms (dictionaryOf dictionary) kernel) r → r .good ≡ true
-    → Standing (dictionaryOf dictionary) kernel
-parse-standing forms dictionary kernel r s g =
-    let a = says-accepted (parse forms (dictionaryOf dictionary) kernel) r s g in
+pub parse-standing : (forms : Forms) (dictionary kernel marks : List ℕ) (r : Answer) → Says (parse forms (dictionaryOf dictionary) kernel) r marks
+    → (number count : ℕ) → r ≡ Told number count → Standing (dictionaryOf dictionary) kernel
+parse-standing forms dictionary kernel marks r s number count e =
+    let a = says-accepted (parse forms (dictionaryOf dictionary) kernel) r marks s number count e in
     record { forms = forms; instrs = a .instrs; stands = parse-stands forms dictionary kernel (a .instrs) (a .judged) }
 
 -- ---- the answers, in the code's order
 
-module _ (forms : Forms) (dictionary kernel : List ℕ) where
-  pub accepted-size : sized dictionary kernel ≡ false → accepted forms dictionary kernel ≡ bad 1 0
+module _ (forms : Forms) (dictionary kernel marks : List ℕ) where
+  -- What is said of an equal judgement.
+  says-as : (p : Parsed) (r : Answer) → accepted forms dictionary kernel ≡ p → Says p r marks → Says (accepted forms dictionary kernel) r marks
+  says-as p r e s = rw e s
+
+  pub accept-size : sized dictionary kernel ≡ false → Says (accepted forms dictionary kernel) (Refused 1 0) marks
   unfolding accepted
-  accepted-size h = rw h
+  accept-size h = rw h (says-bad 1 0 marks)
 
   module _ (right : sized dictionary kernel ≡ true) where
-    pub accepted-range : inRange (dictionaryOf dictionary) ≡ false → accepted forms dictionary kernel ≡ bad 2 0
+    pub accept-range : inRange (dictionaryOf dictionary) ≡ false → Says (accepted forms dictionary kernel) (Refused 2 0) marks
     unfolding accepted judgedKernel
-    accepted-range h = rw (right, h)
+    accept-range h = rw (right, h) (says-bad 2 0 marks)
 
     module _ (range : inRange (dictionaryOf dictionary) ≡ true) where
-      pub accepted-parse : accepted forms dictionary kernel ≡ withJumps (parse forms (dictionaryOf dictionary) kernel)
+      accepted-parse : accepted forms dictionary kernel ≡ withJumps (parse forms (dictionaryOf dictionary) kernel)
       unfolding accepted judgedKernel
       accepted-parse = rw (right, range)
 
-      module _ (scan : Scan) (says : Says (parse forms (dictionaryOf dictionary) kernel) scan) where
+      module _ (walked : Answer) (says : Says (parse forms (dictionaryOf dictionary) kernel) walked marks) where
         -- The walk refuses.
-        pub accept-refused : scan .good ≡ false → Says (accepted forms dictionary kernel) scan
+        pub accept-refused : (number offset : ℕ) → walked ≡ Refused number offset → Says (accepted forms dictionary kernel) walked marks
         unfolding withJumps
-        accept-refused g =
-            let e : accepted forms dictionary kernel ≡ bad (scan .number) (scan .offset) =
-            accepted-parse ∙ ap withJumps (says-refused (parse forms (dictionaryOf dictionary) kernel) scan says g) in
-            rw e (says-bad (scan .number) (scan .offset) scan g refl refl)
+        accept-refused number offset e =
+            let q = says-refused (parse forms (dictionaryOf dictionary) kernel) walked marks says number offset e in
+            says-as (bad number offset) walked (accepted-parse ∙ ap withJumps q) (rw q at says)
 
-        module _ (g : scan .good ≡ true) (o : Astray) (out : FirstOut (dictionaryOf dictionary) kernel (marked (scan .marks)) o) where
+        module _ (number count : ℕ) (told : walked ≡ Told number count) (o : Astray) (out : FirstOut (dictionaryOf dictionary) kernel (marked marks) o) where
+          abbrev walks : Accepts (parse forms (dictionaryOf dictionary) kernel) marks
+          walks = says-accepted (parse forms (dictionaryOf dictionary) kernel) walked marks says number count told
+
           -- What rule 12 then says.
-          jumped : (k : List Instr) → parse forms (dictionaryOf dictionary) kernel ≡ good k → ((p : ℕ) → marked (scan .marks) p ≡ lands k p)
-              → accepted forms dictionary kernel ≡ astray k (astrayIs o)
+          jumped : accepted forms dictionary kernel ≡ astray (walks .instrs) (astrayIs o)
           unfolding withJumps
-          jumped k e m =
-              accepted-parse ∙ ap withJumps e
-              ∙ ap (astray k) (sym (out forms k (parse-stands forms dictionary kernel k e) ∙ out-astray (marked (scan .marks)) k m k))
+          jumped =
+              let k = walks .instrs in
+              accepted-parse ∙ ap withJumps (walks .judged)
+              ∙ ap (astray k) (sym (out forms k (parse-stands forms dictionary kernel k (walks .judged)) ∙ out-astray (marked marks) k (walks .land) k))
 
           -- No jump goes astray.
-          pub accept-good : o ≡ Nowhere → Says (accepted forms dictionary kernel) scan
-          unfolding Says
+          pub accept-good : o ≡ Nowhere → Says (accepted forms dictionary kernel) (Told number count) marks
           accept-good e =
-              let a = says-accepted (parse forms (dictionaryOf dictionary) kernel) scan says g in
-              rw (jumped (a .instrs) (a .judged) (a .marks), e) (g, a .count, a .marks)
+              says-as (good (walks .instrs)) (Told number count) (jumped ∙ ap (λ (o : Astray). astray (walks .instrs) (astrayIs o)) e)
+              (subst (λ (r : Answer). Says (good (walks .instrs)) r marks) told (rw (walks .judged) at says))
 
           -- One does.
-          pub accept-astray : (offset : ℕ) (r : Scan) → o ≡ Branch offset → Says (bad 12 offset) r → Says (accepted forms dictionary kernel) r
-          accept-astray offset r e s =
-              let a = says-accepted (parse forms (dictionaryOf dictionary) kernel) scan says g in
-              rw (jumped (a .instrs) (a .judged) (a .marks), e) s
+          pub accept-astray : (offset : ℕ) → o ≡ Branch offset → Says (accepted forms dictionary kernel) (Refused 12 offset) marks
+          accept-astray offset e =
+              says-as (bad 12 offset) (Refused 12 offset) (jumped ∙ ap (λ (o : Astray). astray (walks .instrs) (astrayIs o)) e) (says-bad 12 offset marks)
 
 -- ---- what is known of an accepted kernel
 
 -- Its sizes are right; its instructions stand in its bytes, each of which passes; they stand one after the other from place 0 and fill the bytes;
--- they are at most 1,024; and every jump lands.
+-- they are not too many; and every jump lands.
 pub record AcceptedKernel (forms : Forms) (dictionary kernel : List ℕ) (k : List Instr) : Type 0 where
   pub sizes : RightSizes dictionary kernel
   pub range : inRange (dictionaryOf dictionary) ≡ true

@@ -1,23 +1,25 @@
 -- What the code's answers are in the paper's terms. Assumes nothing.
 use mathlib.Core.Bool.{Bool, true, false, not, cond}
 use mathlib.Core.List.{List, []}
-use mathlib.Core.Path.{_≡_, refl, sym, ap, _∙_}
+use mathlib.Core.Path.{_≡_, refl, sym, ap}
 use Prim.Native.Nat.{ℕ, _+_, _-_, _*_, _<_, _≤_}
 use native.Mathlib.Nat.{add-sub-cancel-left}
 use native.Mathlib.Omega.{arith}
 use lib.Dec.{leb, ltb}
 use lib.ListN.{length, take, drop}
 use borrow.Author.Tests.{le-leb, lt-leb, leb-false, ltb-true, ltb-false}
+use Rattle.paper.specs.Limits.{kernelBytes}
 use Rattle.paper.specs.Dictionary.{dictionaryOf, inRange}
-use Rattle.paper.specs.Kernel.{longAndShort, Judged, refused, passed, judgeAt, good}
-use Rattle.paper.specs.Calls.{verdict, refusal, sized, accepted, checkedAs, checkCall, undecoded, decoded, judgedAs, decodeAt, decodedAs, decodeCall, decodePart}
+use Rattle.paper.specs.Kernel.{longAndShort, Judged, refused, passed, judgeAt}
+use Rattle.paper.specs.Calls.{sized, accepted, checkCall, undecoded, decoded, judgedAs, decodeAt, decodedAs, decodeCall, decodePart}
 use Rattle.paper.specs.Calls as paper
 use Rattle.words.specs.Words.{toWord}
-use Rattle.kernel.specs.declared.walk.Scan.{Scan}
+use Rattle.words.specs.Answer.{answerIs}
+use Rattle.words.specs.declared.answer.Answer.{Answer}
 use Rattle.kernel.specs.declared.decode.Decoded.{Decoded}
 use Rattle.kernel.specs.declared.decode.Decoded.the-variants.{Refused, Passed}
 use Rattle.kernel.specs.Standing.{fits}
-use Rattle.kernel.specs.Marks.{Says, says-refused, says-accepted}
+use Rattle.kernel.specs.Marks.{Says, says-answer}
 use Rattle.kernel.specs.Accepting.{right-sizes}
 
 abbrev pub decodedIs : Decoded → paper.Decoded
@@ -26,16 +28,9 @@ decodedIs (Passed size w) = decoded size (toWord w)
 
 -- ---- the check
 
-module _ (dictionary kernel : List ℕ) (scan : Scan) (says : Says (accepted longAndShort dictionary kernel) scan) where
-  pub check-good : scan .good ≡ true → checkCall dictionary kernel ≡ verdict 0 (scan .count)
-  unfolding checkCall
-  check-good g =
-      let a = says-accepted (accepted longAndShort dictionary kernel) scan says g in
-      ap checkedAs (a .judged) ∙ ap (verdict 0) (sym (a .count))
-
-  pub check-bad : scan .good ≡ false → checkCall dictionary kernel ≡ refusal (scan .number) (scan .offset)
-  unfolding checkCall
-  check-bad g = ap checkedAs (says-refused (accepted longAndShort dictionary kernel) scan says g)
+pub check-says : (dictionary kernel marks : List ℕ) (r : Answer) → Says (accepted longAndShort dictionary kernel) r marks → answerIs r ≡ checkCall dictionary kernel
+unfolding checkCall
+check-says dictionary kernel marks r s = says-answer (accepted longAndShort dictionary kernel) r marks s
 
 -- ---- decoding, in the code's order
 
@@ -78,7 +73,7 @@ module _ (dictionary kernel : List ℕ) (place : ℕ) where
 
   -- The part lies in the kernel.
   pub part-fits : (size w : ℕ) → decodeAt dictionary kernel place ≡ decoded size w
-      → (8 * place + 8 * size ≤ length kernel) × (0 < size) × (length kernel ≤ 16384)
+      → (8 * place + 8 * size ≤ length kernel) × (0 < size) × (length kernel ≤ kernelBytes)
   unfolding decodeAt
   part-fits size w e =
       go (sized dictionary kernel) refl (inRange (dictionaryOf dictionary)) refl (leb (length kernel) (8 * place)) refl
@@ -87,7 +82,7 @@ module _ (dictionary kernel : List ℕ) (place : ℕ) where
       go : (a : Bool) → sized dictionary kernel ≡ a → (b : Bool) → inRange (dictionaryOf dictionary) ≡ b
           → (t : Bool) → leb (length kernel) (8 * place) ≡ t → (v : Judged) → judgeAt longAndShort (dictionaryOf dictionary) kernel (8 * place) ≡ v
           → cond (not a) (undecoded 1 0) (cond (not b) (undecoded 2 0) (cond t (undecoded 3 0) (judgedAs (8 * place) v))) ≡ decoded size w
-          → (8 * place + 8 * size ≤ length kernel) × (0 < size) × (length kernel ≤ 16384)
+          → (8 * place + 8 * size ≤ length kernel) × (0 < size) × (length kernel ≤ kernelBytes)
       go false p b q t r v j e = let z : _≡_ {A = ℕ} 0 1 = cc in absurd (omega arith)
       go true p false q t r v j e = let z : _≡_ {A = ℕ} 0 1 = cc in absurd (omega arith)
       go true p true q true r v j e = let z : _≡_ {A = ℕ} 0 1 = cc in absurd (omega arith)

@@ -1,65 +1,84 @@
 -- The marks that a walk leaves: one for each place at which an instruction starts, and one for the end. Assumes nothing.
-use mathlib.Core.Bool.{Bool, true, false, cond, _||_, or-true, or-false, true≢false}
+use mathlib.Core.Bool.{Bool, true, false, cond, _||_, or-true, or-false}
 use mathlib.Core.List.{List, []}
-use mathlib.Core.Path.{_≡_, refl, sym, ap, ap₂, _∙_}
-use Prim.Native.Nat.{ℕ, zero, suc, _<_, _≤_}
+use mathlib.Core.Path.{_≡_, refl, sym, ap, _∙_}
+use Prim.Native.Nat.{ℕ, zero, suc, _+_, _/_, _<_, _≤_}
 use native.Mathlib.Omega.{arith}
 use lib.Dec.{eqb, ltb}
-use lib.ListN.{length, getD, set, replicate}
+use lib.ListN.{length, getD, set, replicate, length-replicate}
 use lib.Seq.{getD-set-same, getD-set-other}
 use borrow.Author.Tests.{lt-ltb, le-ltb, eqb-true, eqb-false}
+use Rattle.paper.specs.Limits.{kernelBytes}
 use Rattle.paper.specs.Kernel.{Instr, Parsed, bad, good}
 use Rattle.paper.specs.Jump.{lands}
-use Rattle.kernel.specs.declared.walk.Scan.{Scan}
+use Rattle.paper.specs.Calls.{checkedAs}
+use Rattle.words.specs.Answer.{answerIs}
+use Rattle.words.specs.declared.answer.Answer.{Answer}
+use Rattle.words.specs.declared.answer.Answer.the-variants.{Told, Refused}
 
--- How many places there are to mark: those of the longest kernel, and its end.
-abbrev pub places : ℕ
-places = 2049
+-- How many places there are: those of the longest kernel, eight bytes each, and its end.
+abbrev pub placeCount : ℕ
+placeCount = kernelBytes / 8 + 1
 
 -- Place p is marked. No place past the marks is.
 unfoldable pub marked : List ℕ → ℕ → Bool
-marked marks p = cond (ltb p places) (eqb (getD marks p 0) 1) false
+marked marks p = cond (ltb p placeCount) (eqb (getD marks p 0) 1) false
 
--- What a scan says of a kernel that is judged so: the refusal and its offset; or how many instructions there are, and by its marks at which
--- places one starts or the kernel ends.
-unfoldable pub Says : Parsed → Scan → Type 0
-Says (bad number offset) r = (r .good ≡ false) × (r .number ≡ number) × (r .offset ≡ offset)
-Says (good k) r = (r .good ≡ true) × (r .count ≡ length k) × ((p : ℕ) → marked (r .marks) p ≡ lands k p)
+-- There is a mark for each place, and none is set.
+unfoldable pub Blank : List ℕ → Type 0
+Blank marks = (length marks ≡ placeCount) × ((p : ℕ) → marked marks p ≡ false)
 
--- A refusal is said so.
-pub says-bad : (number offset : ℕ) (r : Scan) → r .good ≡ false → r .number ≡ number → r .offset ≡ offset → Says (bad number offset) r
+-- The marks of a kernel that is judged so: where it is accepted, the places at which an instruction starts or the kernel ends.
+abbrev pub MarksOf : Parsed → List ℕ → Type 0
+MarksOf (bad number offset) marks = Unit {0}
+MarksOf (good k) marks = (p : ℕ) → marked marks p ≡ lands k p
+
+-- What is said of a kernel that is judged so: the check's answer, and the marks.
+unfoldable pub Says : Parsed → Answer → List ℕ → Type 0
+Says q r marks = (answerIs r ≡ checkedAs q) × MarksOf q marks
+
+-- The answer that is said is the check's.
+pub says-answer : (q : Parsed) (r : Answer) (marks : List ℕ) → Says q r marks → answerIs r ≡ checkedAs q
 unfolding Says
-says-bad number offset r g n o = (g, n, o)
+says-answer q r marks s = s .0
 
--- What is said of an equal judgement.
-pub says-as : (q p : Parsed) (r : Scan) → q ≡ p → Says p r → Says q r
-says-as q p r e s = rw e s
-
--- What a scan that refuses says.
-pub says-refused : (q : Parsed) (r : Scan) → Says q r → r .good ≡ false → q ≡ bad (r .number) (r .offset)
+-- A refusal is said so, whatever the marks.
+pub says-bad : (number offset : ℕ) (marks : List ℕ) → Says (bad number offset) (Refused number offset) marks
 unfolding Says
-says-refused (bad number offset) r s g = ap₂ bad (sym (s .1)) (sym (s .2))
-says-refused (good k) r s g = absurd (true≢false (sym (s .0) ∙ g))
+says-bad number offset marks = (refl, tt)
 
--- What one that accepts says: there are these instructions, so many, and they start where its marks are.
-pub record Accepts (q : Parsed) (r : Scan) : Type 0 where
+-- What an answer that refuses says.
+pub says-refused : (q : Parsed) (r : Answer) (marks : List ℕ) → Says q r marks → (number offset : ℕ) → r ≡ Refused number offset → q ≡ bad number offset
+unfolding Says
+says-refused (bad n o) r marks s number offset e = let same = ap answerIs (sym e) ∙ s .0 in cc
+says-refused (good k) r marks s number offset e = let same = ap answerIs (sym e) ∙ s .0 in cc
+
+-- What one that accepts says: there are these instructions, and they start where the marks are.
+pub record Accepts (q : Parsed) (marks : List ℕ) : Type 0 where
   pub instrs : List Instr
   pub judged : q ≡ good instrs
-  pub count : r .count ≡ length instrs
-  pub marks : (p : ℕ) → marked (r .marks) p ≡ lands instrs p
+  pub land : (p : ℕ) → marked marks p ≡ lands instrs p
 
-pub says-accepted : (q : Parsed) (r : Scan) → Says q r → r .good ≡ true → Accepts q r
+pub says-accepted : (q : Parsed) (r : Answer) (marks : List ℕ) → Says q r marks → (number count : ℕ) → r ≡ Told number count → Accepts q marks
 unfolding Says
-says-accepted (bad number offset) r s g = absurd (true≢false (sym g ∙ s .0))
-says-accepted (good k) r s g = record { instrs = k; judged = refl; count = s .1; marks = s .2 }
+says-accepted (bad n o) r marks s number count e =
+    let same = ap answerIs (sym e) ∙ s .0 in
+    let z : _≡_ {A = ℕ} 0 1 = cc in
+    absurd (omega arith)
+says-accepted (good k) r marks s number count e = record { instrs = k; judged = refl; land = s .1 }
 
 -- The instructions of a kernel that is judged so; none of one that is refused.
 abbrev pub instrsOf : Parsed → List Instr
 instrsOf (bad number offset) = []
 instrsOf (good k) = k
 
-pub says-instrs : (q : Parsed) (r : Scan) → Says q r → r .good ≡ true → q ≡ good (instrsOf q)
-says-instrs q r s g = let a = says-accepted q r s g in a .judged ∙ ap (λ (x : Parsed). good (instrsOf x)) (sym (a .judged))
+-- The same of those instructions.
+pub says-instrs : (q : Parsed) (r : Answer) (marks : List ℕ) → Says q r marks → (number count : ℕ) → r ≡ Told number count
+    → (q ≡ good (instrsOf q)) × ((p : ℕ) → marked marks p ≡ lands (instrsOf q) p)
+says-instrs q r marks s number count e =
+    let a = says-accepted q r marks s number count e in
+    let same : q ≡ good (instrsOf q) = a .judged ∙ ap (λ (x : Parsed). good (instrsOf x)) (sym (a .judged)) in
+    (same, λ p. a .land p ∙ ap (λ (x : Parsed). lands (instrsOf x) p) (sym (a .judged)))
 
 -- ---- laws of marks
 
@@ -68,33 +87,45 @@ blank-zero zero p = refl
 blank-zero (suc n) zero = refl
 blank-zero (suc n) (suc p) = blank-zero n p
 
--- Before the first is marked, none is.
-pub blank-unmarked : (n p : ℕ) → marked (replicate n 0) p ≡ false
+none-unmarked : (n p : ℕ) → marked (replicate n 0) p ≡ false
 unfolding marked
-blank-unmarked n p = rw (blank-zero n p) (either (ltb p places))
+none-unmarked n p = rw (blank-zero n p) (either (ltb p placeCount))
   where
     either : (t : Bool) → cond t false false ≡ false
     either true = refl
     either false = refl
 
+-- Fresh marks, all 0, are blank.
+pub fresh : Blank (replicate placeCount 0)
+unfolding Blank
+fresh = (length-replicate {A = ℕ} placeCount 0, none-unmarked placeCount)
+
+pub blank-length : (marks : List ℕ) → Blank marks → length marks ≡ placeCount
+unfolding Blank
+blank-length marks b = b .0
+
+pub blank-unmarked : (marks : List ℕ) → Blank marks → (p : ℕ) → marked marks p ≡ false
+unfolding Blank
+blank-unmarked marks b = b .1
+
 -- One mark more.
-pub mark-more : (m : List ℕ) (q p : ℕ) → q < places → length m ≡ places → marked (set m q 1) p ≡ (marked m p || eqb q p)
+pub mark-more : (m : List ℕ) (q p : ℕ) → q < placeCount → length m ≡ placeCount → marked (set m q 1) p ≡ (marked m p || eqb q p)
 unfolding marked
 mark-more m q p h l = go (eqb q p) refl
   where
     go : (t : Bool) → eqb q p ≡ t → marked (set m q 1) p ≡ (marked m p || t)
     go true e =
         let same : q ≡ p = eqb-true q p e in
-        let lt : p < places = omega arith in
+        let lt : p < placeCount = omega arith in
         let one : getD (set m q 1) p 0 ≡ 1 = ap (λ (x : ℕ). getD (set m q 1) x 0) (sym same) ∙ getD-set-same m q 1 0 (omega arith) in
         rw (lt-ltb _ _ lt, one) (sym (or-true (eqb (getD m p 0) 1)))
     go false e = rw (getD-set-other m q p 1 0 (λ x. eqb-false q p e (sym x))) (sym (or-false (marked m p)))
 
 -- The code's two tests.
-pub marked-inside : (m : List ℕ) (p : ℕ) → p < places → marked m p ≡ eqb (getD m p 0) 1
+pub marked-inside : (m : List ℕ) (p : ℕ) → p < placeCount → marked m p ≡ eqb (getD m p 0) 1
 unfolding marked
 marked-inside m p h = rw (lt-ltb _ _ h)
 
-pub marked-past : (m : List ℕ) (p : ℕ) → places ≤ p → marked m p ≡ false
+pub marked-past : (m : List ℕ) (p : ℕ) → placeCount ≤ p → marked m p ≡ false
 unfolding marked
 marked-past m p h = rw (le-ltb _ _ h)

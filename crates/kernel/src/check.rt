@@ -1,6 +1,7 @@
 // The check: is a kernel accepted, and how many instructions has it.
 use crate::accept::accept;
 use words::answer::Answer;
+use words::limits::PLACES;
 ghost use mathlib.Core.Path.{_≡_};
 ghost use Rattle.paper.specs.Calls.{checkCall};
 ghost use Rattle.words.specs.Answer.{answerIs};
@@ -9,9 +10,6 @@ ghost use Rattle.words.specs.Answer.{answerIs};
 pub fn check(dictionary: &[u8], kernel: &[u8]) -> Answer
     ensures { λ r. ⌜ answerIs r ≡ checkCall (now (dictionary .entry)) (now (kernel .entry)) ⌝ }
 {
-    let scan = accept(false, dictionary, kernel);
-    if scan.good {
-        return Answer::Told(0, scan.count);
-    }
-    Answer::Refused(scan.number, scan.offset)
+    let mut marks = [0u8; PLACES];
+    accept(false, dictionary, kernel, &mut marks)
 }

@@ -5,10 +5,12 @@ use crate::instruction::judge_at;
 use short::dictionary::in_range;
 use words::answer::Answer;
 use words::bytes::Word;
+use words::limits::PLACES;
 ghost use mathlib.Core.Path.{_≡_};
 ghost use Prim.Native.Nat.{_*_, _≤_};
 ghost use lib.Dec.{ltb};
 ghost use lib.ListN.{length};
+ghost use Rattle.paper.specs.Limits.{kernelBytes};
 ghost use Rattle.paper.specs.Calls.{decodeAt, decodeCall, decodePart};
 ghost use Rattle.words.specs.Answer.{answerIs};
 ghost use Rattle.kernel.specs.Answers.{decodedIs};
@@ -19,12 +21,12 @@ pub enum Decoded {
     Passed(u8, Word),
 }
 
-// The place lies before the kernel's end. No kernel reaches place 2,048, so that the offset is only reckoned where it is small.
+// The place lies before the kernel's end. No kernel has PLACES places, so that the offset is only reckoned where it is small.
 fn lies_inside(kernel: &[u8], place: u64) -> bool
-    requires { ⌜ length (now kernel) ≤ 16384 ⌝ }
+    requires { ⌜ length (now kernel) ≤ kernelBytes ⌝ }
     ensures { λ r. ⌜ r ≡ ltb (8 * place) (length (now (kernel .entry))) ⌝ }
 {
-    if 2048 <= place {
+    if PLACES as u64 <= place {
         return false;
     }
     8 * (place as usize) < kernel.len()

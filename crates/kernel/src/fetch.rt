@@ -6,6 +6,7 @@ use words::bytes::read16;
 use words::fields::is_short;
 ghost use mathlib.Core.Path.{_≡_};
 ghost use lib.ListN.{length};
+ghost use Rattle.paper.specs.Limits.{dictionaryBytes};
 ghost use Rattle.paper.specs.Dictionary.{dictionaryOf};
 ghost use Rattle.words.specs.Words.{toWord};
 ghost use Rattle.kernel.specs.Standing.{Whole, Fetches};
@@ -18,7 +19,7 @@ pub struct Fetched {
 
 // The instruction that starts at byte `from`, expanded if it is short.
 pub fn word_at(dictionary: &[u8], kernel: &[u8], from: usize) -> Fetched
-    requires { ⌜ (length (now dictionary) ≡ 512) × Whole (now kernel) from ⌝ }
+    requires { ⌜ (length (now dictionary) ≡ dictionaryBytes) × Whole (now kernel) from ⌝ }
     ensures { λ r. ⌜ Fetches (dictionaryOf (now (dictionary .entry))) (now (kernel .entry)) from (r .size) (toWord (r .word)) ⌝ }
 {
     let s = read8(kernel, from);

@@ -13,6 +13,7 @@ use words::operation::is_listed;
 ghost use mathlib.Core.Path.{_≡_};
 ghost use Prim.Native.Nat.{_≤_};
 ghost use lib.ListN.{length};
+ghost use Rattle.paper.specs.Limits.{dictionaryBytes};
 ghost use Rattle.paper.specs.Dictionary.{dictionaryOf};
 ghost use Rattle.paper.specs.Kernel.{judgeWord, judgeShort, judgeLong, judgeAt};
 ghost use Rattle.words.specs.Words.{toWord};
@@ -39,7 +40,7 @@ fn judge_word(size: u8, w: Word) -> Judged
 
 // 4, 5, then 6 to 11, of a short word.
 fn judge_short(long: bool, dictionary: &[u8], s: u64) -> Judged
-    requires { ⌜ length (now dictionary) ≡ 512 ⌝ }
+    requires { ⌜ length (now dictionary) ≡ dictionaryBytes ⌝ }
     ensures { λ r. ⌜ judgedIs r ≡ judgeShort (formsIs long) (dictionaryOf (now (dictionary .entry))) s ⌝ }
 {
     if !is_listed(operation_in(s)) {
@@ -67,7 +68,7 @@ fn judge_long(w: Word) -> Judged
 
 // 3 to 11 of the instruction that starts at byte `from`.
 pub fn judge_at(long: bool, dictionary: &[u8], kernel: &[u8], from: usize) -> Judged
-    requires { ⌜ (length (now dictionary) ≡ 512) × (from ≤ length (now kernel)) ⌝ }
+    requires { ⌜ (length (now dictionary) ≡ dictionaryBytes) × (from ≤ length (now kernel)) ⌝ }
     ensures { λ r. ⌜ judgedIs r ≡ judgeAt (formsIs long) (dictionaryOf (now (dictionary .entry))) (now (kernel .entry)) from ⌝ }
 {
     let left = kernel.len() - from;

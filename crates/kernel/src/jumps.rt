@@ -5,13 +5,15 @@ use distances::branch::distances_in;
 use distances::distance::Target;
 use distances::distance::reach;
 use words::bytes::Word;
+use words::limits::PLACES;
 ghost use mathlib.Core.Path.{_≡_};
 ghost use Prim.Native.Nat.{_≤_, _<_};
 ghost use lib.ListN.{length};
+ghost use Rattle.paper.specs.Limits.{dictionaryBytes, kernelBytes};
 ghost use Rattle.paper.specs.Dictionary.{dictionaryOf};
 ghost use Rattle.paper.specs.Jump.{targetsOf};
 ghost use Rattle.words.specs.Words.{toWord};
-ghost use Rattle.kernel.specs.Marks.{marked};
+ghost use Rattle.kernel.specs.Marks.{placeCount, marked};
 ghost use Rattle.kernel.specs.Standing.{Standing};
 ghost use Rattle.kernel.specs.Jumps.{landsIn, landBy, instrOf, FirstOut};
 
@@ -22,10 +24,10 @@ pub enum Astray {
 }
 
 // The place is marked. No place past the marks is.
-pub fn is_marked(marks: &[u8; 2049], place: u64) -> bool
+pub fn is_marked(marks: &[u8; PLACES], place: u64) -> bool
     ensures { λ r. ⌜ r ≡ marked (now (marks .entry)) place ⌝ }
 {
-    if 2049 <= place {
+    if PLACES as u64 <= place {
         return false;
     }
     let i = place as usize;
@@ -33,7 +35,7 @@ pub fn is_marked(marks: &[u8; 2049], place: u64) -> bool
 }
 
 // The target is marked. What lies below place 0 is not.
-fn target_lands(marks: &[u8; 2049], t: Target) -> bool
+fn target_lands(marks: &[u8; PLACES], t: Target) -> bool
     ensures { λ r. ⌜ r ≡ landsIn (marked (now (marks .entry))) t ⌝ }
 {
     match t {
@@ -43,8 +45,8 @@ fn target_lands(marks: &[u8; 2049], t: Target) -> bool
 }
 
 // Each distance in word w, an instruction of `size` places from place `here` on, leads to a mark.
-pub fn jump_lands(marks: &[u8; 2049], w: Word, here: u64, size: u64) -> bool
-    requires { ⌜ (here < 65536) × (size < 65536) ⌝ }
+pub fn jump_lands(marks: &[u8; PLACES], w: Word, here: u64, size: u64) -> bool
+    requires { ⌜ (here < placeCount) × (size ≤ 2) ⌝ }
     ensures { λ r. ⌜ r ≡ landBy (marked (now (marks .entry))) (targetsOf (instrOf here size (toWord w))) ⌝ }
 {
     let held = distances_in(w);
@@ -55,8 +57,8 @@ pub fn jump_lands(marks: &[u8; 2049], w: Word, here: u64, size: u64) -> bool
 }
 
 // The first branch, in kernel order, with a distance that leads to no mark.
-pub fn first_astray(dictionary: &[u8], kernel: &[u8], marks: &[u8; 2049]) -> Astray
-    requires { ⌜ (length (now dictionary) ≡ 512) × (length (now kernel) ≤ 16384) × Standing (dictionaryOf (now dictionary)) (now kernel) ⌝ }
+pub fn first_astray(dictionary: &[u8], kernel: &[u8], marks: &[u8; PLACES]) -> Astray
+    requires { ⌜ (length (now dictionary) ≡ dictionaryBytes) × (length (now kernel) ≤ kernelBytes) × Standing (dictionaryOf (now dictionary)) (now kernel) ⌝ }
     ensures { λ r. ⌜ FirstOut (dictionaryOf (now (dictionary .entry))) (now (kernel .entry)) (marked (now (marks .entry))) r ⌝ }
 {
     let mut from: usize = 0;

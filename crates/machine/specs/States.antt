@@ -8,6 +8,7 @@ use lib.Dec.{eqb, lit≤}
 use lib.ListN.{length, getD, take, drop, length-map, length-take, length-append, length-drop, List·getD-map, drop-of-length-le}
 use lib.Seq.{take-all, take-suc, drop-drop, ext-getD}
 use borrow.Author.Tests.{eqb-true}
+use Rattle.paper.specs.Limits.{stateLength}
 use Rattle.paper.specs.Bits.{bytesOf, putAt}
 use Rattle.paper.specs.Machine as paper
 use Rattle.paper.specs.Machine.{off, isAwake}
@@ -99,7 +100,7 @@ unfoldable pub placesPut : List ℕ → List ℕ → ℕ → List ℕ
 placesPut bytes places zero = bytes
 placesPut bytes places (suc n) = putAt (placesPut bytes places n) (10 + 2 * n) 2 (getD places n 0)
 
-module _ (bytes : List ℕ) (long : length bytes ≡ 42) where
+module _ (bytes : List ℕ) (long : length bytes ≡ stateLength) where
   first-half : (v : ℕ) → putAt bytes 0 2 v ≡ halves (v ∷ []) ++ drop 2 bytes
   unfolding halves
   first-half v = put-half [] bytes 0 v refl (omega arith)
@@ -128,11 +129,11 @@ module _ (bytes : List ℕ) (long : length bytes ≡ 42) where
         append-assoc vs (take n places) (getD places n 0 ∷ []) ∙ ap (λ (x : List ℕ). vs ++ x) (sym (take-suc places n 0 (omega arith))) in
         rw (places-halves n (omega arith), more, ← one) (put-half (vs ++ take n places) bytes (10 + 2 * n) (getD places n 0) at (omega arith))
 
-    -- All 42 bytes are written.
+    -- All the bytes are written.
     pub all-halves : placesPut l places 16 ≡ halves (vs ++ places)
     all-halves =
         places-halves 16 (lit≤ tt)
-        ∙ rw (take-all 16 places (omega arith), drop-of-length-le bytes {i = 42} (omega arith), append-nil (halves (vs ++ places)))
+        ∙ rw (take-all 16 places (omega arith), drop-of-length-le bytes {i = stateLength} (omega arith), append-nil (halves (vs ++ places)))
 
 -- ---- the numbers of a state
 
@@ -170,7 +171,7 @@ state-numbers registers s h =
     ∙ rw (awake-mask (s .channels) h, waiting-mask (s .channels) h, channel-places (s .channels) h)
 
 -- So stored, one number after the other, they are the state's bytes.
-pub state-written : (registers : List ℕ) (s : State) → Sane (s .channels) → (bytes : List ℕ) → length bytes ≡ 42
+pub state-written : (registers : List ℕ) (s : State) → Sane (s .channels) → (bytes : List ℕ) → length bytes ≡ stateLength
     → placesPut (putAt (putAt (putAt (putAt (putAt bytes 0 2 (s .flags .flag0)) 2 2 (s .flags .flag1)) 4 2 (s .place)) 6 2 (s .channels .awake)) 8 2 (s .channels .waiting))
     (s .channels .places) 16
     ≡ stateBytes (stateIs registers s)

@@ -4,6 +4,7 @@ use crate::state::State;
 use crate::state::write_state;
 use lanes::flags::Flags;
 use words::answer::Answer;
+use words::limits::STATE_LENGTH;
 ghost use mathlib.Core.Path.{_≡_};
 ghost use mathlib.Core.List.{List};
 ghost use Prim.Native.Nat.{ℕ};
@@ -32,11 +33,11 @@ pub fn started(mask: u16, flag0: u16, flag1: u16) -> State
     }
 }
 
-// Writes the state at a start to bytes that are lent for it. 1 where they are not 42; they then stay as they are.
+// Writes the state at a start to bytes that are lent for it. 1 where they are not as many as a state has; they then stay as they are.
 pub fn start(mask: u16, flag0: u16, flag1: u16, bytes: &mut [u8]) -> Answer
     ensures { λ r. ⌜ Wrote (startCall mask flag0 flag1 (now (bytes .entry))) r (now (bytes .exit)) ⌝ }
 {
-    if bytes.len() != 42 {
+    if bytes.len() != STATE_LENGTH {
         return Answer::Refused(1, 0);
     }
     write_state(bytes, started(mask, flag0, flag1));

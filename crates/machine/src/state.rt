@@ -1,4 +1,4 @@
-// The state between two steps, and the 42 bytes in which it is lent.
+// The state between two steps, and the bytes in which it is lent.
 use crate::channels::Channels;
 use lanes::flags::Flags;
 use lanes::mask::bit;

@@ -1,16 +1,16 @@
 -- What rewriting a word comes to, by the distances that it holds. Assumes nothing.
 use mathlib.Core.List.{List, [], _∷_}
-use mathlib.Core.Path.{_≡_, refl, sym, ap, _∙_, subst}
-use Prim.Native.Nat.{ℕ, _+_, _<_, _≤_}
+use mathlib.Core.Path.{_≡_, sym, ap, _∙_, subst}
+use Prim.Native.Nat.{ℕ, _+_, _<_}
 use lib.ListN.{getD}
 use Rattle.paper.specs.Operation.{operation}
-use Rattle.paper.specs.Kernel.{Instr}
 use Rattle.paper.specs.Jump.{Distance, distances, reach, reached, placeOf}
 use Rattle.paper.specs.Packing.{aimed}
 use Rattle.laws.specs.Rename.{AtPlaces}
 use Rattle.laws.specs.Moved.{aim}
 use Rattle.distances.specs.Distances.{told, placeIn, place-told}
 use Rattle.distances.specs.declared.distance.Target.{Target}
+use Rattle.kernel.specs.Marks.{placeCount}
 use Rattle.kernel.specs.Jumps.{instrOf}
 use Rattle.packer.specs.Stages.{newPlaces, Reaches}
 use mathlib.Core.List.{map}
@@ -31,9 +31,9 @@ module _ (news : List ℕ) (w here size to next : ℕ) where
     old-is = ap placeIn leads ∙ place-told (reach f w here (here + size))
 
     -- Its new place is there.
-    pub one-reaches : Reaches news (instrOf here size w) → (placeIn t < 2049) × (getD news (placeIn t) 0 ≤ 4096)
+    pub one-reaches : Reaches news (instrOf here size w) → (placeIn t < placeCount) × (getD news (placeIn t) 0 < placeCount)
     one-reaches r =
-        let s = subst (λ (fs : List Distance). AtPlaces (λ p. (p < 2049) × (getD news p 0 ≤ 4096)) (map placeOf (reached fs (instrOf here size w)))) one r in
+        let s = subst (λ (fs : List Distance). AtPlaces (λ p. (p < placeCount) × (getD news p 0 < placeCount)) (map placeOf (reached fs (instrOf here size w)))) one r in
         rw old-is (s .0)
 
     -- The word is aimed at it.

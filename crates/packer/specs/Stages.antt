@@ -23,6 +23,7 @@ use Rattle.laws.specs.Rename.{AtPlaces}
 use Rattle.laws.specs.Truth.{both-true}
 use Rattle.laws.specs.Relay.{newEnd-near}
 use Rattle.kernel.specs.Standing.{Whole, Fetches}
+use Rattle.kernel.specs.Marks.{placeCount}
 use Rattle.kernel.specs.Jumps.{instrOf}
 use Rattle.kernel.specs.Accepting.{AcceptedKernel, accepted-fetch, lands-fetch, fetch-whole, fetch-is}
 use Rattle.packer.specs.Pieces.{start-next}
@@ -41,7 +42,7 @@ newPlaces news i = map (λ z. getD news (placeOf z) 0) (targetsOf i)
 
 -- They are there.
 abbrev pub Reaches : List ℕ → Instr → Type 0
-Reaches news i = AtPlaces (λ p. (p < 2049) × (getD news p 0 ≤ 4096)) (map placeOf (targetsOf i))
+Reaches news i = AtPlaces (λ p. (p < placeCount) × (getD news p 0 < placeCount)) (map placeOf (targetsOf i))
 
 -- A pass stands at byte `from`, where an instruction starts or the kernel ends, and that comes to stand at place `to`.
 pub record Stage (form : Form) (k : List Instr) (from to : ℕ) : Type 0 where
@@ -80,12 +81,12 @@ module _ (forms : Forms) (dictionary kernel : List ℕ) (k : List Instr) (h : Ac
           rw n (eq-eqb (nextOf i) (endOf k) (places.found 0 k p i (h .sound .laid) e .last (none-length k (nextOf i) n)))
       go (some j) n = rw n
 
-  -- No new place lies past the new end, which is at most 2,048.
+  -- No new place lies past the new end, which is a place too.
   pub start-few : (j : ℕ) → startOf 0 (piecesOf form k) j ≤ newEnd form k
   start-few j = start-high 0 (piecesOf form k) j
 
-  pub end-few : newEnd form k ≤ 2048
-  end-few = newEnd-near form k (h .few)
+  pub end-few : newEnd form k < placeCount
+  end-few = omega (arith, newEnd-near form k (h .few))
 
   -- ---- where jumps that land come to lead, by the stored places
 
@@ -97,7 +98,7 @@ module _ (forms : Forms) (dictionary kernel : List ℕ) (k : List Instr) (h : Ac
         let t = both-true (jumpLands k z) (targetsLand k zs) e in
         ap₂ {C = List ℕ} (λ x y. x ∷ y) (placed (placeOf z) (place-lands k z (t .0))) (all-placed zs (t .1))
 
-    all-reach : (zs : List ℤ) → targetsLand k zs ≡ true → AtPlaces (λ p. (p < 2049) × (getD news p 0 ≤ 4096)) (map placeOf zs)
+    all-reach : (zs : List ℤ) → targetsLand k zs ≡ true → AtPlaces (λ p. (p < placeCount) × (getD news p 0 < placeCount)) (map placeOf zs)
     all-reach [] e = tt
     all-reach (z ∷ zs) e =
         let t = both-true (jumpLands k z) (targetsLand k zs) e in
@@ -127,7 +128,7 @@ module _ (forms : Forms) (dictionary kernel : List ℕ) (k : List Instr) (h : Ac
     pub stage-room : to ≤ newEnd form k
     stage-room = omega (arith, s .to-is, start-few (index k (from / 8)))
 
-    pub stage-few : to ≤ 2048
+    pub stage-few : to < placeCount
     stage-few = omega (arith, stage-room, end-few)
 
     -- At the end of the bytes it stands at the kernel's end.
@@ -199,7 +200,7 @@ module _ (forms : Forms) (dictionary kernel : List ℕ) (k : List Instr) (h : Ac
   pub placed-start : (news : List ℕ) → PlacedTo form k news 0
   placed-start news p e l = absurd (omega (arith, start-zero 0 k (h .sound .laid)))
 
-  module _ (from to : ℕ) (s : Stage form k from to) (news : List ℕ) (long : length news ≡ 2049) (placed : PlacedTo form k news (from / 8)) where
+  module _ (from to : ℕ) (s : Stage form k from to) (news : List ℕ) (long : length news ≡ placeCount) (placed : PlacedTo form k news (from / 8)) where
     -- One place more.
     one-more : (p : ℕ) → lands k p ≡ true → index k p ≤ index k (from / 8)
         → getD (set news (from / 8) to) p 0 ≡ startOf 0 (piecesOf form k) (index k p)

@@ -5,6 +5,7 @@ use words::bytes::Word;
 ghost use mathlib.Core.Path.{_≡_};
 ghost use Prim.Native.Nat.{_<_, _≤_};
 ghost use lib.ListN.{length};
+ghost use Rattle.paper.specs.Limits.{dictionaryBytes};
 ghost use Rattle.paper.specs.Dictionary.{dictionaryOf};
 ghost use Rattle.paper.specs.Packing.{placesTaken};
 ghost use Rattle.short.specs.Shorter.{shorterIs};
@@ -15,7 +16,7 @@ ghost use Rattle.packer.specs.Forms.{formOf};
 
 // The short word that w becomes, if any.
 pub fn form(packs: bool, dictionary: &[u8], w: Word) -> Shorter
-    requires { ⌜ length (now dictionary) ≡ 512 ⌝ }
+    requires { ⌜ length (now dictionary) ≡ dictionaryBytes ⌝ }
     ensures { λ r. ⌜ shorterIs r ≡ formOf packs (dictionaryOf (now (dictionary .entry))) (toWord w) ⌝ }
 {
     if !packs {

@@ -3,22 +3,19 @@ use crate::place::place_all;
 use crate::write::write_all;
 use kernel::accept::accept;
 use words::answer::Answer;
+use words::limits::PLACES;
 ghost use Rattle.paper.specs.Dictionary.{dictionaryOf};
-ghost use Rattle.paper.specs.Calls.{accepted, relaid, packCall, unpackCall};
+ghost use Rattle.paper.specs.Calls.{deliver, accepted, relaid, packCall, unpackCall};
 ghost use Rattle.words.specs.Answer.{Wrote};
 ghost use Rattle.kernel.specs.Judging.{formsIs};
-ghost use Rattle.packer.specs.Forms.{formOf};
+ghost use Rattle.packer.specs.Forms.{formOf, Taken, resultOf};
 
-// The kernel laid out anew: packed, from long words only, or unpacked.
-fn relay(packs: bool, dictionary: &[u8], kernel: &[u8], out: &mut [u8]) -> Answer
-    ensures { λ r. ⌜ Wrote (relaid (formOf packs (dictionaryOf (now (dictionary .entry)))) (now (out .entry))
-        (accepted (formsIs packs) (now (dictionary .entry)) (now (kernel .entry)))) r (now (out .exit)) ⌝ }
+// An accepted kernel laid out anew, in the output's first bytes; 14 where it is shorter.
+fn lay_out(packs: bool, dictionary: &[u8], kernel: &[u8], out: &mut [u8]) -> Answer
+    requires { ⌜ Taken packs (now dictionary) (now kernel) ⌝ }
+    ensures { λ r. ⌜ Wrote (deliver (resultOf packs (now (dictionary .entry)) (now (kernel .entry))) (now (out .entry))) r (now (out .exit)) ⌝ }
 {
-    let scan = accept(packs, dictionary, kernel);
-    if !scan.good {
-        return Answer::Refused(scan.number, scan.offset);
-    }
-    let mut places = [0u64; 2049];
+    let mut places = [0u64; PLACES];
     let end = place_all(packs, dictionary, kernel, &mut places);
     let length = 8 * (end as usize);
     if out.len() < length {
@@ -26,6 +23,19 @@ fn relay(packs: bool, dictionary: &[u8], kernel: &[u8], out: &mut [u8]) -> Answe
     }
     write_all(packs, dictionary, kernel, &places, out);
     Answer::Told(0, length as u64)
+}
+
+// The kernel laid out anew: packed, from long words only, or unpacked.
+fn relay(packs: bool, dictionary: &[u8], kernel: &[u8], out: &mut [u8]) -> Answer
+    ensures { λ r. ⌜ Wrote (relaid (formOf packs (dictionaryOf (now (dictionary .entry)))) (now (out .entry))
+        (accepted (formsIs packs) (now (dictionary .entry)) (now (kernel .entry)))) r (now (out .exit)) ⌝ }
+{
+    let mut marks = [0u8; PLACES];
+    let said = accept(packs, dictionary, kernel, &mut marks);
+    match said {
+        Answer::Told(_, _) => lay_out(packs, dictionary, kernel, out),
+        Answer::Refused(number, offset) => Answer::Refused(number, offset),
+    }
 }
 
 // The kernel with each word short that can be, in the output's first bytes.

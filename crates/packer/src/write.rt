@@ -11,6 +11,7 @@ use short::shorten::Shorter;
 use words::bytes::Word;
 use words::bytes::write8;
 use words::bytes::write16;
+use words::limits::PLACES;
 ghost use mathlib.Core.List.{_++_};
 ghost use mathlib.Core.Path.{_≡_};
 ghost use Prim.Native.Nat.{_+_, _*_, _<_, _≤_};
@@ -21,6 +22,7 @@ ghost use Rattle.paper.specs.Jump.{distances};
 ghost use Rattle.paper.specs.Packing.{placesTaken, encode, aimed};
 ghost use Rattle.short.specs.Shorter.{shorterIs};
 ghost use Rattle.words.specs.Words.{toWord};
+ghost use Rattle.kernel.specs.Marks.{placeCount};
 ghost use Rattle.kernel.specs.Jumps.{instrOf};
 ghost use Rattle.packer.specs.Forms.{formOf, kernelOf, Taken, resultOf, resultEnd};
 ghost use Rattle.packer.specs.Stages.{Placed, newPlaces, Reaches};
@@ -38,8 +40,8 @@ fn write_word(a: Shorter, w: Word, out: &mut [u8], from: usize)
 }
 
 // The word w of an instruction of `size` places from the old place `here` on, which comes to stand from `to` to `next`, with its distances rewritten.
-fn rewrite(places: &[u64; 2049], w: Word, here: u64, size: u64, to: u64, next: u64) -> Word
-    requires { ⌜ (here < 65536) × (size < 65536) × (to ≤ 4096) × (next ≤ 4096) × Reaches (now places) (instrOf here size (toWord w)) ⌝ }
+fn rewrite(places: &[u64; PLACES], w: Word, here: u64, size: u64, to: u64, next: u64) -> Word
+    requires { ⌜ (here < placeCount) × (size ≤ 2) × (to < placeCount) × (next < placeCount) × Reaches (now places) (instrOf here size (toWord w)) ⌝ }
     ensures { λ r. ⌜ toWord r ≡ aimed (distances (operation (toWord w))) (toWord w) to next (newPlaces (now (places .entry)) (instrOf here size (toWord w))) ⌝ }
 {
     let held = distances_in(w);
@@ -58,7 +60,7 @@ pub fn write_all(
     packs: bool,
     dictionary: &[u8],
     kernel: &[u8],
-    places: &[u64; 2049],
+    places: &[u64; PLACES],
     out: &mut [u8],
 )
     requires { ⌜ Taken packs (now dictionary) (now kernel) ⌝ }

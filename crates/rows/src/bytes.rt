@@ -1,4 +1,9 @@
 // Numbers in bytes, the lowest byte first, at any place that a row names: what has no room is not written, and is read as a number that no row can ask for.
+use crate::sizes::BOARD;
+use crate::sizes::KERNEL;
+use crate::sizes::LONGEST;
+use crate::sizes::OUTPUT;
+use crate::sizes::TABLE;
 use words::bytes::read2;
 use words::bytes::read4;
 use words::bytes::write2;
@@ -85,11 +90,11 @@ pub fn clear(bytes: &mut [u8], size: usize) -> bool {
 }
 
 // Copies the output's first bytes, `size` of them as far as there are so many, to the kernel. Gives their number.
-pub fn copy(board: &[u8; 20528], table: &mut [u8; 16916], size: u64) -> usize {
-    let n = least(size as usize, 16400);
+pub fn copy(board: &[u8; BOARD], table: &mut [u8; TABLE], size: u64) -> usize {
+    let n = least(size as usize, LONGEST);
     let mut i: usize = 0;
     while i < n {
-        table[516 + i] = board[4128 + i];
+        table[KERNEL + i] = board[OUTPUT + i];
         i += 1;
     }
     n

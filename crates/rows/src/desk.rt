@@ -1,4 +1,7 @@
 // What is known between two lines of a file, beside the bytes.
+use words::limits::DICTIONARY_BYTES;
+use words::limits::REGISTER_BYTES;
+use words::limits::STATE_LENGTH;
 
 // The sizes of what is lent; the last call's answer; the line's number, and whether its command is known; how many cases are right of how many, and
 // whether the one at hand is.
@@ -24,9 +27,9 @@ pub fn bare() -> Desk {
     Desk {
         kernel: 0,
         room: 0,
-        dictionary: 512,
-        registers: 4096,
-        state: 42,
+        dictionary: DICTIONARY_BYTES,
+        registers: REGISTER_BYTES,
+        state: STATE_LENGTH,
         answer: UNASKED,
         line: 0,
         known: false,

@@ -7,6 +7,8 @@ use crate::row::HOLDS;
 use crate::row::Row;
 use crate::row::STANDS;
 use crate::row::WROTE;
+use crate::sizes::BOARD;
+use crate::sizes::STATE;
 ghost use mathlib.Core.Path.{_≡_};
 ghost use Prim.Native.Nat.{_+_, _*_, _<_, _^_};
 ghost use lib.Dec.{eqb};
@@ -45,7 +47,7 @@ fn answer_of(number: u64, offset: u64, count: u64) -> u64
 }
 
 // A number was found where another, or the same, was asked for.
-fn compared(found: u64, asked: u64) -> Outcome {
+pub fn compared(found: u64, asked: u64) -> Outcome {
     if same(found, asked) {
         return Outcome::Right;
     }
@@ -53,7 +55,7 @@ fn compared(found: u64, asked: u64) -> Outcome {
 }
 
 // `answer NUMBER OFFSET COUNT`, `wrote BYTE DWORD`, `holds BYTE DWORD`, `stands BYTE HALF`.
-pub fn expected(row: Row, answer: u64, board: &[u8; 20528], state: &[u8; 44]) -> Outcome {
+pub fn expected(row: Row, answer: u64, board: &[u8; BOARD], state: &[u8; STATE]) -> Outcome {
     if row.key == ANSWER {
         return compared(answer, answer_of(row.a, row.b, row.c));
     }
@@ -61,7 +63,7 @@ pub fn expected(row: Row, answer: u64, board: &[u8; 20528], state: &[u8; 44]) ->
         return compared(half_at(state, row.a as usize), row.b);
     }
     let at = board_place(row, HOLDS, WROTE);
-    if at <= 20528 {
+    if at <= BOARD {
         return compared(dword_at(board, at), row.b);
     }
     Outcome::Unasked

@@ -1,5 +1,5 @@
 // The commands that lay out what a call is lent. The bytes are three arrays: the table holds the dictionary and behind it the kernel, the board the
-// registers and behind them the output, each a number, word, register or place longer than is right; the third is the state.
+// registers and behind them the output; the third is the state.
 use crate::bytes::clear;
 use crate::bytes::copy;
 use crate::bytes::put_dword;
@@ -18,18 +18,20 @@ use crate::row::ROOM;
 use crate::row::Row;
 use crate::row::SET;
 use crate::row::SHORT;
+use crate::sizes::BOARD;
+use crate::sizes::KERNEL;
+use crate::sizes::LONGEST;
+use crate::sizes::OUTPUT;
+use crate::sizes::STATE;
+use crate::sizes::TABLE;
+use words::limits::KERNEL_BYTES;
 ghost use Prim.Native.Nat.{_≤_};
 
-// Where the kernel starts in the table, and where the output starts on the board.
-pub const KERNEL: usize = 516;
-
-pub const OUTPUT: usize = 4128;
-
 // `case TITLE`: a new case. The dictionary stays.
-pub fn begun(row: Row, desk: Desk, board: &mut [u8; 20528], state: &mut [u8; 44]) -> Desk {
+pub fn begun(row: Row, desk: Desk, board: &mut [u8; BOARD], state: &mut [u8; STATE]) -> Desk {
     if row.key / 16 == CASE {
-        clear(board, 20528);
-        clear(state, 44);
+        clear(board, BOARD);
+        clear(state, STATE);
         return opened(desk);
     }
     desk
@@ -44,12 +46,12 @@ pub fn board_place(row: Row, registers: u64, output: u64) -> usize
 {
     let at = row.a as usize;
     if row.key == registers {
-        if at <= 4124 {
+        if at <= OUTPUT - 4 {
             return at;
         }
     }
     if row.key == output {
-        if at <= 16396 {
+        if at <= LONGEST - 4 {
             return OUTPUT + at;
         }
     }
@@ -80,9 +82,9 @@ fn state_place(row: Row) -> usize {
 // `number N V`, `set BYTE DWORD`, `mark BYTE DWORD`, `put BYTE HALF`. True where the row is one of these, and there is room.
 pub fn filled(
     row: Row,
-    table: &mut [u8; 16916],
-    board: &mut [u8; 20528],
-    state: &mut [u8; 44],
+    table: &mut [u8; TABLE],
+    board: &mut [u8; BOARD],
+    state: &mut [u8; STATE],
 ) -> bool {
     if put_dword(table, number_place(row), row.b) {
         return true;
@@ -97,7 +99,7 @@ pub fn filled(
 fn word_place(row: Row, size: usize) -> usize
     ensures { λ r. ⌜ r ≤ 4294967296 ⌝ }
 {
-    if size <= 16384 {
+    if size <= KERNEL_BYTES {
         if row.key == LONG {
             return KERNEL + size;
         }
@@ -109,7 +111,7 @@ fn word_place(row: Row, size: usize) -> usize
 }
 
 // `long A B C D`, `short A B`: a word more of the kernel.
-pub fn assembled(row: Row, size: usize, table: &mut [u8; 16916]) {
+pub fn assembled(row: Row, size: usize, table: &mut [u8; TABLE]) {
     let at = word_place(row, size);
     put_dword(table, at, row.a);
     put_dword(table, at + 4, row.b);
@@ -120,7 +122,7 @@ pub fn assembled(row: Row, size: usize, table: &mut [u8; 16916]) {
 }
 
 // `blank`, `load`: a dictionary of zeros; what the last call wrote as the kernel.
-pub fn reset(row: Row, answer: u64, table: &mut [u8; 16916], board: &[u8; 20528]) {
+pub fn reset(row: Row, answer: u64, table: &mut [u8; TABLE], board: &[u8; BOARD]) {
     if row.key == BLANK {
         clear(table, KERNEL);
     }
@@ -138,7 +140,7 @@ pub fn grown(row: Row, desk: Desk) -> Desk {
         d.known = true;
         return d;
     }
-    if size <= 16384 {
+    if size <= KERNEL_BYTES {
         if row.key == LONG {
             d.kernel = size + 16;
             d.known = true;

@@ -4,4 +4,5 @@ pub mod desk;
 pub mod expect;
 pub mod lay;
 pub mod row;
+pub mod sizes;
 pub mod text;

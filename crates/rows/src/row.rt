@@ -61,6 +61,8 @@ pub const HOLDS: u64 = 0x686F6C6473_2;
 
 pub const STANDS: u64 = 0x7374616E6473_2;
 
+pub const PART: u64 = 0x70617274_3;
+
 // The line's command, known or not. A comment has the key 0, as an empty line has.
 pub fn row_of(line: &[u8]) -> Row {
     if byte_at(line, 0) == b'#' {

@@ -1,5 +1,5 @@
 -- The calls' cases in the code's order. Assumes nothing.
-use mathlib.Core.Bool.{Bool, true, false, _&&_, true≢false}
+use mathlib.Core.Bool.{Bool, true, false, _&&_}
 use mathlib.Core.List.{List}
 use mathlib.Core.Option.{none}
 use mathlib.Core.Path.{_≡_, refl, sym, ap, _∙_, subst}
@@ -8,7 +8,7 @@ use lib.Dec.{eqb}
 use lib.ListN.{length}
 use borrow.Author.Tests.{eqb-true, eq-eqb, ne-eqb, lt-ltb, le-ltb}
 use Rattle.paper.specs.Limits.{registerBytes, stateLength, budgetLimit}
-use Rattle.paper.specs.Kernel.{Instr, longAndShort, Parsed, good}
+use Rattle.paper.specs.Kernel.{Instr, longAndShort, good}
 use Rattle.paper.specs.Jump.{lands}
 use Rattle.paper.specs.Machine as paper
 use Rattle.paper.specs.Machine.{stops, step, run}
@@ -18,8 +18,8 @@ use Rattle.laws.specs.Same.{state-names}
 use Rattle.laws.specs.Demands.{Ready, run-ready, step-ready}
 use Rattle.words.specs.declared.answer.Answer.the-variants.{Told, Refused}
 use Rattle.words.specs.Answer.{Left}
-use Rattle.kernel.specs.declared.walk.Scan.{Scan}
-use Rattle.kernel.specs.Marks.{marked, Says, says-refused, says-accepted, says-instrs, instrsOf}
+use Rattle.words.specs.declared.answer.Answer.{Answer}
+use Rattle.kernel.specs.Marks.{marked, Says, says-refused, says-instrs}
 use Rattle.kernel.specs.Accepting.{accepted-kernel}
 use Rattle.machine.specs.declared.state.State.{State}
 use Rattle.machine.specs.States.{stateIs, SaneState, sixteen-channels}
@@ -80,33 +80,32 @@ Admits dictionary kernel registers bytes (Barred number offset) =
     → onState registers bytes go (judgedKernel longAndShort dictionary kernel) ≡ unchanged (refusal number offset) registers bytes
 Admits dictionary kernel registers bytes Fine = Lawful dictionary kernel registers bytes
 
-module _ (dictionary kernel bytes : List ℕ) (right : sized dictionary kernel ≡ true) (scan : Scan) (says : Says (accepted longAndShort dictionary kernel) scan) where
+module _ (dictionary kernel bytes : List ℕ) (right : sized dictionary kernel ≡ true)
+    (marks : List ℕ) (said : Answer) (says : Says (accepted longAndShort dictionary kernel) said marks) where
   judged-is : judgedKernel longAndShort dictionary kernel ≡ accepted longAndShort dictionary kernel
   unfolding accepted
   judged-is = rw right
 
-  pub admits-refused : scan .good ≡ false → (registers : List ℕ) → Admits dictionary kernel registers bytes (Barred (scan .number) (scan .offset))
-  admits-refused g registers go =
-      ap (onState registers bytes go) (judged-is ∙ says-refused (accepted longAndShort dictionary kernel) scan says g)
+  pub admits-refused : (number offset : ℕ) → said ≡ Refused number offset → (registers : List ℕ) → Admits dictionary kernel registers bytes (Barred number offset)
+  admits-refused number offset e registers go =
+      ap (onState registers bytes go) (judged-is ∙ says-refused (accepted longAndShort dictionary kernel) said marks says number offset e)
 
-  module _ (g : scan .good ≡ true) where
+  module _ (number count : ℕ) (told : said ≡ Told number count) where
     is-good : accepted longAndShort dictionary kernel ≡ good (instructions dictionary kernel)
     unfolding instructions
-    is-good = says-instrs (accepted longAndShort dictionary kernel) scan says g
+    is-good = says-instrs (accepted longAndShort dictionary kernel) said marks says number count told .0
 
-    marks-land : (p : ℕ) → marked (scan .marks) p ≡ lands (instructions dictionary kernel) p
+    marks-land : (p : ℕ) → marked marks p ≡ lands (instructions dictionary kernel) p
     unfolding instructions
-    marks-land p =
-        let a = says-accepted (accepted longAndShort dictionary kernel) scan says g in
-        a .marks p ∙ ap (λ (q : Parsed). lands (instrsOf q) p) (sym (a .judged))
+    marks-land = says-instrs (accepted longAndShort dictionary kernel) said marks says number count told .1
 
-    legal-is : (registers : List ℕ) → legalBy (marked (scan .marks)) bytes ≡ stateLegal (instructions dictionary kernel) registers bytes
-    legal-is registers = legal-same (marked (scan .marks)) (instructions dictionary kernel) marks-land registers bytes
+    legal-is : (registers : List ℕ) → legalBy (marked marks) bytes ≡ stateLegal (instructions dictionary kernel) registers bytes
+    legal-is registers = legal-same (marked marks) (instructions dictionary kernel) marks-land registers bytes
 
-    pub admits-illegal : legalBy (marked (scan .marks)) bytes ≡ false → (registers : List ℕ) → Admits dictionary kernel registers bytes (Barred 15 0)
+    pub admits-illegal : legalBy (marked marks) bytes ≡ false → (registers : List ℕ) → Admits dictionary kernel registers bytes (Barred 15 0)
     admits-illegal l registers go = rw (judged-is ∙ is-good, sym (legal-is registers) ∙ l)
 
-    pub admits-fine : legalBy (marked (scan .marks)) bytes ≡ true → (registers : List ℕ) → Admits dictionary kernel registers bytes Fine
+    pub admits-fine : legalBy (marked marks) bytes ≡ true → (registers : List ℕ) → Admits dictionary kernel registers bytes Fine
     admits-fine l registers = record { accepts = is-good; judged = judged-is ∙ is-good; legal = sym (legal-is registers) ∙ l }
 
 -- ---- the calls, in the code's order

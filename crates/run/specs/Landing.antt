@@ -1,5 +1,5 @@
 -- 15 against a test of places, where the paper tests the instructions themselves. Assumes nothing.
-use mathlib.Core.Bool.{Bool, true, false, cond, _&&_}
+use mathlib.Core.Bool.{Bool, true, false, cond, _&&_, and-true, and-false}
 use mathlib.Core.List.{List, [], _∷_}
 use mathlib.Core.Path.{_≡_, refl, sym, ap, ap₂, _∙_}
 use Prim.Native.Nat.{ℕ, suc, _+_, _-_, _<_, _≤_}
@@ -80,13 +80,22 @@ module _ (land : ℕ → Bool) (c : Channels) where
     pub waits-on : cond (bit (c .waiting) n) (land (getD (c .places) n 0)) true ≡ true → waitsFrom n ≡ waitsFrom (n + 1)
     waits-on e = waits-turn n h ∙ rw e
 
--- ---- the test, of a state that was read from the bytes, by its three parts
+-- ---- the test, of a state that was read from the bytes, part by part as the code goes
 
-pub legal-read : (land : ℕ → Bool) (bytes : List ℕ) (s : State) → stateIs [] s ≡ stateOf [] bytes
-    → (apart placed rest two all : Bool) → apart ≡ allThree bytes 16 → placed ≡ land (s .place) → rest ≡ waitsBy land (channelsIs (s .channels))
-    → two ≡ (placed && rest) → all ≡ (apart && two) → all ≡ legalBy land bytes
-unfolding legalBy stateOf
-legal-read land bytes s e apart placed rest two all a p r t h =
-    let at : half bytes 4 ≡ s .place = sym (ap (λ (x : paper.State). x .place) e) in
-    let own : channelsIn bytes 0 16 ≡ channelsIs (s .channels) = sym (ap (λ (x : paper.State). x .channels) e) in
-    rw (at, own, ← a, ← p, ← r, ← t) h
+module _ (land : ℕ → Bool) (bytes : List ℕ) (s : State) (read : stateIs [] s ≡ stateOf [] bytes) where
+  by-parts : legalBy land bytes ≡ (allThree bytes 16 && (land (s .place) && waitsBy land (channelsIs (s .channels))))
+  unfolding legalBy stateOf
+  by-parts =
+      let at : half bytes 4 ≡ s .place = sym (ap (λ (x : paper.State). x .place) read) in
+      let own : channelsIn bytes 0 16 ≡ channelsIs (s .channels) = sym (ap (λ (x : paper.State). x .channels) read) in
+      rw (at, own)
+
+  pub legal-misplaced : land (s .place) ≡ false → legalBy land bytes ≡ false
+  legal-misplaced h = by-parts ∙ rw h (and-false (allThree bytes 16))
+
+  module _ (placed : land (s .place) ≡ true) where
+    pub legal-unrested : waitsBy land (channelsIs (s .channels)) ≡ false → legalBy land bytes ≡ false
+    legal-unrested h = by-parts ∙ rw (placed, h) (and-false (allThree bytes 16))
+
+    pub legal-rested : waitsBy land (channelsIs (s .channels)) ≡ true → legalBy land bytes ≡ allThree bytes 16
+    legal-rested h = by-parts ∙ rw (placed, h) (and-true (allThree bytes 16))

@@ -7,7 +7,7 @@ use Prim.Native.Nat.{ℕ, _+_, _*_, _<_}
 use native.Mathlib.Omega.{arith}
 use lib.IntN.{ℤ}
 use lib.ListN.{length}
-use Rattle.paper.specs.Limits.{registerBytes}
+use Rattle.paper.specs.Limits.{registerBytes, dictionaryBytes}
 use Rattle.paper.specs.Dictionary.{dictionaryOf}
 use Rattle.paper.specs.Legal.{refusalOf}
 use Rattle.paper.specs.Kernel.{Instr, longAndShort}
@@ -48,7 +48,7 @@ module _ (dictionary kernel registers : List ℕ) (s : State) (r : Running dicti
   abbrev k : List Instr
   k = instructions dictionary kernel
 
-  pub running-dictionary : length dictionary ≡ 512
+  pub running-dictionary : length dictionary ≡ dictionaryBytes
   running-dictionary = r .accepts .sizes .dictionary-is
 
   pub running-registers : length registers ≡ registerBytes

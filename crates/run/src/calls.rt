@@ -8,6 +8,10 @@ use kernel::accept::is_sized;
 use machine::state::read_state;
 use machine::state::write_state;
 use words::answer::Answer;
+use words::limits::BUDGET_LIMIT;
+use words::limits::PLACES;
+use words::limits::REGISTER_BYTES;
+use words::limits::STATE_LENGTH;
 ghost use mathlib.Core.Path.{_≡_};
 ghost use mathlib.Core.Bool.{true};
 ghost use mathlib.Core.List.{List};
@@ -31,10 +35,10 @@ fn are_sized(dictionary: &[u8], kernel: &[u8], registers: &[u8], state: &[u8]) -
     if !is_sized(dictionary, kernel) {
         return false;
     }
-    if registers.len() != 4096 {
+    if registers.len() != REGISTER_BYTES {
         return false;
     }
-    state.len() == 42
+    state.len() == STATE_LENGTH
 }
 
 // The kernel's own refusals, then 15.
@@ -42,11 +46,11 @@ fn admit(dictionary: &[u8], kernel: &[u8], state: &[u8]) -> Admission
     requires { ⌜ (sized (now dictionary) (now kernel) ≡ true) × (length (now state) ≡ stateLength) ⌝ }
     ensures { λ r. ⌜ ((registers : List ℕ) → Admits (now (dictionary .entry)) (now (kernel .entry)) registers (now (state .entry)) r) ⌝ }
 {
-    let scan = accept(false, dictionary, kernel);
-    if !scan.good {
-        return Admission::Barred(scan.number, scan.offset);
+    let mut marks = [0u8; PLACES];
+    let said = accept(false, dictionary, kernel, &mut marks);
+    if let Answer::Refused(number, offset) = said {
+        return Admission::Barred(number, offset);
     }
-    let marks = scan.marks;
     if !is_legal(&marks, state) {
         return Admission::Barred(15, 0);
     }
@@ -113,7 +117,7 @@ pub fn run(
     if !are_sized(dictionary, kernel, registers, state) {
         return Answer::Refused(1, 0);
     }
-    if 1000000 < budget {
+    if BUDGET_LIMIT < budget {
         return Answer::Refused(16, 0);
     }
     let o = admit(dictionary, kernel, state);

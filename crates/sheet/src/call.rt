@@ -1,18 +1,25 @@
-// The commands that make a call of the C boundary.
+// The commands that make a call of the C boundary, and the one that looks at the part of the kernel that decoding hands back.
+use kernel::decode::part;
+use rows::bytes::dword_at;
 use rows::bytes::least;
 use rows::desk::Desk;
-use rows::lay::KERNEL;
-use rows::lay::OUTPUT;
+use rows::expect::Outcome;
+use rows::expect::compared;
 use rows::row::CHECK;
 use rows::row::DECODE;
 use rows::row::EXPAND;
 use rows::row::PACK;
+use rows::row::PART;
 use rows::row::RUN;
 use rows::row::Row;
 use rows::row::SHORTEN;
 use rows::row::START;
 use rows::row::STEP;
 use rows::row::UNPACK;
+use rows::sizes::KERNEL;
+use rows::sizes::LONGEST;
+use rows::sizes::OUTPUT;
+use rows::sizes::STATE;
 use spokeshaver::spokeshaver_check;
 use spokeshaver::spokeshaver_decode;
 use spokeshaver::spokeshaver_expand;
@@ -24,6 +31,7 @@ use spokeshaver::spokeshaver_step;
 use spokeshaver::spokeshaver_unpack;
 ghost use mathlib.Core.Path.{_≡_};
 ghost use lib.ListN.{length};
+ghost use Rattle.rows.specs.Sizes.{tableBytes, boardBytes, stateBytes};
 
 // What a row's call answered; No where it makes none.
 pub enum Answered {
@@ -90,11 +98,11 @@ fn moved(
 
 // A call on the kernel's bytes, if the row makes one.
 pub fn asked_of(row: Row, desk: Desk, table: &[u8], board: &mut [u8]) -> Desk
-    requires { ⌜ (length (now table) ≡ 16916) × (length (now board) ≡ 20528) ⌝ }
+    requires { ⌜ (length (now table) ≡ tableBytes) × (length (now board) ≡ boardBytes) ⌝ }
 {
     let numbers = least(desk.dictionary, KERNEL);
-    let end = KERNEL + least(desk.kernel, 16400);
-    let room = OUTPUT + least(desk.room, 16400);
+    let end = KERNEL + least(desk.kernel, LONGEST);
+    let room = OUTPUT + least(desk.room, LONGEST);
     noted(
         desk,
         asked(
@@ -108,12 +116,12 @@ pub fn asked_of(row: Row, desk: Desk, table: &[u8], board: &mut [u8]) -> Desk
 
 // A call on registers and state, if the row makes one.
 pub fn moved_by(row: Row, desk: Desk, table: &[u8], board: &mut [u8], state: &mut [u8]) -> Desk
-    requires { ⌜ (length (now table) ≡ 16916) × (length (now board) ≡ 20528) × (length (now state) ≡ 44) ⌝ }
+    requires { ⌜ (length (now table) ≡ tableBytes) × (length (now board) ≡ boardBytes) × (length (now state) ≡ stateBytes) ⌝ }
 {
     let numbers = least(desk.dictionary, KERNEL);
-    let end = KERNEL + least(desk.kernel, 16400);
+    let end = KERNEL + least(desk.kernel, LONGEST);
     let size = least(desk.registers, OUTPUT);
-    let places = least(desk.state, 44);
+    let places = least(desk.state, STATE);
     let dictionary = &table[0..numbers];
     let kernel = &table[KERNEL..end];
     noted(
@@ -126,6 +134,19 @@ pub fn moved_by(row: Row, desk: Desk, table: &[u8], board: &mut [u8], state: &mu
             &mut state[0..places],
         ),
     )
+}
+
+// `part PLACE BYTE DWORD`: what the bytes of the instruction at a place hold.
+pub fn part_of(row: Row, desk: Desk, table: &[u8]) -> Outcome
+    requires { ⌜ length (now table) ≡ tableBytes ⌝ }
+{
+    if row.key != PART {
+        return Outcome::Unasked;
+    }
+    let numbers = least(desk.dictionary, KERNEL);
+    let end = KERNEL + least(desk.kernel, LONGEST);
+    let held = part(&table[0..numbers], &table[KERNEL..end], row.a);
+    compared(dword_at(held, row.b as usize), row.c)
 }
 
 // The call's answer, if there was a call.

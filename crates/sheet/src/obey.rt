@@ -1,6 +1,7 @@
 // A file's lines one after the other.
 use crate::call::asked_of;
 use crate::call::moved_by;
+use crate::call::part_of;
 use libc::STDOUT_FILENO;
 use rows::desk::Desk;
 use rows::desk::bare;
@@ -15,6 +16,9 @@ use rows::lay::reset;
 use rows::lay::sized;
 use rows::row::Row;
 use rows::row::row_of;
+use rows::sizes::BOARD;
+use rows::sizes::STATE;
+use rows::sizes::TABLE;
 use rows::text::LINE;
 use rows::text::size_to;
 
@@ -47,9 +51,9 @@ fn judged(file: &[u8], row: Row, desk: Desk, outcome: Outcome) -> Desk {
 fn laid(
     row: Row,
     desk: Desk,
-    table: &mut [u8; 16916],
-    board: &mut [u8; 20528],
-    state: &mut [u8; 44],
+    table: &mut [u8; TABLE],
+    board: &mut [u8; BOARD],
+    state: &mut [u8; STATE],
 ) -> Desk {
     let mut d = desk;
     d.line = std::num::wrapping_add_u64(desk.line, 1);
@@ -59,27 +63,43 @@ fn laid(
     begun(row, sized(row, grown(row, d)), board, state)
 }
 
+// How what the row expects came out.
+fn seen(
+    row: Row,
+    desk: Desk,
+    table: &[u8; TABLE],
+    board: &[u8; BOARD],
+    state: &[u8; STATE],
+) -> Outcome {
+    let outcome = part_of(row, desk, table);
+    match outcome {
+        Outcome::Unasked => expected(row, desk.answer, board, state),
+        Outcome::Right => Outcome::Right,
+        Outcome::Found(found) => Outcome::Found(found),
+    }
+}
+
 // Obeys one line.
 fn obeyed(
     file: &[u8],
     line: &[u8],
     desk: Desk,
-    table: &mut [u8; 16916],
-    board: &mut [u8; 20528],
-    state: &mut [u8; 44],
+    table: &mut [u8; TABLE],
+    board: &mut [u8; BOARD],
+    state: &mut [u8; STATE],
 ) -> Desk {
     let row = row_of(line);
     let d = laid(row, desk, table, board, state);
     let e = asked_of(row, d, table, board);
     let f = moved_by(row, e, table, board, state);
-    judged(file, row, f, expected(row, f.answer, board, state))
+    judged(file, row, f, seen(row, f, table, board, state))
 }
 
 // Obeys a text's lines.
 pub fn run_rows(file: &[u8], text: &[u8]) -> Desk {
-    let mut table = [0u8; 16916];
-    let mut board = [0u8; 20528];
-    let mut state = [0u8; 44];
+    let mut table = [0u8; TABLE];
+    let mut board = [0u8; BOARD];
+    let mut state = [0u8; STATE];
     let mut desk = bare();
     let mut at: usize = 0;
     while at < text.len() {

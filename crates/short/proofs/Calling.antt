@@ -5,6 +5,7 @@ use mathlib.Core.Path.{_≡_, sym, ap, _∙_}
 use Prim.Native.Nat.{ℕ, _≤_, _<_}
 use borrow.Author.Tests.{lt-ltb, le-ltb, eq-eqb, ne-eqb}
 use lib.ListN.{length}
+use Rattle.paper.specs.Limits.{dictionaryBytes}
 use Rattle.paper.specs.Bits.{bytesOf, numberAt, putAt}
 use Rattle.paper.specs.Dictionary.{dictionaryOf, inRange}
 use Rattle.paper.specs.Expand.{isShort, expand}
@@ -40,11 +41,11 @@ module _ (n v : ℕ) (out : List ℕ) where
 -- ---- 1, 2 and 4 of one word
 
 module _ (dictionary : List ℕ) (fits : Bool) (w : ℕ) (out : List ℕ) (further : Written) where
-  one-size : (length dictionary ≡ 512 → ⊥) → oneWord dictionary fits w out further ≡ kept (refusal 1 0) out
+  one-size : (length dictionary ≡ dictionaryBytes → ⊥) → oneWord dictionary fits w out further ≡ kept (refusal 1 0) out
   unfolding oneWord
   one-size h = rw (ne-eqb _ _ h)
 
-  module _ (sized : length dictionary ≡ 512) where
+  module _ (sized : length dictionary ≡ dictionaryBytes) where
     one-length : fits ≡ false → oneWord dictionary fits w out further ≡ kept (refusal 1 0) out
     unfolding oneWord
     one-length h = rw (eq-eqb _ _ sized, h)
@@ -67,16 +68,16 @@ module _ (dictionary : List ℕ) (fits : Bool) (w : ℕ) (out : List ℕ) (furth
 
 module _ (dictionary word out : List ℕ) where
   -- 1: the dictionary's length.
-  pub shorten-size : (length dictionary ≡ 512 → ⊥) → shortenCall dictionary word out ≡ kept (refusal 1 0) out
+  pub shorten-size : (length dictionary ≡ dictionaryBytes → ⊥) → shortenCall dictionary word out ≡ kept (refusal 1 0) out
   unfolding shortenCall
   shorten-size h = one-size dictionary _ _ out _ h
 
   -- 1: the word's.
-  pub shorten-length : length dictionary ≡ 512 → (length word ≡ 16 → ⊥) → shortenCall dictionary word out ≡ kept (refusal 1 0) out
+  pub shorten-length : length dictionary ≡ dictionaryBytes → (length word ≡ 16 → ⊥) → shortenCall dictionary word out ≡ kept (refusal 1 0) out
   unfolding shortenCall
   shorten-length sized h = one-length dictionary _ _ out _ sized (ne-eqb _ _ h)
 
-  module _ (sized : length dictionary ≡ 512) (fit : length word ≡ 16) where
+  module _ (sized : length dictionary ≡ dictionaryBytes) (fit : length word ≡ 16) where
     -- 2.
     pub shorten-range : inRange (dictionaryOf dictionary) ≡ false → shortenCall dictionary word out ≡ kept (refusal 2 0) out
     unfolding shortenCall
@@ -103,16 +104,16 @@ module _ (dictionary word out : List ℕ) where
 
 module _ (dictionary word out : List ℕ) where
   -- 1: the dictionary's length.
-  pub expand-size : (length dictionary ≡ 512 → ⊥) → expandCall dictionary word out ≡ kept (refusal 1 0) out
+  pub expand-size : (length dictionary ≡ dictionaryBytes → ⊥) → expandCall dictionary word out ≡ kept (refusal 1 0) out
   unfolding expandCall
   expand-size h = one-size dictionary _ _ out _ h
 
   -- 1: the word's.
-  pub expand-length : length dictionary ≡ 512 → (length word ≡ 8 → ⊥) → expandCall dictionary word out ≡ kept (refusal 1 0) out
+  pub expand-length : length dictionary ≡ dictionaryBytes → (length word ≡ 8 → ⊥) → expandCall dictionary word out ≡ kept (refusal 1 0) out
   unfolding expandCall
   expand-length sized h = one-length dictionary _ _ out _ sized (ne-eqb _ _ h)
 
-  module _ (sized : length dictionary ≡ 512) (fit : length word ≡ 8) where
+  module _ (sized : length dictionary ≡ dictionaryBytes) (fit : length word ≡ 8) where
     -- 2.
     pub expand-range : inRange (dictionaryOf dictionary) ≡ false → expandCall dictionary word out ≡ kept (refusal 2 0) out
     unfolding expandCall

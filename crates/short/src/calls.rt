@@ -13,6 +13,7 @@ use words::fields::cmpt_ctrl;
 use words::fields::is_short;
 use words::fields::operation;
 use words::fields::operation_in;
+use words::limits::DICTIONARY_BYTES;
 use words::operation::is_branch;
 use words::operation::is_listed;
 ghost use Rattle.paper.specs.Bits.{bytesOf};
@@ -57,7 +58,7 @@ fn deliver_shorter(out: &mut [u8], a: Shorter) -> Answer
 pub fn shorten_word(dictionary: &[u8], word: &[u8], out: &mut [u8]) -> Answer
     ensures { λ r. ⌜ Wrote (shortenCall (now (dictionary .entry)) (now (word .entry)) (now (out .entry))) r (now (out .exit)) ⌝ }
 {
-    if dictionary.len() != 512 {
+    if dictionary.len() != DICTIONARY_BYTES {
         return Answer::Refused(1, 0);
     }
     if word.len() != 16 {
@@ -81,7 +82,7 @@ pub fn shorten_word(dictionary: &[u8], word: &[u8], out: &mut [u8]) -> Answer
 pub fn expand_word(dictionary: &[u8], word: &[u8], out: &mut [u8]) -> Answer
     ensures { λ r. ⌜ Wrote (expandCall (now (dictionary .entry)) (now (word .entry)) (now (out .entry))) r (now (out .exit)) ⌝ }
 {
-    if dictionary.len() != 512 {
+    if dictionary.len() != DICTIONARY_BYTES {
         return Answer::Refused(1, 0);
     }
     if word.len() != 8 {

@@ -1,13 +1,14 @@
-// The dictionary, lent as 512 bytes: its 128 numbers, and rule 2.
+// The dictionary, lent as bytes: its 128 numbers, and rule 2.
 use words::bytes::read4;
 ghost use mathlib.Core.Path.{_≡_};
 ghost use Prim.Native.Nat.{_<_, _^_};
 ghost use lib.ListN.{length};
+ghost use Rattle.paper.specs.Limits.{dictionaryBytes};
 ghost use Rattle.paper.specs.Dictionary.{dictionaryOf, tableWidth, inRange};
 
 // Number i of the dictionary.
 pub fn number(dictionary: &[u8], i: usize) -> u64
-    requires { ⌜ (length (now dictionary) ≡ 512) × (i < 128) ⌝ }
+    requires { ⌜ (length (now dictionary) ≡ dictionaryBytes) × (i < 128) ⌝ }
     ensures { λ r. ⌜ (r ≡ dictionaryOf (now (dictionary .entry)) i) × (r < 2 ^ 32) ⌝ }
 {
     let from = 4 * i;
@@ -32,7 +33,7 @@ fn limit(i: usize) -> u64
 
 // Each number fits its table.
 pub fn in_range(dictionary: &[u8]) -> bool
-    requires { ⌜ length (now dictionary) ≡ 512 ⌝ }
+    requires { ⌜ length (now dictionary) ≡ dictionaryBytes ⌝ }
     ensures { λ r. ⌜ r ≡ inRange (dictionaryOf (now (dictionary .entry))) ⌝ }
 {
     let mut i: usize = 0;

@@ -5,6 +5,7 @@ use words::fields::form_of;
 ghost use mathlib.Core.Path.{_≡_};
 ghost use Prim.Native.Nat.{_<_, _^_};
 ghost use lib.ListN.{length};
+ghost use Rattle.paper.specs.Limits.{dictionaryBytes};
 ghost use Rattle.paper.specs.Rows.{assemble};
 ghost use Rattle.paper.specs.Dictionary.{dictionaryOf};
 ghost use Rattle.paper.specs.Expand.{extended, lowRows, topRows, highRows, expand};
@@ -60,7 +61,7 @@ fn high_bits(immediate: bool, s: u64, b: u64, a: u64, x: u64) -> u64
 
 // The long word that short word s stands for.
 pub fn expand(dictionary: &[u8], s: u64) -> Word
-    requires { ⌜ length (now dictionary) ≡ 512 ⌝ }
+    requires { ⌜ length (now dictionary) ≡ dictionaryBytes ⌝ }
     ensures { λ r. ⌜ toWord r ≡ expand (dictionaryOf (now (dictionary .entry))) s ⌝ }
 {
     let c = number(dictionary, (s / 0x100 % 32) as usize);

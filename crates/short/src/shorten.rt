@@ -9,6 +9,7 @@ ghost use mathlib.Core.Path.{_≡_};
 ghost use Prim.Native.Nat.{ℕ, _+_, _<_, _≤_, _^_};
 ghost use mathlib.Core.Bool.{true, false};
 ghost use lib.ListN.{length};
+ghost use Rattle.paper.specs.Limits.{dictionaryBytes};
 ghost use Rattle.paper.specs.Rows.{assemble};
 ghost use Rattle.paper.specs.Dictionary.{dictionaryOf};
 ghost use Rattle.paper.specs.Shorten.{controlKey, datatypeKey, subregisterKey, indexOf, headRows, tailRows, shortWord};
@@ -26,7 +27,7 @@ pub enum Shorter {
 
 // The smallest index into the table from number `base` on at which the number is `key` modulo `modulus`, or 32 where none is.
 fn index_of(dictionary: &[u8], base: usize, modulus: u64, key: u64) -> u64
-    requires { ⌜ (length (now dictionary) ≡ 512) × (base ≤ 96) × (0 < modulus) ⌝ }
+    requires { ⌜ (length (now dictionary) ≡ dictionaryBytes) × (base ≤ 96) × (0 < modulus) ⌝ }
     ensures { λ r. ⌜ r ≡ indexOf (λ (i : ℕ). dictionaryOf (now (dictionary .entry)) (base + i)) modulus key ⌝ }
 {
     let mut i: usize = 0;
@@ -106,7 +107,7 @@ fn short_word(lo: u64, hi: u64, c: u64, t: u64, b: u64, x: u64, y: u64, r: u64) 
 
 // In immediate form: c, t and x are the control, datatype and first source index.
 fn shorten_immediate(dictionary: &[u8], lo: u64, hi: u64, c: u64, t: u64, x: u64) -> Shorter
-    requires { ⌜ length (now dictionary) ≡ 512 ⌝ }
+    requires { ⌜ length (now dictionary) ≡ dictionaryBytes ⌝ }
     ensures { λ r. ⌜ shorterIs r ≡ shortenImmediate (dictionaryOf (now (dictionary .entry))) lo hi c t x ⌝ }
 {
     let top = hi / 0x1_0000_0000;
@@ -123,7 +124,7 @@ fn shorten_immediate(dictionary: &[u8], lo: u64, hi: u64, c: u64, t: u64, x: u64
 
 // With src1 in a register.
 fn shorten_register(dictionary: &[u8], lo: u64, hi: u64, c: u64, t: u64, x: u64) -> Shorter
-    requires { ⌜ length (now dictionary) ≡ 512 ⌝ }
+    requires { ⌜ length (now dictionary) ≡ dictionaryBytes ⌝ }
     ensures { λ r. ⌜ shorterIs r ≡ shortenRegister (dictionaryOf (now (dictionary .entry))) lo hi c t x ⌝ }
 {
     if part(hi, 57, 7) != 0 {
@@ -165,7 +166,7 @@ fn may_shorten(lo: u64, hi: u64) -> bool
 
 // From the low and the high 64 bits of a word.
 fn shorten_halves(dictionary: &[u8], lo: u64, hi: u64) -> Shorter
-    requires { ⌜ length (now dictionary) ≡ 512 ⌝ }
+    requires { ⌜ length (now dictionary) ≡ dictionaryBytes ⌝ }
     ensures { λ r. ⌜ shorterIs r ≡ shortenHalves (dictionaryOf (now (dictionary .entry))) lo hi ⌝ }
 {
     if !may_shorten(lo, hi) {
@@ -191,7 +192,7 @@ fn shorten_halves(dictionary: &[u8], lo: u64, hi: u64) -> Shorter
 
 // The smallest short word that expands to w, or none.
 pub fn shorten(dictionary: &[u8], w: Word) -> Shorter
-    requires { ⌜ length (now dictionary) ≡ 512 ⌝ }
+    requires { ⌜ length (now dictionary) ≡ dictionaryBytes ⌝ }
     ensures { λ r. ⌜ shorterIs r ≡ shorten (dictionaryOf (now (dictionary .entry))) (toWord w) ⌝ }
 {
     shorten_halves(dictionary, w.lo, w.hi)

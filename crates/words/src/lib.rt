@@ -1,8 +1,9 @@
-// Long words: their bytes, fields, types and operations, and what the rules ask of an operation.
+// Long words: their bytes, fields, types, operands and operations, what the rules ask of an operation, and what the bench holds.
 pub mod answer;
 pub mod bytes;
 pub mod decoded;
 pub mod fields;
+pub mod limits;
 pub mod operand;
 pub mod operation;
 pub mod region;

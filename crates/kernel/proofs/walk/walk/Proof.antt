@@ -1,14 +1,15 @@
--- The loop's invariant: any scan that says what is left of the walk from byte `from` on, after `count` instructions and with the marks made so far,
--- says what the whole parse is. The measure is what is left of the kernel. Assumes nothing.
-use mathlib.Core.Path.{_≡_, refl, sym, ap, _∙_}
+-- The loop's invariant: any answer and marks that say what is left of the walk from byte `from` on, after `count` instructions and with the marks made so
+-- far, say what the whole parse is. The measure is what is left of the kernel. Assumes nothing.
+use mathlib.Core.Path.{_≡_, sym, ap, _∙_}
 use Prim.Native.Nat.{_-_, _≤_, _<_}
 use native.Mathlib.Omega.{arith}
 use lib.ListN.{length, length-set}
 use borrow.Author.Needs.{needs}
+use Rattle.paper.specs.Limits.{instructionLimit}
 use Rattle.paper.specs.Dictionary.{dictionaryOf}
 use Rattle.paper.specs.Kernel.{judgeAt, parse}
 use Rattle.kernel.specs.Judging.{judgedIs, formsIs}
-use Rattle.kernel.specs.Marks.{blank-unmarked}
+use Rattle.kernel.specs.Marks.{placeCount, blank-length, blank-unmarked}
 use Rattle.kernel.specs.Standing.{fits}
 use Rattle.kernel.proofs.Walking.{Leads, leads-start, leads-full, leads-refused, leads-passed, leads-end}
 use Rattle.kernel.proofs.walk.walk.Statement.{statement}
@@ -17,8 +18,8 @@ use Rattle.kernel.proofs.walk.walk.Tie as tie
 abbrev Inv-loop : tie.InvT-loop
 Inv-loop long dictionary kernel marks₀ from₀ count₀ marks from count =
     (from ≤ length kernel)
-    × (count ≤ 1024)
-    × (length marks ≡ 2049)
+    × (count ≤ instructionLimit)
+    × (length marks ≡ placeCount)
     × Leads (judgeAt (formsIs long) (dictionaryOf dictionary) kernel) (length kernel) from count marks (parse (formsIs long) (dictionaryOf dictionary) kernel)
 
 abbrev μ-loop : tie.MeasureT-loop
@@ -26,15 +27,13 @@ abbrev μ-loop : tie.MeasureT-loop
 
 loop-holds : tie.Need-loop-holds Inv-loop μ-loop
 unfolding parse
-loop-holds c = (search needs, search needs, search needs, leads-start _ _ _ (blank-unmarked 2049))
-
-refuse-requires : tie.Need-refuse-requires Inv-loop μ-loop
-refuse-requires c κs = search needs
+loop-holds c =
+    let b = c .before .before .pre .2 in
+    (search needs, search needs, blank-length _ b, leads-start _ _ _ (blank-unmarked _ b))
 
 returns : tie.Need-returns Inv-loop μ-loop
 returns c =
-    let l = c .before .before .before .loop in
-    leads-full _ _ _ _ _ _ (l .inv .3) (c .before .before .loop-test .taken) (c .before .if1 .taken) _ (c .refuse .ensures)
+    leads-full _ _ _ _ _ _ (c .before .before .loop .inv .3) (c .before .loop-test .taken) (c .if1 .taken)
 
 judge-at-requires : tie.Need-judge-at-requires Inv-loop μ-loop
 judge-at-requires c κs = search needs
@@ -42,21 +41,18 @@ judge-at-requires c κs = search needs
 enum-known-number : tie.Need-enum-known-number Inv-loop μ-loop
 enum-known-number c = search needs
 
-refuse-requires-2 : tie.Need-refuse-requires-2 Inv-loop μ-loop
-refuse-requires-2 c κs = search needs
-
 returns-2 : tie.Need-returns-2 Inv-loop μ-loop
 returns-2 c =
-    let l = c .before .before .before .before .before .before .before .loop in
-    let j = sym (c .before .before .before .before .judge-at .ensures) ∙ ap judgedIs (c .before .before .number .given .1) in
-    let h : l .count < 1024 = omega (arith, c .before .before .before .before .before .if1 .left) in
-    leads-refused _ _ _ _ _ _ (l .inv .3) (c .before .before .before .before .before .before .loop-test .taken) h _ j _ (c .refuse2 .ensures)
+    let l = c .before .before .before .before .before .before .loop in
+    let j = sym (c .before .before .before .judge-at .ensures) ∙ ap judgedIs (c .before .number .given .1) in
+    let h : l .count < instructionLimit = omega (arith, c .before .before .before .before .if1 .left) in
+    leads-refused _ _ _ _ _ _ (l .inv .3) (c .before .before .before .before .before .loop-test .taken) h _ j
 
 enum-known-size : tie.Need-enum-known-size Inv-loop μ-loop
 enum-known-size c = search needs
 
-array-write-marks : tie.Need-array-write-marks Inv-loop μ-loop
-array-write-marks c = search needs
+element-write-marks : tie.Need-element-write-marks Inv-loop μ-loop
+element-write-marks c = search needs
 
 add-count : tie.Need-add-count Inv-loop μ-loop
 add-count c = search needs
@@ -87,20 +83,20 @@ loop-again c =
     let t = c .before .before .before .before .before .loop-test .taken in
     let j = sym (c .before .before .before .judge-at .ensures) ∙ ap judgedIs (c .before .size .given .1) in
     let f = fits _ _ _ _ _ _ t j in
-    let h : l .count < 1024 = omega (arith, c .before .before .before .before .if1 .left) in (
+    let h : l .count < instructionLimit = omega (arith, c .before .before .before .before .if1 .left) in (
       f .room,
       omega arith,
       simp length-set (l .inv .2),
       leads-passed _ _ _ _ _ _ (l .inv .3) t h _ _ j (omega arith) (l .inv .2),
     )
 
-array-write-marks-2 : tie.Need-array-write-marks-2 Inv-loop μ-loop
-array-write-marks-2 c = search needs
+element-write-marks-2 : tie.Need-element-write-marks-2 Inv-loop μ-loop
+element-write-marks-2 c = search needs
 
 returns-3 : tie.Need-returns-3 Inv-loop μ-loop
 returns-3 c =
     let l = c .before .loop in
-    leads-end _ _ _ _ _ _ (l .inv .3) (c .loop-test .left) (omega arith) (l .inv .2) _ refl refl refl
+    leads-end _ _ _ _ _ _ (l .inv .3) (c .loop-test .left) (omega arith) (l .inv .2)
 
 pub walk-spec : {M : Type 1} → statement M
 walk-spec =
@@ -109,19 +105,17 @@ walk-spec =
     Inv-loop
     μ-loop
     loop-holds
-    refuse-requires
     returns
     judge-at-requires
     enum-known-number
-    refuse-requires-2
     returns-2
     enum-known-size
-    array-write-marks
+    element-write-marks
     add-count
     cast-from
     mul-from
     add-from
     loop-less
     loop-again
-    array-write-marks-2
+    element-write-marks-2
     returns-3)

@@ -1,4 +1,4 @@
--- The test for 42 bytes is the call's, and the state that is then written is the start's. Assumes nothing.
+-- The test of their count is the call's, and the state that is then written is the start's. Assumes nothing.
 use mathlib.Core.Path.{refl, ap, _∙_}
 use mathlib.Core.List.{[]}
 use borrow.Author.Tests.{eq-eqb, ne-eqb}

@@ -5,6 +5,7 @@ use native.Mathlib.Omega.{arith}
 use lib.ListN.{length, length-set}
 use borrow.Author.Needs.{needs}
 use Rattle.paper.specs.Dictionary.{dictionaryOf}
+use Rattle.kernel.specs.Marks.{placeCount}
 use Rattle.packer.specs.Forms.{formOf, kernelOf}
 use Rattle.packer.specs.Stages.{Stage, PlacedTo, stage-start, stage-inside, stage-few, stage-whole, stage-next, end-to, placed-start, placed-next, placed-end}
 use Rattle.packer.proofs.place.place_all.Statement.{statement}
@@ -12,7 +13,7 @@ use Rattle.packer.proofs.place.place_all.Tie as tie
 
 abbrev Inv-loop : tie.InvT-loop
 Inv-loop packs dictionary kernel places₀ from₀ to₀ places from to =
-    (length places ≡ 2049)
+    (length places ≡ placeCount)
     × Stage (formOf packs (dictionaryOf dictionary)) (kernelOf packs dictionary kernel) from to
     × PlacedTo (formOf packs (dictionaryOf dictionary)) (kernelOf packs dictionary kernel) places (from / 8)
 

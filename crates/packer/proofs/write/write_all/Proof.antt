@@ -43,11 +43,11 @@ rewrite-requires c κs =
     let l = c .before .before .before .before .loop in
     let t = c .before .before .before .loop-test .taken in
     let f = c .before .before .word-at .ensures in
-    let few = stage-few _ _ _ _ k _ _ _ (l .inv .0) in (
+    let n = stage-next _ _ _ _ k _ _ _ (l .inv .0) t _ _ f _ _ (c .before .form .ensures) (c .places-taken .ensures .0) in (
       omega (arith, t, k .sizes .kernel-most),
-      omega (arith, f .few),
-      omega (arith, few),
-      omega (arith, few, c .places-taken .ensures .2),
+      f .few,
+      stage-few _ _ _ _ k _ _ _ (l .inv .0),
+      stage-few _ _ _ _ k _ _ _ n,
       targets-reach _ _ _ _ k _ _ _ (l .inv .0) t _ _ f (c .before .before .before .before .before .before .before .before .args .places .now) (c .before .before .before .before .before .before .before .before .pre .1 .0),
     )
 

@@ -1,11 +1,12 @@
 -- The loop stays within both. Its measure: the bytes left. Assumes nothing.
 use borrow.Author.Needs.{needs}
 use Prim.Native.Nat.{_≤_, _-_}
+use Rattle.rows.specs.Sizes.{longest}
 use Rattle.rows.proofs.bytes.copy.Statement.{statement}
 use Rattle.rows.proofs.bytes.copy.Tie as tie
 
 abbrev Inv-loop : tie.InvT-loop
-Inv-loop board table₀ size n i₀ table i = (i ≤ n) × (n ≤ 16400)
+Inv-loop board table₀ size n i₀ table i = (i ≤ n) × (n ≤ longest)
 
 abbrev μ-loop : tie.MeasureT-loop
 μ-loop board table₀ size n i₀ table i = n - i

@@ -28,17 +28,14 @@ element-copy-out-place c = search needs
 bit-requires : tie.Need-bit-requires Inv-loop μ-loop
 bit-requires c κs = search needs
 
-is-marked-requires : tie.Need-is-marked-requires Inv-loop μ-loop
-is-marked-requires c κs = search needs
-
-chosen-requires : tie.Need-chosen-requires Inv-loop μ-loop
-chosen-requires c κs = search needs
+rests-requires : tie.Need-rests-requires Inv-loop μ-loop
+rests-requires c κs = search needs
 
 returns : tie.Need-returns Inv-loop μ-loop
 returns c =
-    let l = c .before .before .before .before .before .before .loop in
-    let e = rw (c .before .before .before .bit .ensures, c .before .before .is-marked .ensures) at (c .before .chosen .ensures) in
-    sym (l .inv .1 ∙ waits-out _ _ _ (c .before .before .before .before .before .loop-test .taken) (sym e ∙ not-true _ (c .if1 .taken)))
+    let l = c .before .before .before .before .before .loop in
+    let e = rw (c .before .before .bit .ensures) at (c .before .rests .ensures) in
+    sym (l .inv .1 ∙ waits-out _ _ _ (c .before .before .before .before .loop-test .taken) (sym e ∙ not-true _ (c .if1 .taken)))
 
 add-n : tie.Need-add-n Inv-loop μ-loop
 add-n c = search needs
@@ -48,9 +45,9 @@ loop-less c = search needs
 
 loop-again : tie.Need-loop-again Inv-loop μ-loop
 loop-again c =
-    let l = c .before .before .before .before .before .before .loop in
-    let e = rw (c .before .before .before .bit .ensures, c .before .before .is-marked .ensures) at (c .before .chosen .ensures) in
-    (omega (arith, c .before .before .before .before .before .loop-test .taken), l .inv .1 ∙ waits-on _ _ _ (c .before .before .before .before .before .loop-test .taken) (sym e ∙ not-false _ (c .if1 .left)))
+    let l = c .before .before .before .before .before .loop in
+    let e = rw (c .before .before .bit .ensures) at (c .before .rests .ensures) in
+    (omega (arith, c .before .before .before .before .loop-test .taken), l .inv .1 ∙ waits-on _ _ _ (c .before .before .before .before .loop-test .taken) (sym e ∙ not-false _ (c .if1 .left)))
 
 returns-2 : tie.Need-returns-2 Inv-loop μ-loop
 returns-2 c = sym (c .before .loop .inv .1 ∙ waits-none _ _ _ (c .loop-test .left))
@@ -65,8 +62,7 @@ all-rest-spec =
     mul-place
     element-copy-out-place
     bit-requires
-    is-marked-requires
-    chosen-requires
+    rests-requires
     returns
     add-n
     loop-less

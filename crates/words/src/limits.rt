@@ -1,0 +1,22 @@
+// What the bench holds: the sizes and limits of the paper, each named once for the code.
+
+// The register file: r0 to r127, 32 bytes each.
+pub const REGISTER_BYTES: usize = 4096;
+
+// The dictionary as it is lent: 128 numbers of four bytes.
+pub const DICTIONARY_BYTES: usize = 512;
+
+// The state as it is lent.
+pub const STATE_LENGTH: usize = 42;
+
+// A kernel's bytes, at the most.
+pub const KERNEL_BYTES: usize = 16384;
+
+// A kernel's instructions, at the most.
+pub const INSTRUCTION_LIMIT: u64 = 1024;
+
+// A run's budget, at the most.
+pub const BUDGET_LIMIT: u64 = 1000000;
+
+// The places of the longest kernel, of 8 bytes each, and its end.
+pub const PLACES: usize = KERNEL_BYTES / 8 + 1;
