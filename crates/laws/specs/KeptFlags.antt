@@ -36,7 +36,7 @@ effectBefore w awake st = elim (operation w) [ plain p ↦ plainBefore p w awake
 
 -- ---- where the two differ
 
--- Whether an operation compares: of all, cmp alone.
+-- Whether an operation compares, by its traits: cmp does, and no other.
 unfoldable pub comparing : Operation → Bool
 comparing o = elim o [ plain p ↦ traits p .compares | nop ↦ false | branch b ↦ false | unlisted ↦ false ]
 
@@ -92,7 +92,7 @@ module _ (w : ℕ) (awake : List Bool) (st : Store) where
       let k = kept-bit (leb (channelOf w 0) m && ltb m (channelOf w 0 + channels w)) (enabled Plain.cmp w awake st m) (finds w st m) (bit (chosenFlag w st) m) e in
       (bit-ofBits _ 16 m h ∙ k .0, bit-ofBits _ 16 m h ∙ k .1)
 
-  -- What no comparison is has the effect that it had.
+  -- What does not compare has the effect that it had.
   pub others-same : comparing (operation w) ≡ false → effect w awake st ≡ effectBefore w awake st
   unfolding effect effectBefore plainEffect plainBefore comparing
   others-same = go (operation w)
