@@ -34,7 +34,7 @@ field-less first n h =
     omega (arith, inside, pow-mono {i = n + first} {j = 16} (omega arith))
 
 -- So have the enabled channels in it.
-pub enabled-less : (first n enable : ℕ) → first + n ≤ 16 → enabledField first n enable < 2 ^ 16
+enabled-less : (first n enable : ℕ) → first + n ≤ 16 → enabledField first n enable < 2 ^ 16
 unfolding enabledField
 enabled-less first n enable h = lt-of-le-of-lt (and-le-r enable (field first n)) (field-less first n h)
 
