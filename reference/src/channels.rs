@@ -48,7 +48,7 @@ fn execute_channels<const N: usize>(
         Operation::Sel => awake,
         _ => awake & holding,
     };
-    if enabled == 0 && instruction.operation != Operation::Cmp {
+    if enabled == 0 {
         return;
     }
     let left = load::<N>(registers, &instruction.sources[0]);
@@ -59,7 +59,7 @@ fn execute_channels<const N: usize>(
             let results = compare(&left, &right, instruction.condition);
             let bits = mask_of(&results) & enabled;
             let flag = &mut state.flags[instruction.predicate.flag];
-            *flag = (*flag & !(own << first)) | (bits << first);
+            *flag = (*flag & !(enabled << first)) | (bits << first);
             results
         }
         operation => combine(operation, left, &right),

@@ -93,9 +93,8 @@ fn execute(instruction: &Instruction, registers: &mut [u8], state: &mut State) {
         if enabled {
             results.push((n, value));
         }
-        if instruction.operation == Operation::Cmp {
-            let bit = (enabled && value == 1) as u16;
-            flag = (flag & !(1 << channel)) | (bit << channel);
+        if enabled && instruction.operation == Operation::Cmp {
+            flag = (flag & !(1 << channel)) | ((value as u16) << channel);
         }
     }
     state.flags[word.flag_choice() as usize] = flag;

@@ -3,9 +3,13 @@
 
 use spokeshaver_reference::answers::Answer;
 use spokeshaver_reference::calls;
+use spokeshaver_reference::dictionary::Dictionary;
 use spokeshaver_reference::generate::{
     case, lent, perform, possible, Call, Case, Outcome, Reference,
 };
+use spokeshaver_reference::operations::Operation;
+use spokeshaver_reference::rules::{read_kernel, Accepts, Instruction};
+use spokeshaver_reference::state::State;
 use std::collections::{BTreeMap, BTreeSet};
 
 const SEEDS: u64 = 27_000;
@@ -83,6 +87,45 @@ fn runs_are_so_many_steps() {
         }
         assert_eq!((registers, state), (after.registers, after.state), "seed {seed}");
     }
+}
+
+/// The instruction that a case's call of step makes, and the state before it with the waiting
+/// channels woken. None if the call makes no step.
+fn stepped(case: &Case) -> Option<(Instruction, State)> {
+    let Call::Step { kernel, state, .. } = &case.call else { return None };
+    if Answer::of(outcome(case).answer).number != 0 {
+        return None;
+    }
+    let dictionary = Dictionary::read(&case.dictionary).ok()?;
+    let program = read_kernel(kernel, &dictionary, Accepts::LongAndShort).ok()?;
+    let mut state = State::from_bytes(state);
+    let instruction = program.instructions[program.index_of(state.place as usize)?];
+    state.wake_at(instruction.place);
+    Some((instruction, state))
+}
+
+/// A cmp comes up that has a disabled channel whose flag bit is 1: by the mask and by the
+/// predicate, in both quarters, in both flags.
+#[test]
+fn masked_compares_of_set_flags_come_up() {
+    let mut seen: BTreeMap<(&str, u32, u32), usize> = BTreeMap::new();
+    let cases = (7..SEEDS).step_by(9).filter_map(|seed| stepped(&case(seed)));
+    for (instruction, state) in cases.filter(|(made, _)| made.operation == Operation::Cmp) {
+        let word = instruction.word;
+        let (quarter, choice) = (word.quarter_control(), word.flag_choice());
+        let size = 1u32 << word.execution_size_code();
+        let own = (((1u32 << size) - 1) << (8 * quarter)) as u16;
+        let set = own & state.flags[choice as usize];
+        let inverted = word.predicate_control() == 1 && word.predicate_inverse() == 1;
+        if word.write_enable_control() == 0 && set & !state.awake != 0 {
+            *seen.entry(("mask", quarter, choice)).or_default() += 1;
+        }
+        if inverted && set & (state.awake | word.write_enable_control() as u16 * 0xFFFF) != 0 {
+            *seen.entry(("predicate", quarter, choice)).or_default() += 1;
+        }
+    }
+    println!("{seen:?}");
+    assert_eq!(seen.len(), 8);
 }
 
 /// Packing and unpacking again gives the first kernel back.

@@ -310,12 +310,14 @@ fn compare_word(channels: u32, element: ElementType) -> LongWord {
 }
 
 #[test]
-fn cmp_clears_only_its_disabled_channels() {
-    let (flag, results) = compare(compare_word(8, W).second_quarter(), 0x03FF, 0xFFFF);
-    assert_eq!(flag, 0x03FF);
-    assert_eq!(results[..8], [1, 1, 9, 9, 9, 9, 9, 9]);
+fn cmp_keeps_the_flags_of_disabled_channels() {
+    let (flag, results) = compare(compare_word(8, W).second_quarter(), 0x33FF, 0xFFFF);
+    assert_eq!(flag, 0xCFFF);
+    assert_eq!(results[..8], [1, 1, 9, 9, 0, 0, 9, 9]);
     let (flag, _) = compare(compare_word(8, W).predicated(0, false), 0xFFFF, 0xFFF2);
     assert_eq!(flag, 0xFF02);
+    let (flag, _) = compare(compare_word(8, W).predicated(0, true), 0xFFFF, 0xFF32);
+    assert_eq!(flag, 0xFF3F);
     let (flag, _) = compare(compare_word(8, W).write_enabled(), 0, 0xAA00);
     assert_eq!(flag, 0xAA0F);
 }

@@ -79,4 +79,4 @@ module _ (w : ℕ) (st : Store) (awake : List Bool) (mask : ℕ) (fits : channel
       ≡ flagAfter old (channelOf w 0) (channels w) (enabled p w awake st) found
   flag-masked p old result found h =
       flag-same old (channelOf w 0) (channels w) (bit (enableOf p w mask st)) (enabled p w awake st) (bit result) found
-      (λ m from before less. cc (bit-enable p w awake mask st m less (agrees m less), h m from before))
+      (λ m from before less. (bit-enable p w awake mask st m less (agrees m less), h m from before))

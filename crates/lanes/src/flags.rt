@@ -10,12 +10,13 @@ pub struct Flags {
     pub flag1: u64,
 }
 
-// A flag after cmp on n channels from `first` on: their bits are the results where enabled, else 0; the other bits stay.
+// A flag after cmp on n channels from `first` on: the bits of the enabled ones are their results; all other bits stay.
 // Enabled channels and results are masks by channel number.
 pub fn flag_after(old: u64, first: u64, n: u64, enable: u64, result: u64) -> u64
     requires { ⌜ first + n ≤ 16 ⌝ }
     ensures { λ r. ⌜ (r ≡ flagAfter old first n (bit enable) (bit result)) × (r < 65536) ⌝ }
 {
     let field = ((1 << n) - 1) << first;
-    (old & (65535 - field)) | ((enable & result) & field)
+    let written = enable & field;
+    (old & (65535 - written)) | (result & written)
 }

@@ -31,4 +31,5 @@ pub mod Halfwords
 pub mod StateBytes
 pub mod Calls
 pub mod Lasting
+pub mod KeptFlags
 pub mod Demands

@@ -45,9 +45,9 @@ unfoldable pub ofBits : (ℕ → Bool) → ℕ → ℕ
 ofBits f zero = 0
 ofBits f (suc n) = digit (f n) at n + ofBits f n
 
--- Bit m of a flag after a cmp on n channels from `first` on: an enabled channel's result, 0 for a disabled one. Other bits stay.
+-- Bit m of a flag after a cmp on n channels from `first` on: an enabled channel's result. The bits of its disabled channels stay, as all others do (02 §4).
 unfoldable pub flagBit : ℕ → ℕ → ℕ → (ℕ → Bool) → (ℕ → Bool) → ℕ → Bool
-flagBit old first n on result m = cond (leb first m && ltb m (first + n)) (on m && result m) (bit old m)
+flagBit old first n on result m = cond ((leb first m && ltb m (first + n)) && on m) (result m) (bit old m)
 
 unfoldable pub flagAfter : ℕ → ℕ → ℕ → (ℕ → Bool) → (ℕ → Bool) → ℕ
 flagAfter old first n on result = ofBits (flagBit old first n on result) 16

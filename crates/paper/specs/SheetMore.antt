@@ -122,10 +122,14 @@ rowsEnable =
 
 unfoldable pub rowsFlag : List Row
 rowsFlag =
-    -- r2's bytes are 0, 1, 2, … : cmp.z holds for channel 0 alone; disabled channels' bits are cleared, and only the chosen flag changes
+    -- r2's bytes are 0, 1, 2, … : cmp.z holds for channel 0 alone, and only the chosen flag changes
     (masks (one (against 1 4) (ramp 16 1 64 0 1 clear) (begin 0xFFFF 0xFFFF 0xABCD)) gives 1 ∷ 0 ∷ 0xCD ∷ 0xAB ∷ 2 ∷ 0 ∷ 0xFF ∷ 0xFF ∷ 0 ∷ 0 ∷ [])
-    ∷ (masks (one (against 2 4) (ramp 16 1 64 0 1 clear) (begin 0x00FF 0xFFFF 0)) gives 0xFE ∷ 0 ∷ 0 ∷ 0 ∷ 2 ∷ 0 ∷ 0xFF ∷ 0 ∷ 0 ∷ 0 ∷ [])
     ∷ (masks (one (against 2 4 + 1 at 89) (ramp 16 1 64 0 1 clear) (begin 0xFFFF 5 6)) gives 5 ∷ 0 ∷ 0xFE ∷ 0xFF ∷ 2 ∷ 0 ∷ 0xFF ∷ 0xFF ∷ 0 ∷ 0 ∷ [])
+    -- the bits of disabled channels stay: half of the channels off; so in f0.1, and in the second quarter; and where the inverted predicate fails
+    ∷ (masks (one (against 1 4) (ramp 16 1 64 0 1 clear) (begin 0x00FF 0xFFFF 0xFFFF)) gives 1 ∷ 0xFF ∷ 0xFF ∷ 0xFF ∷ 2 ∷ 0 ∷ 0xFF ∷ 0 ∷ 0 ∷ 0 ∷ [])
+    ∷ (masks (one (against 1 4 + 1 at 89) (ramp 16 1 64 0 1 clear) (begin 0x00FF 5 0xFFFF)) gives 5 ∷ 0 ∷ 1 ∷ 0xFF ∷ 2 ∷ 0 ∷ 0xFF ∷ 0 ∷ 0 ∷ 0 ∷ [])
+    ∷ (masks (one (against 1 3 + 1 at 12) (ramp 16 1 64 0 1 clear) (begin 0x0FFF 0xFFFF 0)) gives 0xFF ∷ 0xF1 ∷ 0 ∷ 0 ∷ 2 ∷ 0 ∷ 0xFF ∷ 0x0F ∷ 0 ∷ 0 ∷ [])
+    ∷ (masks (one (against 1 4 + 1 at 16 + 1 at 20) (ramp 16 1 64 0 1 clear) (begin 0xFFFF 0xA55A 0)) gives 0x5B ∷ 0xA5 ∷ 0 ∷ 0 ∷ 2 ∷ 0 ∷ 0xFF ∷ 0xFF ∷ 0 ∷ 0 ∷ [])
     -- of eight channels the other eight bits stay
     ∷ (masks (one (against 2 3) (ramp 16 1 64 0 1 clear) (begin 0xFFFF 0xA55A 0)) gives 0xFE ∷ 0xA5 ∷ 0 ∷ 0 ∷ 2 ∷ 0 ∷ 0xFF ∷ 0xFF ∷ 0 ∷ 0 ∷ [])
     ∷ (masks (one (against 2 3 + 1 at 12) (ramp 16 1 64 0 1 clear) (begin 0xFFFF 0x00A5 0)) gives 0xA5 ∷ 0xFE ∷ 0 ∷ 0 ∷ 2 ∷ 0 ∷ 0xFF ∷ 0xFF ∷ 0 ∷ 0 ∷ [])

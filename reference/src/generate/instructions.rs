@@ -87,16 +87,18 @@ fn attempt(random: &mut Random, operation: Operation) -> LongWord {
     }
 }
 
-/// Size, quarter, mask control, predicate, condition and saturation.
+/// Size, quarter, mask control, predicate, condition and saturation. Quarter and predicate are
+/// more common on cmp, whose flag hangs on them.
 fn controls(random: &mut Random, operation: Operation, size: u32) -> LongWord {
+    let seldom = if operation == Operation::Cmp { 2 } else { 3 };
     let mut made = word(operation, 1 << size).with_field(89, 89, random.bits(1));
-    if size == 3 && random.once_in(3) {
+    if size == 3 && random.once_in(seldom) {
         made = made.second_quarter();
     }
     if random.once_in(6) {
         made = made.write_enabled();
     }
-    if operation == Operation::Sel || random.once_in(3) {
+    if operation == Operation::Sel || random.once_in(seldom) {
         let inverted = random.once_in(2);
         made = made.predicated(random.bits(1), inverted);
     }

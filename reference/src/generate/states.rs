@@ -26,7 +26,7 @@ fn filling(random: &mut Random, length: usize) -> Vec<u8> {
 pub fn state_for(random: &mut Random, pair: &Pair, registers: &[u8]) -> Vec<u8> {
     let read = read_kernel(&pair.kernel, &pair.dictionary, Accepts::LongAndShort);
     let Ok(program) = read else { return any_bytes(random) };
-    let fresh = State::start(mask(random), random.bits(16) as u16, random.bits(16) as u16);
+    let fresh = State::start(mask(random), flag(random), flag(random));
     let state = match random.below(10) {
         0..=2 => fresh,
         3..=5 if registers.len() == FILE_BYTES => advanced(random, fresh, &program, registers),
@@ -45,6 +45,15 @@ pub fn mask(random: &mut Random) -> u16 {
         0..=2 => 0xFFFF,
         3 => 0,
         _ => random.bits(16) as u16,
+    }
+}
+
+/// A flag: any, at times with every bit set.
+fn flag(random: &mut Random) -> u16 {
+    if random.once_in(4) {
+        0xFFFF
+    } else {
+        random.bits(16) as u16
     }
 }
 

@@ -37,7 +37,21 @@ impl Candidate {
         start: [u16; 3],
         seed: u64,
     ) -> Option<Candidate> {
-        let program = read_kernel(&long, dictionary, Accepts::LongOnly).ok()?;
+        let (name, tags) = (name.to_string(), Vec::new());
+        let bytes = dictionary.to_bytes();
+        let kernel = Kernel { name, tags, dictionary: bytes, start, seed, long };
+        Candidate::with_budgets(kernel, dictionary, budgets)
+    }
+
+    /// The candidate of a kernel under its dictionary, with the budgets that its run asks for.
+    /// Its tags are told anew.
+    pub fn with_budgets(
+        kernel: Kernel,
+        dictionary: &Dictionary,
+        budgets: impl Fn(&Trace) -> Vec<u64>,
+    ) -> Option<Candidate> {
+        let Kernel { start, seed, ref long, .. } = kernel;
+        let program = read_kernel(long, dictionary, Accepts::LongOnly).ok()?;
         let trace = trace(&program, start, &mut registers(seed), LIMIT);
         let plain = program.instructions.iter().all(is_plain);
         let budgets = budgets(&trace);
@@ -47,8 +61,7 @@ impl Candidate {
         features.extend(of_kernel(&program, dictionary));
         features.insert(of_mask(start[0]));
         features.extend(trace.features);
-        let (name, dictionary) = (name.to_string(), dictionary.to_bytes());
-        let kernel = Kernel { name, tags, dictionary, start, seed, long };
+        let kernel = Kernel { tags, ..kernel };
         let instructions = program.instructions.len();
         Some(Candidate { kernel, budgets, features, instructions, plain, ends_after })
     }
@@ -77,7 +90,7 @@ fn tags(trace: &Trace, plain: bool) -> Vec<String> {
     let regions = if plain { "plain" } else { "odd-region" };
     let mut tags = vec![regions.to_string()];
     tags.extend(trace.masked_cmp.then(|| "masked-cmp".to_string()));
-    tags.extend(trace.flag_cleared.then(|| "flag-cleared".to_string()));
+    tags.extend(trace.flag_kept.then(|| "flag-kept".to_string()));
     tags
 }
 
@@ -88,12 +101,11 @@ fn of_run(trace: &Trace, budgets: &[u64]) -> BTreeSet<Feature> {
         let ends = trace.ended && budget >= trace.steps;
         found.insert(("run", if ends { "ended" } else { "spent" }.to_string()));
         let name = match budget {
-            0 => "0",
-            1 => "1",
-            _ if ends => "to-the-end",
-            _ => "few",
+            0 | 1 | BUDGET_LIMIT => budget.to_string(),
+            _ if ends => "to-the-end".to_string(),
+            _ => "few".to_string(),
         };
-        found.insert(("budget", name.to_string()));
+        found.insert(("budget", name));
         if trace.waiting.contains(&budget.min(trace.steps)) {
             found.insert(("channels", "wait-at-a-stored-budget".to_string()));
         }

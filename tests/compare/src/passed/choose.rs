@@ -5,6 +5,8 @@ use crate::candidate::{Candidate, FEW};
 use crate::coverage::Coverage;
 use crate::features::{broken_by, is_plain};
 use crate::handmade;
+use crate::text::Record;
+use crate::trace::Trace;
 use spokeshaver_reference::assemble::{kernel_of, DictionaryBuilder, RegionCodes};
 use spokeshaver_reference::dictionary::{Dictionary, DICTIONARY_BYTES};
 use spokeshaver_reference::generate::{case, Call};
@@ -35,6 +37,22 @@ pub fn chosen() -> (Vec<Candidate>, Coverage) {
         chosen.extend(best(pool, &mut coverage));
     }
     (chosen, coverage)
+}
+
+/// The stored kernels with their budgets, and what they show together now.
+pub fn kept(records: &[Record]) -> Result<(Vec<Candidate>, Coverage), String> {
+    let mut coverage = Coverage::default();
+    let mut kept = Vec::new();
+    for (kernel, stored) in records {
+        let budgets = |_: &Trace| stored.runs.iter().map(|run| run.budget).collect();
+        let dictionary = Dictionary::read(&kernel.dictionary).ok();
+        let found = dictionary
+            .and_then(|dictionary| Candidate::with_budgets(kernel.clone(), &dictionary, budgets));
+        let candidate = found.ok_or(format!("{} is refused", kernel.name))?;
+        coverage.add(&candidate.features, candidate.plain);
+        kept.push(candidate);
+    }
+    Ok((kept, coverage))
 }
 
 /// The kernels of the generator that are accepted: as they are, and with plain regions.

@@ -79,15 +79,15 @@ const JUMPS: [&str; 14] = [
     "while-backward",
 ];
 
-/// Why a cmp passes over channels, and that it clears their flag bits thereby. By a plain
-/// predicate it never clears: the bits are 0 already.
+/// Why a cmp passes over channels, and that it keeps flag bits of theirs that are 1. By a plain
+/// predicate there are none: the bits are 0.
 const CMPS: [&str; 6] = [
     "disabled-predicate",
     "disabled-off",
     "disabled-waiting",
-    "cleared-predicate",
-    "cleared-off",
-    "cleared-waiting",
+    "kept-predicate",
+    "kept-off",
+    "kept-waiting",
 ];
 
 impl Coverage {

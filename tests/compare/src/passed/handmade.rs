@@ -1,5 +1,5 @@
 //! Kernels written as text, for what the generator seldom makes: counted loops, blocks in
-//! blocks, a region by columns, equal values for every condition, flags that a cmp clears.
+//! blocks, a region by columns, equal values for every condition, flags that a cmp keeps.
 
 use crate::candidate::Candidate;
 use spokeshaver_reference::assemble::DictionaryBuilder;
@@ -31,9 +31,9 @@ const TEXTS: [Text; 15] = [
     ("loop-in-loop", LOOP_IN_LOOP, [0xFFFF, 0, 0], SMALL),
     ("blocks-in-blocks", BLOCKS, [0x7FFE, 0xA5A5, 0x0FF0], SMALL),
     ("counted-jump", COUNTED_JUMP, [0x0001, 0, 0], ANY),
-    ("cleared-by-mask", CLEARED_BY_MASK, [0x0F0F, 0xFFFF, 0xFFFF], EDGES),
-    ("cleared-by-predicate", CLEARED_BY_PREDICATE, [0xFFFF, 0xF0F0, 0x3333], EDGES),
-    ("cleared-while-waiting", CLEARED_WHILE_WAITING, [0xFFFF, 0x5555, 0xFFFF], SMALL),
+    ("kept-by-mask", KEPT_BY_MASK, [0x0F0F, 0xFFFF, 0xFFFF], EDGES),
+    ("kept-by-predicate", KEPT_BY_PREDICATE, [0xFFFF, 0xF0F0, 0x3333], EDGES),
+    ("kept-while-waiting", KEPT_WHILE_WAITING, [0xFFFF, 0x5555, 0xFFFF], SMALL),
 ];
 
 /// Two arms, as in row H of the bench sheet.
@@ -47,7 +47,7 @@ joined:
 endif(16) out
 out:";
 
-/// Only off channels: endif jumps, cmp clears, nothing is written.
+/// Only off channels: endif jumps, cmp changes no flag, nothing is written.
 const NO_CHANNEL: &str = "
 endif(16) out
 mov(16) r4<1>:w 1:w
@@ -137,22 +137,22 @@ mov(8) r11<1>:ud 0:ud
 out:
 not(8) r12<1>:ud r11<8;8,1>:ud";
 
-/// cmp clears the flag bits of channels that are off.
-const CLEARED_BY_MASK: &str = "
+/// cmp keeps the flag bits of channels that are off.
+const KEPT_BY_MASK: &str = "
 cmp.ge(16) f0.0 r10<1>:w r2<16;16,1>:w r3<16;16,1>:w
 (+f0.0) mov(16) r11<1>:w r2<16;16,1>:w
 cmp.l(8) f0.1 null:d r4<8;8,1>:d r5<8;8,1>:d
 (-f0.1) sel(16) r12<1>:b r6<16;16,1>:b r7<16;16,1>:b";
 
-/// cmp clears the flag bits of channels whose inverted predicate fails.
-const CLEARED_BY_PREDICATE: &str = "
+/// cmp keeps the flag bits of channels whose inverted predicate fails.
+const KEPT_BY_PREDICATE: &str = "
 (-f0.0) cmp.nz(16) f0.0 r10<1>:ub r2<16;16,1>:ub r3<16;16,1>:ub
 (+f0.0) cmp.g(16) f0.0 r11<1>:w r4<16;16,1>:w 0:w
 (-f0.1) cmp.le(8) f0.1 null:w r5<8;8,1>:w r6<0;1,0>:w
 (+f0.1) add.sat(16) r12<1>:ub r2<16;16,1>:ub r3<16;16,1>:ub";
 
-/// cmp in an arm clears the flag bits of channels that wait for the other.
-const CLEARED_WHILE_WAITING: &str = "
+/// cmp in an arm keeps the flag bits of channels that wait for the other.
+const KEPT_WHILE_WAITING: &str = "
 (+f0.0) if(16) other
 cmp.l(16) f0.1 r10<1>:w r2<16;16,1>:w r3<16;16,1>:w
 cmp.z(16) f0.0 null:w r4<16;16,1>:w 1:w

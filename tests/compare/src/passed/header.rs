@@ -7,7 +7,7 @@ use crate::text::Record;
 const FIELDS: &str = "\
 Kernels that passed, and what the archive made of them. Later benches must make the same.
 tests/run holds the archive to this file; 'tests/run store' writes it anew, which is only for
-what has been decided to change. The tool is tests/compare/src/passed.
+what has been decided to change; kernels and budgets stay. The tool is tests/compare/src/passed.
 
 Lines and their fields. Numbers are hexadecimal, but for those of dictionaries and kernels,
 budgets and the closing count, which are decimal. Bytes stand in the order of their addresses.
@@ -44,7 +44,7 @@ plain         each register source that is read, with E channels and region <V;W
               if V = H = 0 then W = 1
 odd-region    some source does not
 masked-cmp    in the longest stored run a cmp had a disabled channel
-flag-cleared  and the flag bit of that channel was 1 before, so that the cmp cleared it
+flag-kept     and the flag bit of that channel was 1 before, which the cmp kept
 
 What is stored, a line to a group: of all records / of the plain ones, how many show it. An
 instruction shows what it has if it ran in the longest stored run, with a channel enabled.";
@@ -58,7 +58,7 @@ pub fn header(records: &[Record], coverage: &Coverage) -> String {
         let plain = |record: &&Record| tagged(record) && record.0.tags[0] == "plain";
         format!("{tag} {count}/{}", records.iter().filter(plain).count())
     };
-    let tags = ["plain", "odd-region", "masked-cmp", "flag-cleared"].map(with).join(", ");
+    let tags = ["plain", "odd-region", "masked-cmp", "flag-kept"].map(with).join(", ");
     lines.push(format!("records: {}; {tags}", records.len()));
     lines.push(words(records));
     lines.extend(coverage.lines());

@@ -1,8 +1,9 @@
 //! Kernels that passed, and must go on to: the archive is held to what it once made of them.
 //!
 //! `passed check FILE COMMAND..` asks the archive again and compares everything with the file.
-//! `passed make FILE COMMAND..` chooses kernels, asks the archive, sees that the reference
-//! agrees and that nothing is left uncovered, and writes the file. The command starts
+//! `passed again FILE COMMAND..` keeps the file's kernels and budgets, asks the archive, sees
+//! that the reference agrees and that nothing is left uncovered, and writes the file anew.
+//! `passed make FILE COMMAND..` does so with kernels that it chooses. The command starts
 //! tests/serve.c. The file's header tells its lines.
 #![forbid(unsafe_code)]
 
@@ -17,6 +18,8 @@ mod results;
 mod text;
 mod trace;
 
+use candidate::Candidate;
+use coverage::Coverage;
 use results::{alike, difference, results};
 use spokeshaver_compare::server::Server;
 use spokeshaver_reference::generate::{Bench, Case, Outcome, Reference};
@@ -30,7 +33,10 @@ fn main() {
         [verb, file, command @ ..] if verb == "check" && !command.is_empty() => {
             check(file, command)
         }
-        _ => Err("usage: passed make|check FILE COMMAND..".into()),
+        [verb, file, command @ ..] if verb == "again" && !command.is_empty() => {
+            again(file, command)
+        }
+        _ => Err("usage: passed make|again|check FILE COMMAND..".into()),
     };
     match done {
         Ok(line) => println!("passed: {line}"),
@@ -70,10 +76,15 @@ fn finished(archive: Archive) -> Result<(), String> {
     }
 }
 
+/// The records of a file.
+fn records_of(file: &str) -> Result<Vec<Record>, String> {
+    let text = std::fs::read_to_string(file).map_err(|error| format!("{file}: {error}"))?;
+    text::read(&text).map_err(|fault| format!("{file}: {fault}"))
+}
+
 /// Holds the archive to a file.
 fn check(file: &str, command: &[String]) -> Result<String, String> {
-    let text = std::fs::read_to_string(file).map_err(|error| format!("{file}: {error}"))?;
-    let records = text::read(&text).map_err(|fault| format!("{file}: {fault}"))?;
+    let records = records_of(file)?;
     let mut archive = started(command)?;
     let mut changed = 0;
     for (number, (kernel, stored)) in records.iter().enumerate() {
@@ -92,9 +103,25 @@ fn check(file: &str, command: &[String]) -> Result<String, String> {
     }
 }
 
-/// Makes a file.
+/// Makes a file of chosen kernels.
 fn make(file: &str, command: &[String]) -> Result<String, String> {
     let (chosen, coverage) = choose::chosen();
+    store(file, chosen, &coverage, command)
+}
+
+/// Makes a file anew of the kernels that it has.
+fn again(file: &str, command: &[String]) -> Result<String, String> {
+    let (kept, coverage) = choose::kept(&records_of(file)?)?;
+    store(file, kept, &coverage, command)
+}
+
+/// Asks the archive about kernels and writes the file of what it makes of them.
+fn store(
+    file: &str,
+    chosen: Vec<Candidate>,
+    coverage: &Coverage,
+    command: &[String],
+) -> Result<String, String> {
     let missing = coverage.missing();
     if !missing.is_empty() {
         return Err(format!("not covered:\n{}", missing.join("\n")));
@@ -115,7 +142,7 @@ fn make(file: &str, command: &[String]) -> Result<String, String> {
         records.push((kernel, given));
     }
     finished(archive)?;
-    let text = header::header(&records, &coverage) + &text::written(&records);
+    let text = header::header(&records, coverage) + &text::written(&records);
     if text::read(&text)? != records {
         return Err("the text does not read back".into());
     }

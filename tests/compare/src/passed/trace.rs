@@ -15,8 +15,8 @@ pub struct Trace {
     pub ended: bool,
     /// A cmp ran of which a channel was disabled.
     pub masked_cmp: bool,
-    /// The flag bit of such a channel was 1, and so was cleared.
-    pub flag_cleared: bool,
+    /// The flag bit of such a channel was 1, which the cmp kept.
+    pub flag_kept: bool,
     /// The numbers of steps after which a channel waits.
     pub waiting: BTreeSet<u64>,
     /// The instructions that ran.
@@ -88,7 +88,7 @@ impl Trace {
         }
     }
 
-    /// Whom a cmp passes over, and why, and whether it clears their flag bits thereby.
+    /// Whom a cmp passes over, and why, and whether flag bits of theirs are 1, which it keeps.
     fn see_cmp(&mut self, instruction: &Instruction, before: &State) {
         let [own, awake, holds] = masks(instruction, before);
         let flag = before.flags[instruction.word.flag_choice() as usize];
@@ -104,8 +104,8 @@ impl Trace {
                 self.add("cmp", format!("disabled-{reason}"));
             }
             if disabled & flag != 0 {
-                self.flag_cleared = true;
-                self.add("cmp", format!("cleared-{reason}"));
+                self.flag_kept = true;
+                self.add("cmp", format!("kept-{reason}"));
             }
         }
     }

@@ -1,12 +1,13 @@
--- The code's field is the ones of the channels, and what it makes of old flag, results and field is `merged`. Assumes nothing.
+-- The code's field is the ones of the channels, and what it makes of old flag, results and enabled channels in the field is `merged`. Assumes nothing.
 use mathlib.Core.Path.{_≡_, refl}
 use Prim.Native.Nat.{_-_, _*_, _%_, _^_}
 use native.Mathlib.Omega.{arith}
 use native.Mathlib.Nat.{mod-eq-of-lt}
+use lib.Bits.{and-le-r}
 use lib.Pow.{pow-pos}
 use borrow.Author.Needs.{needs}
 use Rattle.paper.specs.Bits.{bit}
-use Rattle.lanes.specs.FlagLaws.{field, field-less, merged, merged-is, flag-less}
+use Rattle.lanes.specs.FlagLaws.{field, field-less, enabledField, merged, merged-is, flag-less}
 use Rattle.lanes.proofs.Laws.{one-shl}
 use Rattle.lanes.proofs.flags.flag_after.Statement.{statement}
 use Rattle.lanes.proofs.flags.flag_after.Tie as tie
@@ -25,10 +26,12 @@ unfolding field
 made c = rw (one-shl (c .args .n) (omega arith)) (mod-eq-of-lt (omega (arith, field-less (c .args .first) (c .args .n) (omega arith))))
 
 sub-result : tie.Need-sub-result
-sub-result c = rw (made c) (omega (arith, field-less (c .args .first) (c .args .n) (omega arith)))
+sub-result c =
+    let a = c .args in
+    rw (made c) (omega (arith, and-le-r (a .enable) (field (a .first) (a .n)), field-less (a .first) (a .n) (omega arith)))
 
 returns : tie.Need-returns
-unfolding merged
+unfolding merged enabledField
 returns c =
     let a = c .args in
     rw (made c, merged-is (a .old) (a .first) (a .n) (a .enable) (a .result) (omega arith))
