@@ -25,8 +25,8 @@ pub fn is_sized(dictionary: &[u8], kernel: &[u8]) -> bool
     kernel.len() <= KERNEL_BYTES
 }
 
-// What is said of a kernel as a whole: 0 and how many instructions it has, or its refusal. The marks, lent blank, are then those of an accepted kernel's places;
-// what a refused kernel leaves in them is working storage.
+// What is said of a kernel as a whole: 0 and how many instructions it has, or its refusal. The marks are lent blank, and an accepted kernel's places, its end
+// among them, are then marked; what a refused kernel leaves in them is working storage.
 pub fn accept(long: bool, dictionary: &[u8], kernel: &[u8], marks: &mut [u8; PLACES]) -> Answer
     requires { ⌜ Blank (now marks) ⌝ }
     ensures { λ r. ⌜ Says (accepted (formsIs long) (now (dictionary .entry)) (now (kernel .entry))) r (now (marks .exit)) ⌝ }
