@@ -73,7 +73,7 @@ extern "C" {
 #define SPOKESHAVER_RESERVED_BITS 6     /* a bit is set that must be clear */
 #define SPOKESHAVER_NOT_SERVED 7        /* a field has a value that is not served */
 #define SPOKESHAVER_OPERAND_RULE 8      /* an operand rule is broken */
-#define SPOKESHAVER_REGION_SHAPE 9      /* a stride or width is undefined, the size is under the width, or the destination's stride is 0 */
+#define SPOKESHAVER_REGION_SHAPE 9      /* a stride or width is undefined, the size is under the width, a source has a shape on which the machine hangs (README), or the destination's stride is 0 */
 #define SPOKESHAVER_UNALIGNED 10        /* a subregister is no multiple of the element's size */
 #define SPOKESHAVER_OUT_OF_REACH 11     /* an operand spans more than two registers, or goes past r127 */
 #define SPOKESHAVER_STRAY_JUMP 12       /* a jump lands on no instruction's start and not on the end */

@@ -58,6 +58,23 @@ impl Region {
         })
     }
 
+    /// Whether so many channels may read the region: none under a row's width, and none of the
+    /// four shapes on which the laptops hang.
+    pub fn serves(&self, channels: usize) -> bool {
+        channels >= self.width && !self.hangs(channels)
+    }
+
+    /// The four shapes on which the laptops hang.
+    fn hangs(&self, channels: usize) -> bool {
+        let Region { vertical_stride: vertical, width, horizontal_stride: horizontal, .. } = *self;
+        let row_ends_elsewhere =
+            channels == width && horizontal != 0 && vertical != width * horizontal;
+        let column_has_stride = width == 1 && horizontal != 0;
+        let element_has_stride = channels == 1 && width == 1 && vertical != 0;
+        let scalar_is_wide = vertical == 0 && horizontal == 0 && width != 1;
+        row_ends_elsewhere || column_has_stride || element_has_stride || scalar_is_wide
+    }
+
     /// The first byte of element n.
     pub fn byte_of(&self, n: usize) -> usize {
         let row = n / self.width;

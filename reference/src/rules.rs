@@ -311,9 +311,9 @@ pub fn writes_register(word: LongWord) -> bool {
 
 /// Rule 9.
 fn regions_are_defined(word: LongWord, operation: Operation) -> bool {
-    let size = power_of_code(word.execution_size_code());
+    let size = power_of_code(word.execution_size_code()).unwrap_or(1);
     let sources_are_defined = register_sources(word, operation)
-        .all(|fields| Region::of_source(&fields).is_some_and(|region| size >= Some(region.width)));
+        .all(|fields| Region::of_source(&fields).is_some_and(|region| region.serves(size)));
     let stride_is_defined = !writes_register(word) || word.destination().stride != 0;
     sources_are_defined && stride_is_defined
 }

@@ -8,6 +8,7 @@ use Rattle.paper.specs.Operation.{Plain, Branch, Operation, plain, nop, branch,
 use Rattle.paper.specs.Region.{srcRegion, dstSize, dstOrigin, dstElement}
 use Rattle.paper.specs.Legal.{anyOf, controlServed, dstServed, srcServed, plainServed}
 use Rattle.paper.specs.Legal.{misplaced, unequalHalves, badModifier, ownRuleBroken, operandRuleBroken}
+use Rattle.paper.specs.Legal.{rowEndsElsewhere, columnHasStride, elementHasStride, scalarIsWide, hangs}
 use Rattle.paper.specs.Legal.{someOperand, srcShapeBroken, shapeBroken, unaligned, alignmentBroken, tooFar, regionTooFar, lastChannel, reachBroken}
 use Rattle.paper.specs.Legal.{reservedSet, branchServed, later, refusalOf}
 use Rattle.laws.specs.Regions.{dstRegion, destination-element}
@@ -44,6 +45,19 @@ some-operand : (p : Plain) (w : ℕ) (dst : Bool) (src : Source → Bool) → so
 some-operand p w dst src = ap (λ (b : Bool). (not (isNull w) && dst) || b) (any-source p (λ x. not (isImmediate x w) && src x))
 
 -- 9
+
+-- The four shapes, two by two.
+pub two-by-two : (size vert wide horz : ℕ)
+    → hangs size vert wide horz
+    ≡ ((rowEndsElsewhere size vert wide horz || columnHasStride size vert wide horz)
+    || (elementHasStride size vert wide horz || scalarIsWide size vert wide horz))
+unfolding hangs
+two-by-two size vert wide horz = go (rowEndsElsewhere size vert wide horz) (columnHasStride size vert wide horz) (elementHasStride size vert wide horz || scalarIsWide size vert wide horz)
+  where
+    go : (a b d : Bool) → (a || (b || d)) ≡ ((a || b) || d)
+    go true b d = refl
+    go false b d = refl
+
 pub shape-rule : (p : Plain) (w : ℕ) → shapeBroken p w ≡ operandTest p w (eqb (dstStride w) 0) (srcShapeBroken w src0) (srcShapeBroken w src1)
 unfolding shapeBroken
 shape-rule p w = some-operand p w (eqb (dstStride w) 0) (srcShapeBroken w)

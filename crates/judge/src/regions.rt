@@ -22,11 +22,14 @@ use words::region::count_of;
 use words::region::dst_region;
 use words::region::element_at;
 use words::region::src_region;
+use words::region::stride_of;
 use words::types::size_of;
+ghost use mathlib.Core.Bool.{_||_};
 ghost use mathlib.Core.Path.{_≡_};
 ghost use Prim.Native.Nat.{_<_, _≤_};
 ghost use Rattle.paper.specs.Word.{dstSubregister, srcSubregister};
 ghost use Rattle.paper.specs.Region.{dstSize, srcRegion};
+ghost use Rattle.paper.specs.Legal.{rowEndsElsewhere, columnHasStride, elementHasStride, scalarIsWide, fieldHangs};
 ghost use Rattle.paper.specs.Legal.{shapeRefused, srcShapeBroken, shapeBroken, unaligned, alignmentBroken, tooFar, regionTooFar, lastChannel, reachBroken};
 ghost use Rattle.words.specs.Operations.{plainIs};
 ghost use Rattle.words.specs.Words.{toWord, sourceIs};
@@ -44,12 +47,50 @@ pub fn some_operand(p: Plain, w: Word, dst: bool, first: bool, second: bool) -> 
 
 // ---- 9
 
-// A stride or width code is undefined, or ExecSize lies under Width, in the twelve bits that say a source's region.
+// ExecSize equal to Width with HorzStride not 0 and VertStride not Width×HorzStride; or Width 1 with HorzStride not 0.
+pub fn row_hangs(size: usize, vert: usize, wide: usize, horz: usize) -> bool
+    requires { ⌜ (wide ≤ 128) × (horz < 32768) ⌝ }
+    ensures { λ r. ⌜ r ≡ (rowEndsElsewhere size vert wide horz || columnHasStride size vert wide horz) ⌝ }
+{
+    let strides = negated(horz == 0);
+    let elsewhere = both(size == wide, both(strides, negated(vert == wide * horz)));
+    either(elsewhere, both(wide == 1, strides))
+}
+
+// ExecSize and Width both 1 with VertStride not 0; or VertStride and HorzStride both 0 with Width not 1.
+pub fn element_hangs(size: usize, vert: usize, wide: usize, horz: usize) -> bool
+    ensures { λ r. ⌜ r ≡ (elementHasStride size vert wide horz || scalarIsWide size vert wide horz) ⌝ }
+{
+    let strides = both(both(size == 1, wide == 1), negated(vert == 0));
+    either(
+        strides,
+        both(both(vert == 0, horz == 0), negated(wide == 1)),
+    )
+}
+
+// The twelve bits that say a source's region have one of the four shapes on which the machines hang.
+pub fn field_hangs(size: u64, field: u64) -> bool
+    requires { ⌜ size < 8 ⌝ }
+    ensures { λ r. ⌜ r ≡ fieldHangs size field ⌝ }
+{
+    let channels = count_of(size);
+    let vert = stride_of(part(field, 8, 4));
+    let wide = count_of(part(field, 5, 3));
+    let horz = stride_of(part(field, 3, 2));
+    either(
+        row_hangs(channels, vert, wide, horz),
+        element_hangs(channels, vert, wide, horz),
+    )
+}
+
+// A stride or width code is undefined, or ExecSize lies under Width, or the shape is one of the four.
 pub fn shape_refused(size: u64, field: u64) -> bool
+    requires { ⌜ size < 8 ⌝ }
     ensures { λ r. ⌜ r ≡ shapeRefused size field ⌝ }
 {
     let wide = part(field, 5, 3);
-    either(6 < part(field, 8, 4), either(4 < wide, size < wide))
+    let narrow = either(size < wide, field_hangs(size, field));
+    either(6 < part(field, 8, 4), either(4 < wide, narrow))
 }
 
 // A source's shape is refused.

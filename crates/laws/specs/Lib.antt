@@ -26,6 +26,7 @@ pub mod Differences
 pub mod Values
 pub mod Masks
 pub mod Regions
+pub mod Stricter
 pub mod Scatter
 pub mod Halfwords
 pub mod StateBytes

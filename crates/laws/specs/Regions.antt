@@ -96,11 +96,12 @@ pub shape-kept : (size field : ℕ) → shapeRefused size field ≡ false → Sh
 unfolding shapeRefused
 shape-kept size field e =
     let v = or-false (ltb 6 (bits field 8 4)) _ e in
-    let k = or-false (ltb 4 (bits field 5 3)) (ltb size (bits field 5 3)) (v .1) in
+    let k = or-false (ltb 4 (bits field 5 3)) _ (v .1) in
+    let d = or-false (ltb size (bits field 5 3)) _ (k .1) in
     record {
       vertical = ltb-false 6 (bits field 8 4) (v .0);
       width = ltb-false 4 (bits field 5 3) (k .0);
-      wide = ltb-false size (bits field 5 3) (k .1);
+      wide = ltb-false size (bits field 5 3) (d .0);
     }
 
 -- Every register source of a legal word has one.

@@ -12,7 +12,7 @@ use Rattle.paper.specs.Word.{srcFile, srcType, srcSubregister, srcModifi
 use Rattle.paper.specs.Word.{grf, isNull, isImmediate, immediateForm}
 use Rattle.paper.specs.Operation.{Plain, Branch, jmpi, if, else, endif, while, Operation, plain, nop, branch, unlisted, operation, isBranch, traits, sources}
 use Rattle.paper.specs.Value.{isSigned}
-use Rattle.paper.specs.Region.{Region, channels, elementAt, srcRegion, dstOrigin, dstSize, dstElement}
+use Rattle.paper.specs.Region.{Region, countOf, strideOf, channels, elementAt, srcRegion, dstOrigin, dstSize, dstElement}
 
 -- Some source of the list passes the test.
 abbrev pub anyOf : (Source → Bool) → List Source → Bool
@@ -125,13 +125,42 @@ operandRuleBroken p w =
 abbrev pub someOperand : Plain → ℕ → Bool → (Source → Bool) → Bool
 someOperand p w dst src = (not (isNull w) && dst) || anyOf (λ x. not (isImmediate x w) && src x) (sources p)
 
--- 9: a stride or width code is undefined, or ExecSize lies under Width. It is asked of the twelve bits that say a source's region (`srcField`), and of the code of
+-- Four shapes on which the machines hang, by what the codes say: ExecSize, VertStride, Width, HorzStride.
+
+-- ExecSize equal to Width with HorzStride not 0 and VertStride not Width×HorzStride.
+abbrev pub rowEndsElsewhere : ℕ → ℕ → ℕ → ℕ → Bool
+rowEndsElsewhere size vert wide horz = eqb size wide && (not (eqb horz 0) && not (eqb vert (wide * horz)))
+
+-- Width 1 with HorzStride not 0.
+abbrev pub columnHasStride : ℕ → ℕ → ℕ → ℕ → Bool
+columnHasStride size vert wide horz = eqb wide 1 && not (eqb horz 0)
+
+-- ExecSize and Width both 1 with VertStride not 0.
+abbrev pub elementHasStride : ℕ → ℕ → ℕ → ℕ → Bool
+elementHasStride size vert wide horz = (eqb size 1 && eqb wide 1) && not (eqb vert 0)
+
+-- VertStride and HorzStride both 0 with Width not 1.
+abbrev pub scalarIsWide : ℕ → ℕ → ℕ → ℕ → Bool
+scalarIsWide size vert wide horz = (eqb vert 0 && eqb horz 0) && not (eqb wide 1)
+
+unfoldable pub hangs : ℕ → ℕ → ℕ → ℕ → Bool
+hangs size vert wide horz =
+    rowEndsElsewhere size vert wide horz
+    || (columnHasStride size vert wide horz
+    || (elementHasStride size vert wide horz
+    || scalarIsWide size vert wide horz))
+
+-- The twelve bits that say a source's region (`srcField`) have one of them, at a code of ExecSize.
+abbrev pub fieldHangs : ℕ → ℕ → Bool
+fieldHangs size field = hangs (countOf size) (strideOf (bits field 8 4)) (countOf (bits field 5 3)) (strideOf (bits field 3 2))
+
+-- 9: a stride or width code is undefined, or ExecSize lies under Width, or the shape is one of the four. It is asked of the twelve bits, and of the code of
 -- ExecSize: nothing else decides it.
 unfoldable pub shapeRefused : ℕ → ℕ → Bool
 shapeRefused size field =
     let vert = bits field 8 4 in
     let wide = bits field 5 3 in
-    ltb 6 vert || (ltb 4 wide || ltb size wide)
+    ltb 6 vert || (ltb 4 wide || (ltb size wide || fieldHangs size field))
 
 abbrev pub srcShapeBroken : ℕ → Source → Bool
 srcShapeBroken w x = shapeRefused (execSize w) (srcField x w)

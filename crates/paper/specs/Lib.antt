@@ -11,6 +11,7 @@ pub mod Value
 pub mod Element
 pub mod Region
 pub mod Legal
+pub mod Restrictions
 pub mod Store
 pub mod Enable
 pub mod Effect

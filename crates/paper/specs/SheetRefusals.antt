@@ -116,3 +116,40 @@ rowsWord =
     ∷ (secondWord (jmpiTo 0) gives 0 ∷ 0 ∷ 2 ∷ [])
     ∷ (secondWord (jmpiTo (2 ^ 32 - 4)) gives 0 ∷ 0 ∷ 2 ∷ [])
     ∷ []
+
+-- mov of r2's dwords into r4 at a code of ExecSize, read by codes of VertStride, Width and HorzStride.
+unfoldable pub movBy : ℕ → ℕ → ℕ → ℕ → ℕ
+movBy size vert wide horz = op 0x01 size + to 1 4 0 + from0 1 2 0 vert wide horz
+
+-- 9, the shapes on which the machines hang, and what lies beside each.
+unfoldable pub rowsShape : List Row
+rowsShape =
+    -- ExecSize equal to Width: <8;8,1> at 8, then <16;8,1>, <4;8,1>, <0;8,1>; <4;8,1> at 16; HorzStride 0 leaves VertStride free
+    (secondWord (movBy 3 4 3 1) gives 0 ∷ 0 ∷ 2 ∷ [])
+    ∷ (secondWord (movBy 3 5 3 1) gives 9 ∷ 16 ∷ 0 ∷ [])
+    ∷ (secondWord (movBy 3 3 3 1) gives 9 ∷ 16 ∷ 0 ∷ [])
+    ∷ (secondWord (movBy 3 0 3 1) gives 9 ∷ 16 ∷ 0 ∷ [])
+    ∷ (secondWord (movBy 4 3 3 1) gives 0 ∷ 0 ∷ 2 ∷ [])
+    ∷ (secondWord (movBy 3 5 3 0) gives 0 ∷ 0 ∷ 2 ∷ [])
+    -- <16;4,4> at 4, where VertStride is Width×HorzStride and not Width
+    ∷ (secondWord (movBy 2 5 2 3) gives 0 ∷ 0 ∷ 2 ∷ [])
+    ∷ (secondWord (movBy 2 3 2 3) gives 9 ∷ 16 ∷ 0 ∷ [])
+    -- Width 1: <1;1,0> and <1;1,1> at 8; <0;1,1> at 1
+    ∷ (secondWord (movBy 3 1 0 0) gives 0 ∷ 0 ∷ 2 ∷ [])
+    ∷ (secondWord (movBy 3 1 0 1) gives 9 ∷ 16 ∷ 0 ∷ [])
+    ∷ (secondWord (movBy 0 0 0 1) gives 9 ∷ 16 ∷ 0 ∷ [])
+    -- ExecSize and Width 1: <0;1,0> and <1;1,0>; the same two at 2
+    ∷ (secondWord (movBy 0 0 0 0) gives 0 ∷ 0 ∷ 2 ∷ [])
+    ∷ (secondWord (movBy 0 1 0 0) gives 9 ∷ 16 ∷ 0 ∷ [])
+    ∷ (secondWord (movBy 1 0 0 0) gives 0 ∷ 0 ∷ 2 ∷ [])
+    ∷ (secondWord (movBy 1 1 0 0) gives 0 ∷ 0 ∷ 2 ∷ [])
+    -- both strides 0: <0;2,0>, then <1;2,0> and <0;2,1> at 8
+    ∷ (secondWord (movBy 3 0 1 0) gives 9 ∷ 16 ∷ 0 ∷ [])
+    ∷ (secondWord (movBy 3 1 1 0) gives 0 ∷ 0 ∷ 2 ∷ [])
+    ∷ (secondWord (movBy 3 0 1 1) gives 0 ∷ 0 ∷ 2 ∷ [])
+    -- the second source too, and before 10; a source that is not read is passed over, and so is an immediate
+    ∷ (secondWord (addWith 0 0) gives 9 ∷ 16 ∷ 0 ∷ [])
+    ∷ (secondWord (addWith 1 0) gives 9 ∷ 16 ∷ 0 ∷ [])
+    ∷ (secondWord (movWith (1 at 112)) gives 0 ∷ 0 ∷ 2 ∷ [])
+    ∷ (secondWord (op 0x01 3 + to 1 4 0 + immediate0 1 5 + 1 at 80) gives 0 ∷ 0 ∷ 2 ∷ [])
+    ∷ []

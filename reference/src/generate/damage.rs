@@ -251,14 +251,24 @@ fn disobedient(random: &mut Random, word: LongWord) -> LongWord {
     }
 }
 
-/// Rule 9.
+/// Rule 9: a code without meaning, a row that is too wide, a shape on which the laptops hang, or
+/// a destination without a stride.
 fn undefined_region(random: &mut Random, word: LongWord) -> LongWord {
     let up = random.pick(&[0, 32]);
-    match random.below(4) {
-        0 => word.with_field(88 + up, 85 + up, random.between(7, 15) as u32),
-        1 => word.with_field(84 + up, 82 + up, random.between(5, 7) as u32),
-        2 => word.with_field(84 + up, 82 + up, random.between(1, 4) as u32),
-        _ => word.with_field(62, 61, 0),
+    let vertical = |word: LongWord, code: usize| word.with_field(88 + up, 85 + up, code as u32);
+    let width = |word: LongWord, code: usize| word.with_field(84 + up, 82 + up, code as u32);
+    let horizontal = |word: LongWord, code: usize| word.with_field(81 + up, 80 + up, code as u32);
+    let size = word.execution_size_code() as usize;
+    match random.below(9) {
+        0 => vertical(word, random.between(7, 15)),
+        1 => width(word, random.between(5, 7)),
+        2 => width(word, random.between(1, 4)),
+        3 => word.with_field(62, 61, 0),
+        4 => vertical(horizontal(width(word, size), random.between(1, 3)), random.below(7)),
+        5 => horizontal(width(word, 0), random.between(1, 3)),
+        6 => vertical(width(word.with_field(23, 21, 0), 0), random.between(1, 6)),
+        7 => horizontal(vertical(width(word, random.between(1, 4)), 0), 0),
+        _ => vertical(word, random.below(7)),
     }
 }
 

@@ -175,13 +175,14 @@ fn register_source(
     }
 }
 
-/// A region that can lie somewhere: any codes if their span allows, else one element.
+/// A region that is served and can lie somewhere: any codes if their span allows, else one
+/// element.
 fn source_region(random: &mut Random, element: ElementType, channels: usize) -> RegionCodes {
     let size = channels.trailing_zeros();
     if random.once_in(4) {
-        return RegionCodes { vertical: size.min(3) + 1, width: size.min(3), horizontal: 1 };
+        return contiguous(size.min(3));
     }
-    for _ in 0..8 {
+    for _ in 0..16 {
         let codes = RegionCodes {
             vertical: random.below(7) as u32,
             width: random.below(size as usize + 1) as u32,
@@ -189,11 +190,22 @@ fn source_region(random: &mut Random, element: ElementType, channels: usize) -> 
         };
         let probe = LongWord(0).register_source(0, 0, 0, codes, element);
         let region = Region::of_source(&probe.source(0)).expect("codes are defined");
-        if span(&region, channels) < 64 {
+        if region.serves(channels) && span(&region, channels) < 64 {
             return codes;
         }
     }
-    RegionCodes { vertical: 0, width: 0, horizontal: 0 }
+    SCALAR
+}
+
+/// One element for all channels.
+const SCALAR: RegionCodes = RegionCodes { vertical: 0, width: 0, horizontal: 0 };
+
+/// Elements side by side, in rows of a width code. A row of one element has no strides.
+fn contiguous(width: u32) -> RegionCodes {
+    match width {
+        0 => SCALAR,
+        _ => RegionCodes { vertical: width + 1, width, horizontal: 1 },
+    }
 }
 
 /// How many bytes the last byte lies behind the first.

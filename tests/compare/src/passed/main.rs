@@ -1,26 +1,16 @@
 //! Kernels that passed, and must go on to: the archive is held to what it once made of them.
 //!
 //! `passed check FILE COMMAND..` asks the archive again and compares everything with the file.
-//! `passed again FILE COMMAND..` keeps the file's kernels and budgets, asks the archive, sees
-//! that the reference agrees and that nothing is left uncovered, and writes the file anew.
-//! `passed make FILE COMMAND..` does so with kernels that it chooses. The command starts
+//! `passed store FILE COMMAND..` asks it again about the kernels of the file, sees that the
+//! reference agrees, and writes the file with what it gives now. The command starts
 //! tests/serve.c. The file's header tells its lines.
 #![forbid(unsafe_code)]
 
-mod candidate;
-mod choose;
-mod coverage;
-mod features;
 mod fill;
-mod handmade;
-mod header;
 mod results;
 mod text;
-mod trace;
 
-use candidate::Candidate;
-use coverage::Coverage;
-use results::{alike, difference, results};
+use results::{alike, ask, difference, Kernel, Stored};
 use spokeshaver_compare::server::Server;
 use spokeshaver_reference::generate::{Bench, Case, Outcome, Reference};
 use std::process::exit;
@@ -29,14 +19,13 @@ use text::Record;
 fn main() {
     let words: Vec<String> = std::env::args().skip(1).collect();
     let done = match &words[..] {
-        [verb, file, command @ ..] if verb == "make" && !command.is_empty() => make(file, command),
+        [verb, file, command @ ..] if verb == "store" && !command.is_empty() => {
+            store(file, command)
+        }
         [verb, file, command @ ..] if verb == "check" && !command.is_empty() => {
             check(file, command)
         }
-        [verb, file, command @ ..] if verb == "again" && !command.is_empty() => {
-            again(file, command)
-        }
-        _ => Err("usage: passed make|again|check FILE COMMAND..".into()),
+        _ => Err("usage: passed store|check FILE COMMAND..".into()),
     };
     match done {
         Ok(line) => println!("passed: {line}"),
@@ -76,20 +65,27 @@ fn finished(archive: Archive) -> Result<(), String> {
     }
 }
 
-/// The records of a file.
-fn records_of(file: &str) -> Result<Vec<Record>, String> {
+/// The text of a file and its records.
+fn read(file: &str) -> Result<(String, Vec<Record>), String> {
     let text = std::fs::read_to_string(file).map_err(|error| format!("{file}: {error}"))?;
-    text::read(&text).map_err(|fault| format!("{file}: {fault}"))
+    let records = text::read(&text).map_err(|fault| format!("{file}: {fault}"))?;
+    Ok((text, records))
+}
+
+/// How many records there are, and how many of them are of kernels that are refused now.
+fn counted(records: &[Record]) -> String {
+    let refused = |record: &&Record| matches!(record.1, Stored::Refused { .. });
+    let count = records.iter().filter(refused).count();
+    format!("{} kernels, of which {count} are refused now", records.len())
 }
 
 /// Holds the archive to a file.
 fn check(file: &str, command: &[String]) -> Result<String, String> {
-    let records = records_of(file)?;
+    let (_, records) = read(file)?;
     let mut archive = started(command)?;
     let mut changed = 0;
     for (number, (kernel, stored)) in records.iter().enumerate() {
-        let budgets: Vec<u64> = stored.runs.iter().map(|run| run.budget).collect();
-        let given = results(number as u64, kernel, &budgets, &mut archive);
+        let given = ask(number as u64, kernel, stored, &mut archive);
         if let Some(difference) = difference(stored, &given) {
             let (name, tags) = (&kernel.name, kernel.tags.join(" "));
             println!("passed: kernel {number} {name} ({tags}): {difference}");
@@ -98,54 +94,42 @@ fn check(file: &str, command: &[String]) -> Result<String, String> {
     }
     finished(archive)?;
     match changed {
-        0 => Ok(format!("{} kernels as stored", records.len())),
+        0 => Ok(format!("as stored: {}", counted(&records))),
         _ => Err(format!("{changed} of {} kernels are not as stored", records.len())),
     }
 }
 
-/// Makes a file of chosen kernels.
-fn make(file: &str, command: &[String]) -> Result<String, String> {
-    let (chosen, coverage) = choose::chosen();
-    store(file, chosen, &coverage, command)
-}
-
-/// Makes a file anew of the kernels that it has.
-fn again(file: &str, command: &[String]) -> Result<String, String> {
-    let (kept, coverage) = choose::kept(&records_of(file)?)?;
-    store(file, kept, &coverage, command)
-}
-
-/// Asks the archive about kernels and writes the file of what it makes of them.
-fn store(
-    file: &str,
-    chosen: Vec<Candidate>,
-    coverage: &Coverage,
-    command: &[String],
-) -> Result<String, String> {
-    let missing = coverage.missing();
-    if !missing.is_empty() {
-        return Err(format!("not covered:\n{}", missing.join("\n")));
-    }
+/// Writes a file with what the archive gives now.
+fn store(file: &str, command: &[String]) -> Result<String, String> {
+    let (text, records) = read(file)?;
     let mut archive = started(command)?;
-    let mut records: Vec<Record> = Vec::new();
-    for (number, candidate) in chosen.into_iter().enumerate() {
-        let (kernel, budgets) = (candidate.kernel, &candidate.budgets);
-        let given = results(number as u64, &kernel, budgets, &mut archive);
-        let expected = results(number as u64, &kernel, budgets, &mut Reference);
-        let name = &kernel.name;
-        if let Some(difference) = difference(&expected, &given) {
-            return Err(format!("{name}: the reference does not agree: {difference}"));
-        }
-        if given.unpacked.as_ref() != Ok(&kernel.long) || !given.runs.iter().all(alike) {
-            return Err(format!("{name}: the long kernel and the packed one are not alike"));
-        }
-        records.push((kernel, given));
+    let mut again: Vec<Record> = Vec::new();
+    for (number, (kernel, stored)) in records.iter().enumerate() {
+        let given = ask(number as u64, kernel, stored, &mut archive);
+        let expected = ask(number as u64, kernel, stored, &mut Reference);
+        sound(kernel, &expected, &given).map_err(|fault| format!("{}: {fault}", kernel.name))?;
+        again.push((kernel.clone(), given));
     }
     finished(archive)?;
-    let text = header::header(&records, coverage) + &text::written(&records);
-    if text::read(&text)? != records {
+    let written = text::remarks(&text) + &text::written(&again);
+    if text::read(&written)? != again {
         return Err("the text does not read back".into());
     }
-    std::fs::write(file, &text).map_err(|error| format!("{file}: {error}"))?;
-    Ok(format!("{} kernels in {} bytes", records.len(), text.len()))
+    std::fs::write(file, &written).map_err(|error| format!("{file}: {error}"))?;
+    Ok(counted(&again))
+}
+
+/// The reference gives the same, and the long kernel and the packed one are alike.
+fn sound(kernel: &Kernel, expected: &Stored, given: &Stored) -> Result<(), String> {
+    if let Some(difference) = difference(expected, given) {
+        return Err(format!("the reference does not agree: {difference}"));
+    }
+    match given {
+        Stored::Passing(results)
+            if results.unpacked.as_ref() != Ok(&kernel.long) || !results.runs.iter().all(alike) =>
+        {
+            Err("the long kernel and the packed one are not alike".into())
+        }
+        _ => Ok(()),
+    }
 }

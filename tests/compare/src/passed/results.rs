@@ -31,6 +31,36 @@ pub struct Results {
     pub runs: Vec<Run>,
 }
 
+/// What is stored of a kernel.
+#[derive(Clone, PartialEq, Eq, Debug)]
+pub enum Stored {
+    Passing(Results),
+    /// It passed once, when it was packed so, and is refused now: by check, the long kernel and
+    /// the packed one.
+    Refused {
+        packed: Vec<u8>,
+        checks: [u64; 2],
+    },
+}
+
+impl Stored {
+    /// What the kernel is packed to, or was when it passed.
+    pub fn packed(&self) -> &[u8] {
+        match self {
+            Stored::Passing(results) => results.packed.as_deref().unwrap_or_default(),
+            Stored::Refused { packed, .. } => packed,
+        }
+    }
+
+    /// The budgets of the runs.
+    fn budgets(&self) -> Vec<u64> {
+        match self {
+            Stored::Passing(results) => results.runs.iter().map(|run| run.budget).collect(),
+            Stored::Refused { .. } => Vec::new(),
+        }
+    }
+}
+
 /// The runs of the pair with one budget, each from the start.
 #[derive(Clone, PartialEq, Eq, Debug)]
 pub struct Run {
@@ -52,8 +82,22 @@ const PAIR: [&str; 2] = ["the long kernel", "the packed kernel"];
 /// What lies in a buffer that a call is to write.
 const UNWRITTEN: u8 = 0xA5;
 
-/// Asks a bench for all results of a kernel. The number names the kernel if the bench is gone.
-pub fn results(number: u64, kernel: &Kernel, budgets: &[u64], bench: &mut impl Bench) -> Results {
+/// Asks a bench about a kernel of which something is stored. The number names the kernel if the
+/// bench is gone.
+pub fn ask(number: u64, kernel: &Kernel, stored: &Stored, bench: &mut impl Bench) -> Stored {
+    let results = results(number, kernel, &stored.budgets(), bench);
+    if results.packed.is_ok() {
+        return Stored::Passing(results);
+    }
+    let dictionary = kernel.dictionary.clone();
+    let packed = stored.packed().to_vec();
+    let call = Call::Check { kernel: packed.clone() };
+    let of_packed = perform(&Case { seed: number, dictionary, call }, bench).answer;
+    Stored::Refused { packed, checks: [results.checks[0], of_packed] }
+}
+
+/// All results of a kernel.
+fn results(number: u64, kernel: &Kernel, budgets: &[u64], bench: &mut impl Bench) -> Results {
     let mut ask = |call: Call| {
         let dictionary = match call {
             Call::Start { .. } => Vec::new(),
@@ -96,11 +140,30 @@ fn ran(outcome: Outcome) -> Ran {
 }
 
 /// What differs first between what was stored and what is given.
-pub fn difference(stored: &Results, given: &Results) -> Option<String> {
-    let checked = |which: usize| {
-        let (stored, given) = (stored.checks[which], given.checks[which]);
-        answers_differ(stored, given).map(|found| format!("check of {}: {found}", PAIR[which]))
-    };
+pub fn difference(stored: &Stored, given: &Stored) -> Option<String> {
+    match (stored, given) {
+        (Stored::Passing(stored), Stored::Passing(given)) => results_differ(stored, given),
+        (Stored::Refused { checks: stored, .. }, Stored::Refused { checks: given, .. }) => {
+            (0..2).find_map(|which| checks_differ(which, stored, given))
+        }
+        (Stored::Passing(_), Stored::Refused { checks, .. }) => {
+            Some(format!("refused, {}", told(checks[0])))
+        }
+        (Stored::Refused { checks, .. }, Stored::Passing(_)) => {
+            Some(format!("passes (stored: {})", told(checks[0])))
+        }
+    }
+}
+
+/// What differs in the answers of check for one of the pair.
+fn checks_differ(which: usize, stored: &[u64; 2], given: &[u64; 2]) -> Option<String> {
+    let found = answers_differ(stored[which], given[which])?;
+    Some(format!("check of {}: {found}", PAIR[which]))
+}
+
+/// What differs first in the results of a kernel that passes.
+fn results_differ(stored: &Results, given: &Results) -> Option<String> {
+    let checked = |which: usize| checks_differ(which, &stored.checks, &given.checks);
     checked(0)
         .or_else(|| bytes_differ("pack", &stored.packed, &given.packed))
         .or_else(|| bytes_differ("unpack", &stored.unpacked, &given.unpacked))

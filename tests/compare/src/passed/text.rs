@@ -1,6 +1,6 @@
-//! The stored file's lines. The file's header tells what each means (see `header`).
+//! The stored file's lines. The file's header tells what each means.
 
-use crate::results::{Kernel, Ran, Results, Run};
+use crate::results::{Kernel, Ran, Results, Run, Stored};
 use spokeshaver_reference::dictionary::DICTIONARY_BYTES;
 use spokeshaver_reference::state::STATE_BYTES;
 use std::collections::BTreeMap;
@@ -8,7 +8,7 @@ use std::iter::Peekable;
 use std::vec::IntoIter;
 
 /// A kernel and what was stored of it.
-pub type Record = (Kernel, Results);
+pub type Record = (Kernel, Stored);
 
 /// What is wrong with a file.
 pub type Fault = String;
@@ -18,12 +18,18 @@ const SAME: &str = "=";
 /// Stands for no bytes.
 const NONE: &str = "-";
 
+/// The remarks at a file's front.
+pub fn remarks(text: &str) -> String {
+    let front = text.lines().take_while(|line| line.starts_with('#'));
+    front.map(|line| line.to_string() + "\n").collect()
+}
+
 /// The lines of all records, and the line that closes the file.
 pub fn written(records: &[Record]) -> String {
     let mut dictionaries: Vec<&[u8]> = Vec::new();
     let mut lines = Vec::new();
-    for (number, (kernel, results)) in records.iter().enumerate() {
-        let known = dictionaries.iter().position(|stored| *stored == kernel.dictionary);
+    for (number, (kernel, stored)) in records.iter().enumerate() {
+        let known = dictionaries.iter().position(|known| *known == kernel.dictionary);
         let dictionary = known.unwrap_or(dictionaries.len());
         if known.is_none() {
             dictionaries.push(&kernel.dictionary);
@@ -34,10 +40,16 @@ pub fn written(records: &[Record]) -> String {
         let [mask, flag0, flag1] = kernel.start;
         lines.push(format!("start {mask:04x} {flag0:04x} {flag1:04x}"));
         lines.push(format!("registers {:x}", kernel.seed));
-        let packed = results.packed.as_deref().unwrap_or_default();
-        lines.extend(words(&kernel.long, packed));
-        lines.push(format!("check {:x} {:x}", results.checks[0], results.checks[1]));
-        lines.extend(results.runs.iter().map(run_line));
+        lines.extend(words(&kernel.long, stored.packed()));
+        match stored {
+            Stored::Passing(Results { checks: [long, packed], runs, .. }) => {
+                lines.push(format!("check {long:x} {packed:x}"));
+                lines.extend(runs.iter().map(run_line));
+            }
+            Stored::Refused { checks: [long, packed], .. } => {
+                lines.push(format!("refused {long:x} {packed:x}"));
+            }
+        }
     }
     lines.push(format!("end {}", records.len()));
     lines.join("\n") + "\n"
@@ -217,8 +229,6 @@ fn record(
     let start = [start.half(1)?, start.half(2)?, start.half(3)?];
     let seed = lines.expect("registers", 1)?.number(1, 16)?;
     let (long, packed) = kernel_words(lines)?;
-    let check = lines.expect("check", 2)?;
-    let checks = [check.number(1, 16)?, check.number(2, 16)?];
     let kernel = Kernel {
         name: name.to_string(),
         tags: tags.iter().map(|tag| tag.to_string()).collect(),
@@ -227,11 +237,22 @@ fn record(
         seed,
         long: long.clone(),
     };
+    if lines.0.peek().is_some_and(|line| line.fields[0] == "refused") {
+        let checks = checks(&lines.expect("refused", 2)?)?;
+        return Ok((kernel, Stored::Refused { packed, checks }));
+    }
+    let checks = checks(&lines.expect("check", 2)?)?;
     let mut runs = vec![run(lines)?];
     while lines.0.peek().is_some_and(|line| line.fields[0] == "run") {
         runs.push(run(lines)?);
     }
-    Ok((kernel, Results { checks, packed: Ok(packed), unpacked: Ok(long), runs }))
+    let results = Results { checks, packed: Ok(packed), unpacked: Ok(long), runs };
+    Ok((kernel, Stored::Passing(results)))
+}
+
+/// The answers of check for the long kernel and the packed one.
+fn checks(line: &Line) -> Result<[u64; 2], Fault> {
+    Ok([line.number(1, 16)?, line.number(2, 16)?])
 }
 
 /// The long kernel and the packed one.
