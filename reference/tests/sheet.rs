@@ -201,6 +201,46 @@ fn j_spans() {
     assert_eq!(check(&[mov_from(8, 127, 0)]), answer(0, 0, 1));
 }
 
+/// mov of dwords with so many channels from a region.
+fn mov_by(channels: u32, vertical: u32, width: u32, horizontal: u32) -> LongWord {
+    let codes = region(vertical, width, horizontal);
+    word(Mov, channels).to_register(4, 0, 1, D).register_source(0, 2, 0, codes, D)
+}
+
+#[test]
+fn shapes_that_hang_and_those_beside() {
+    let refused = [
+        (8, 16, 8, 1),
+        (8, 4, 8, 1),
+        (8, 0, 8, 1),
+        (4, 4, 4, 4),
+        (8, 1, 1, 1),
+        (1, 0, 1, 1),
+        (1, 1, 1, 0),
+        (8, 0, 2, 0),
+    ];
+    let served = [
+        (8, 8, 8, 1),
+        (16, 4, 8, 1),
+        (8, 16, 8, 0),
+        (4, 16, 4, 4),
+        (8, 1, 1, 0),
+        (1, 0, 1, 0),
+        (2, 1, 1, 0),
+        (8, 0, 1, 0),
+        (8, 1, 2, 0),
+        (8, 0, 2, 1),
+    ];
+    for (channels, vertical, width, horizontal) in refused {
+        let word = mov_by(channels, vertical, width, horizontal);
+        assert_eq!(check(&[word]), answer(9, 0, 0), "<{vertical};{width},{horizontal}>");
+    }
+    for (channels, vertical, width, horizontal) in served {
+        let word = mov_by(channels, vertical, width, horizontal);
+        assert_eq!(check(&[word]), answer(0, 0, 1), "<{vertical};{width},{horizontal}>");
+    }
+}
+
 #[test]
 fn k_empty_kernel() {
     assert_eq!(check(&[]), answer(0, 0, 0));

@@ -1,18 +1,19 @@
 -- Stricter regions: 9 as it stood before it refused four shapes more, beside 9 as it is; and 9 held to source document 000. Assumes nothing.
-use mathlib.Core.Bool.{Bool, true, false, not, cond, _&&_, _||_, true≢false}
+use mathlib.Core.Bool.{Bool, true, false, not, cond, _&&_, _||_}
 use mathlib.Core.List.{List, [], _∷_}
+use mathlib.Core.Logic.{⊎-elim}
 use mathlib.Core.Path.{_≡_, refl, sym, ap, _∙_}
 use Prim.Native.Nat.{ℕ, zero, suc, _≤_, _<_}
 use native.Mathlib.Omega.{arith}
 use native.Mathlib.Nat.{eq-or-lt-of-le, le-of-suc-le-suc}
-use mathlib.Core.Logic.{⊎-elim}
 use lib.Dec.{eqb, ltb, leb}
 use Rattle.paper.specs.Bits.{bits}
 use Rattle.paper.specs.Word.{Source, execSize, srcField, dstStride, isNull, isImmediate}
 use Rattle.paper.specs.Operation.{Plain, Branch, Operation, plain, nop, branch, unlisted, operation, sources}
-use Rattle.paper.specs.Legal.{anyOf, someOperand, reservedSet, plainServed, branchServed, operandRuleBroken, fieldHangs, shapeRefused, shapeBroken, srcShapeBroken}
+use Rattle.paper.specs.Legal.{anyOf, someOperand, reservedSet, plainServed, branchServed, operandRuleBroken, fieldHangs, shapeRefused, shapeBroken}
 use Rattle.paper.specs.Legal.{alignmentBroken, reachBroken, orElse, later, refusalOf}
 use Rattle.paper.specs.Restrictions.{allowed, same, below, agree, swept}
+use Rattle.laws.specs.Truth.{both-true}
 
 -- ---- 9 as it stood
 
@@ -144,16 +145,12 @@ accepted-now w e = refusal-now w ∙ ap (λ (n : ℕ). cond (pastNine n && wordH
 
 -- ---- 9 and source document 000
 
-and-true : (a b : Bool) → (a && b) ≡ true → (a ≡ true) × (b ≡ true)
-and-true true b e = (refl, e)
-and-true false b e = absurd (true≢false (sym e))
-
 -- A test that holds at every number below n holds at each.
 below-each : (test : ℕ → Bool) (n k : ℕ) → below test n ≡ true → k < n → test k ≡ true
 unfolding below
 below-each test zero k e h = absurd (omega arith)
 below-each test (suc n) k e h =
-    let e2 = and-true (test n) (below test n) e in
+    let e2 = both-true (test n) (below test n) e in
     ⊎-elim (λ q. ap test q ∙ e2 .0) (λ l. below-each test n k (e2 .1) l) (eq-or-lt-of-le (le-of-suc-le-suc h))
 
 same-equal : (a b : Bool) → same a b ≡ true → a ≡ b

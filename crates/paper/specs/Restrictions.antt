@@ -48,7 +48,7 @@ restricted size vert wide horz =
     && (rule7 size vert wide horz
     && rule8 size vert wide horz))))
 
--- ---- codes (000, 7.3: ExecSize, VertStride, Width, HorzStride), a number for each that is listed, in their order
+-- ---- codes: the number that each stands for, in their order (000, tables 7-2 and 7-4); the others are reserved, and VertStride 15 is for addresses
 
 abbrev pub sizes : List ℕ
 sizes = 1 ∷ 2 ∷ 4 ∷ 8 ∷ 16 ∷ []
