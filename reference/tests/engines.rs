@@ -50,7 +50,7 @@ fn generated<'a>(dictionary: &'a [u8], call: &'a Call) -> Option<(Inputs<'a>, Ve
 #[test]
 fn engines_agree_on_generated_runs() {
     let mut made = 0;
-    for seed in (0..270_000).filter(|seed| seed % 9 >= 7) {
+    for seed in (0..90_000).filter(|seed| seed % 9 >= 7) {
         let case = case(seed);
         let Some((inputs, budgets)) = generated(&case.dictionary, &case.call) else { continue };
         for budget in budgets {
@@ -58,7 +58,7 @@ fn engines_agree_on_generated_runs() {
             made += (answer.count > 0) as usize;
         }
     }
-    assert!(made > 50_000, "only {made} runs made steps");
+    assert!(made > 25_000, "only {made} runs made steps");
 }
 
 #[test]
