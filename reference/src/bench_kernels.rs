@@ -36,6 +36,13 @@ pub fn mixed() -> BenchKernel {
     finish("mixed", Dictionary::zero(), kernel_of(&mixed_words()))
 }
 
+/// So many instructions of the mixed loop's kinds, the last a while that closes the loop. For
+/// short runs, in which judging and decoding ahead count most.
+pub fn mixed_loop(instructions: usize) -> BenchKernel {
+    let words = (1..instructions).map(mixed_word);
+    finish("mixed loop", Dictionary::zero(), kernel_of(&closed(words.collect())))
+}
+
 /// (b) The same length of one-channel operations.
 pub fn one_channel() -> BenchKernel {
     let words = (0..199).map(one_channel_word);

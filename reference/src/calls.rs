@@ -3,6 +3,7 @@
 //! packed answer.
 
 use crate::answers::{packed, require, Refusal, ACCEPTED, ENDED, SPENT};
+use crate::channels::Registers;
 use crate::dictionary::{Dictionary, DICTIONARY_BYTES};
 use crate::engine;
 use crate::machine;
@@ -10,6 +11,7 @@ use crate::operations::Operation;
 use crate::packing;
 use crate::regions::FILE_BYTES;
 use crate::rules::{read_instruction, read_kernel, Accepts, Program, KERNEL_BYTES};
+use crate::second_engine;
 use crate::state::{State, STATE_BYTES};
 use crate::words::{self, is_short, LongWord, ShortWord};
 
@@ -133,10 +135,25 @@ pub fn run(
     registers: &mut [u8],
     state: &mut [u8],
 ) -> u64 {
-    answer(run_outcome(dictionary, kernel, budget, registers, state))
+    answer(run_outcome(engine::run, dictionary, kernel, budget, registers, state))
 }
 
+/// The same as `run`, made by the second engine.
+pub fn run_by_second_engine(
+    dictionary: &[u8],
+    kernel: &[u8],
+    budget: u64,
+    registers: &mut [u8],
+    state: &mut [u8],
+) -> u64 {
+    answer(run_outcome(second_engine::run, dictionary, kernel, budget, registers, state))
+}
+
+/// Makes the steps of a judged kernel on a judged state and tells how many were made.
+type Engine = fn(&Program, u64, &mut Registers, &mut State) -> u64;
+
 fn run_outcome(
+    engine: Engine,
     dictionary: &[u8],
     kernel: &[u8],
     budget: u64,
@@ -145,7 +162,7 @@ fn run_outcome(
 ) -> Outcome {
     let (program, mut current) = judged_run(dictionary, kernel, budget, registers, state)?;
     let file = registers.try_into().expect("the size is judged");
-    let steps = engine::run(&program, budget, file, &mut current);
+    let steps = engine(&program, budget, file, &mut current);
     state.copy_from_slice(&current.to_bytes());
     let ended = current.place as usize == program.end;
     Ok((if ended { ENDED } else { SPENT }, steps as usize))

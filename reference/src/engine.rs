@@ -1,5 +1,5 @@
-//! The run: the kernel is decoded once, ahead, then stepped over without judging again
-//! (paper: "How the road forks").
+//! The first engine, which makes the run: the kernel is decoded once, ahead, then stepped over
+//! without judging again (paper: "How the road forks").
 //!
 //! During a run, places are kept as instruction numbers, the end being one past the last.
 
@@ -21,14 +21,8 @@ pub fn run(program: &Program, budget: u64, registers: &mut Registers, state: &mu
         take_step(instruction, registers, state);
         steps += 1;
     }
-    rename_places(state, |number| place_of(program, number as usize));
+    rename_places(state, |number| program.place_of(number as usize) as u16);
     steps
-}
-
-/// The place of an instruction number.
-fn place_of(program: &Program, number: usize) -> u16 {
-    let starts = program.instructions.get(number).map(|instruction| instruction.place);
-    starts.unwrap_or(program.end) as u16
 }
 
 /// Renames the state's place and those of its waiting channels.

@@ -20,6 +20,7 @@ pub mod packing;
 pub mod random;
 pub mod regions;
 pub mod rules;
+pub mod second_engine;
 pub mod state;
 pub mod text;
 pub mod words;

@@ -68,6 +68,11 @@ impl Program {
         self.instructions.binary_search_by_key(&place, |instruction| instruction.place).ok()
     }
 
+    /// The place of an instruction number, the end being one past the last.
+    pub fn place_of(&self, number: usize) -> usize {
+        self.instructions.get(number).map_or(self.end, |instruction| instruction.place)
+    }
+
     /// Whether an instruction starts at the place, or it is the end.
     pub fn is_start_or_end(&self, place: usize) -> bool {
         place == self.end || self.index_of(place).is_some()

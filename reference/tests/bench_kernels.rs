@@ -1,7 +1,9 @@
 //! The benchmark kernels are legal and don't end, and stepping them agrees with running them.
 
 use spokeshaver_reference::answers::Answer;
-use spokeshaver_reference::bench_kernels::{all, mixed, mixed_packed, MIXED_INSTRUCTIONS};
+use spokeshaver_reference::bench_kernels::{
+    all, mixed, mixed_loop, mixed_packed, MIXED_INSTRUCTIONS,
+};
 use spokeshaver_reference::calls;
 
 #[test]
@@ -29,6 +31,18 @@ fn mixed_has_the_length_asked_for_and_packs_well() {
     assert_eq!(checked.count, MIXED_INSTRUCTIONS);
     let shortened = (long.kernel.len() - packed.kernel.len()) / 8;
     assert!(shortened >= MIXED_INSTRUCTIONS - 4, "only {shortened} words are short");
+}
+
+#[test]
+fn mixed_loops_have_any_length_and_run_on() {
+    for instructions in [1, 16, 200, 1_024] {
+        let mut bench = mixed_loop(instructions);
+        let checked = Answer::of(calls::check(&bench.dictionary, &bench.kernel));
+        assert_eq!(checked, Answer { number: 0, at: 0, count: instructions });
+        let (registers, state) = (&mut bench.registers, &mut bench.state);
+        let given = calls::run(&bench.dictionary, &bench.kernel, 5_000, registers, state);
+        assert_eq!(Answer::of(given), Answer { number: 21, at: 0, count: 5_000 });
+    }
 }
 
 #[test]

@@ -69,9 +69,7 @@ fn advanced(random: &mut Random, fresh: State, program: &Program, registers: &[u
 
 /// A place at which an instruction starts, or the end.
 fn good_place(random: &mut Random, program: &Program) -> u16 {
-    let number = random.between(0, program.instructions.len());
-    let start = program.instructions.get(number).map(|instruction| instruction.place);
-    start.unwrap_or(program.end) as u16
+    program.place_of(random.between(0, program.instructions.len())) as u16
 }
 
 /// A legal state that a run need not reach: channels wait here and there.

@@ -1,0 +1,85 @@
+//! What a run works on: registers, flags and channels, the waiting ones by where they wait.
+
+use crate::channels::Registers;
+use crate::decoded::{number_of, Predicate};
+use crate::rules::Program;
+use crate::state::{State, CHANNELS};
+
+/// Registers, flags and channels during a run. A channel is in the awake mask, in one waiting
+/// mask, or off.
+pub struct Machine<'a> {
+    pub registers: &'a mut Registers,
+    pub flags: [u16; 2],
+    pub awake: u16,
+    /// The channels that wait at each instruction number, the end being the last.
+    waiting_at: Vec<u16>,
+}
+
+impl Machine<'_> {
+    /// The machine of a judged state, and the instruction number to begin with.
+    pub fn begin<'a>(
+        program: &Program,
+        registers: &'a mut Registers,
+        state: &State,
+    ) -> (Machine<'a>, usize) {
+        let mut waiting_at = vec![0; program.instructions.len() + 1];
+        for channel in (0..CHANNELS).filter(|&channel| state.is_waiting(channel)) {
+            let place = state.waiting_places[channel] as usize;
+            waiting_at[number_of(program, place) as usize] |= 1 << channel;
+        }
+        let machine = Machine { registers, flags: state.flags, awake: state.awake, waiting_at };
+        (machine, number_of(program, state.place as usize) as usize)
+    }
+
+    /// The state at an instruction number.
+    pub fn end(&self, program: &Program, number: usize) -> State {
+        let mut state = State::start(self.awake, self.flags[0], self.flags[1]);
+        state.place = program.place_of(number) as u16;
+        for (number, &channels) in self.waiting_at.iter().enumerate().filter(|(_, &at)| at != 0) {
+            for channel in (0..CHANNELS).filter(|channel| (channels >> channel) & 1 == 1) {
+                state.put_to_wait(channel, program.place_of(number));
+            }
+        }
+        state
+    }
+
+    /// Wakes the channels that wait at an instruction number.
+    #[inline]
+    pub fn wake(&mut self, number: usize) {
+        self.awake |= std::mem::take(&mut self.waiting_at[number]);
+    }
+
+    /// Puts awake channels to wait at an instruction number.
+    #[inline]
+    pub fn put_to_wait(&mut self, channels: u16, number: usize) {
+        self.awake &= !channels;
+        self.waiting_at[number] |= channels;
+    }
+
+    /// Whether some channel waits at an instruction number.
+    #[inline]
+    pub fn waits_at(&self, number: usize) -> bool {
+        self.waiting_at[number] != 0
+    }
+}
+
+/// A predicate made ready: its flag, inverted or not, or all ones where none is used.
+#[derive(Clone, Copy)]
+pub struct Holding {
+    flag: usize,
+    inversion: u16,
+    always: u16,
+}
+
+impl Holding {
+    pub fn of(predicate: &Predicate) -> Holding {
+        let always = if predicate.is_used { 0 } else { u16::MAX };
+        Holding { flag: predicate.flag, inversion: predicate.inversion, always }
+    }
+
+    /// The channels whose predicate holds, whether awake or not.
+    #[inline]
+    pub fn mask(&self, machine: &Machine) -> u16 {
+        (machine.flags[self.flag] ^ self.inversion) | self.always
+    }
+}
