@@ -136,8 +136,7 @@ impl<const N: usize, L: Lane> Work<N, L> {
         })
     }
 
-    /// cmp: 1 or 0 to enabled channels and to their flag bits; the flag bits of its disabled
-    /// channels are cleared.
+    /// cmp: 1 or 0 to enabled channels and to their flag bits; all other flag bits stay.
     fn compare(self, condition: impl Fn(L, L) -> bool + 'static) -> Step {
         Box::new(move |machine| {
             let enabled = self.awake(machine) & self.holding(machine);
@@ -145,7 +144,7 @@ impl<const N: usize, L: Lane> Work<N, L> {
             let right = self.sources[1].values(machine.registers);
             let found: [bool; N] = std::array::from_fn(|n| condition(left[n], right[n]));
             let bits = (0..N).fold(0, |bits, n| bits | (found[n] as u16) << n) & enabled;
-            let kept = machine.flags[self.flag] & !(Self::ALL << self.first_channel);
+            let kept = machine.flags[self.flag] & !(enabled << self.first_channel);
             machine.flags[self.flag] = kept | bits << self.first_channel;
             self.target.write(machine.registers, found.map(|bit| L::of(bit as i64)), enabled);
             self.next
