@@ -9,7 +9,7 @@ use lib.IntN.{ℤ, pos, negℤ, subℕ}
 use lib.Pow.{pow-mono, pow-pos}
 use lib.Bits.{bitXor, xor-zero-r, xor-comm, xor-shifted, xor-block}
 use borrow.Author.Tests.{eq-eqb, ne-eqb, leb-true, leb-false}
-use Rattle.paper.specs.Value.{width, isSigned, value, least, greatest, clampTo}
+use Rattle.paper.specs.Value.{width, IsType, isSigned, value, least, greatest, clampTo}
 use Rattle.laws.specs.Values.{by-type}
 use Rattle.laws.specs.Differences.{is-pos, sub-eq, neg-of}
 use Rattle.element.specs.Biased.{ex, Near, signBit}
@@ -22,16 +22,8 @@ use Rattle.element.specs.Base.{ex-pos, ex-lt, ex-cond}
 abbrev half : ℕ → ℕ
 half t = 2 ^ (width t - 1)
 
-width-half : (t : ℕ) → 2 * half t ≡ 2 ^ width t
-width-half = by-type (λ size bits. 2 * 2 ^ (bits - 1) ≡ 2 ^ bits) refl refl refl
-
 half-most : (t : ℕ) → half t ≤ 2 ^ 31
 half-most t = pow-mono {i = width t - 1} {j = 31} (omega (arith, width-most t))
-
--- A signed type's sign bit, from the pattern with every bit set.
-pub sign-some : (t : ℕ) → t % 2 ≡ 1 → (2 ^ width t - 1) / 2 + 1 ≡ signBit t
-unfolding signBit
-sign-some t o = simp (eq-eqb (t % 2) 1 o) (omega (arith, width-half t, pow-pos (width t - 1)))
 
 pub sign-none : (t : ℕ) → (t % 2 ≡ 1 → ⊥) → 0 ≡ signBit t
 unfolding signBit
@@ -49,11 +41,20 @@ sign-half t = pick (isSigned t)
 pub sign-most : (t : ℕ) → signBit t ≤ 2 ^ 31
 sign-most t = omega (arith, sign-half t, half-most t)
 
-pub sign-ones : (t : ℕ) → signBit t ≤ 2 ^ width t - 1
-sign-ones t = omega (arith, sign-half t, width-half t, pow-pos (width t - 1))
+module _ (t : ℕ) (is : IsType t) where
+  width-half : 2 * half t ≡ 2 ^ width t
+  width-half = by-type (λ size bits. 2 * 2 ^ (bits - 1) ≡ 2 ^ bits) refl refl refl t is
 
-pub ones-most : (t : ℕ) → 2 ^ width t - 1 < 2 ^ 32
-ones-most t = omega (arith, half-most t, width-half t)
+  -- A signed type's sign bit, from the pattern with every bit set.
+  pub sign-some : t % 2 ≡ 1 → (2 ^ width t - 1) / 2 + 1 ≡ signBit t
+  unfolding signBit
+  sign-some o = simp (eq-eqb (t % 2) 1 o) (omega (arith, width-half, pow-pos (width t - 1)))
+
+  pub sign-ones : signBit t ≤ 2 ^ width t - 1
+  sign-ones = omega (arith, sign-half t, width-half, pow-pos (width t - 1))
+
+  pub ones-most : 2 ^ width t - 1 < 2 ^ 32
+  ones-most = omega (arith, half-most t, width-half)
 
 -- ---- the value of a pattern
 
@@ -114,23 +115,23 @@ loads-signed k n s u = pick (leb (2 ^ k) n) refl
     pick true e = loads-high k n s (leb-true (2 ^ k) n e) u
     pick false e = loads-low k n s (leb-false (2 ^ k) n e)
 
-loads : (t n : ℕ) → n < 2 ^ width t → Loads n (signBit t) (2 ^ width t) (value t n)
+loads : (t n : ℕ) → IsType t → n < 2 ^ width t → Loads n (signBit t) (2 ^ width t) (value t n)
 unfolding signBit value
-loads t n h = pick (isSigned t)
+loads t n is h = pick (isSigned t)
   where
     pick : (s : Bool) → Loads n (cond s (half t) 0) (2 ^ width t) (cond (s && leb (half t) n) (subℕ n (2 ^ width t)) (pos n))
-    pick true = rw (width-half t) at (loads-signed (width t - 1) n (half-most t) (omega (arith, width-half t)))
+    pick true = rw (width-half t is) at (loads-signed (width t - 1) n (half-most t) (omega (arith, width-half t is)))
     pick false = loads-plain n (2 ^ width t) h
 
 -- The value of a pattern.
-pub ex-load : (t n : ℕ) → n < 2 ^ width t → ex (loaded n (signBit t)) ≡ value t n
-ex-load t n h = loads t n h .is
+pub ex-load : (t n : ℕ) → IsType t → n < 2 ^ width t → ex (loaded n (signBit t)) ≡ value t n
+ex-load t n is h = loads t n is h .is
 
-pub load-near : (t n : ℕ) → n < 2 ^ width t → Near (width t) (loaded n (signBit t))
-load-near t n h = record { above = loads t n h .above; below = loads t n h .below }
+pub load-near : (t n : ℕ) → IsType t → n < 2 ^ width t → Near (width t) (loaded n (signBit t))
+load-near t n is h = record { above = loads t n is h .above; below = loads t n is h .below }
 
-pub load-fits : (t n : ℕ) → n < 2 ^ width t → loaded n (signBit t) < 2 ^ 64
-load-fits t n h = omega (arith, loads t n h .below, ones-most t)
+pub load-fits : (t n : ℕ) → IsType t → n < 2 ^ width t → loaded n (signBit t) < 2 ^ 64
+load-fits t n is h = omega (arith, loads t n is h .below, ones-most t is)
 
 -- ---- clamping
 
@@ -143,12 +144,12 @@ ex-least t = pick (isSigned t)
     pick true = neg-of (half t) (2 ^ 63 - half t) (2 ^ 63) (omega (arith, half-most t))
     pick false = sym (is-pos (2 ^ 63 - 0) (2 ^ 63) 0 (omega arith))
 
-ex-greatest : (t : ℕ) → greatest t ≡ ex (2 ^ 63 + (2 ^ width t - 1 - signBit t))
+ex-greatest : (t : ℕ) → IsType t → greatest t ≡ ex (2 ^ 63 + (2 ^ width t - 1 - signBit t))
 unfolding greatest signBit
-ex-greatest t = pick (isSigned t)
+ex-greatest t is = pick (isSigned t)
   where
     pick : (s : Bool) → cond s (pos (half t - 1)) (pos (2 ^ width t - 1)) ≡ ex (2 ^ 63 + (2 ^ width t - 1 - cond s (half t) 0))
-    pick true = ap pos (omega (arith, width-half t)) ∙ sym (ex-pos (2 ^ width t - 1 - half t))
+    pick true = ap pos (omega (arith, width-half t is)) ∙ sym (ex-pos (2 ^ width t - 1 - half t))
     pick false = ap pos (omega arith) ∙ sym (ex-pos (2 ^ width t - 1 - 0))
 
 -- A number kept between two, as the code does it.
@@ -161,6 +162,6 @@ ex-kept t v l u p q =
     ex-cond (ltb v l) l (cond (ltb u v) u v) ∙ ap (cond (ltb v l) (ex l)) (ex-cond (ltb u v) u v)
     ∙ rw (p, q) (sym (ap₂ (λ (b c : Bool). cond b (ex l) (cond c (ex u) (ex v))) (ex-lt v l) (ex-lt u v)))
 
-pub ex-clamp : (t v : ℕ) → ex (kept v (2 ^ 63 - signBit t) (2 ^ 63 + (2 ^ width t - 1 - signBit t))) ≡ clampTo t (ex v)
-ex-clamp t v =
-    ex-kept t v (2 ^ 63 - signBit t) (2 ^ 63 + (2 ^ width t - 1 - signBit t)) (ex-least t) (ex-greatest t)
+pub ex-clamp : (t v : ℕ) → IsType t → ex (kept v (2 ^ 63 - signBit t) (2 ^ 63 + (2 ^ width t - 1 - signBit t))) ≡ clampTo t (ex v)
+ex-clamp t v is =
+    ex-kept t v (2 ^ 63 - signBit t) (2 ^ 63 + (2 ^ width t - 1 - signBit t)) (ex-least t) (ex-greatest t is)

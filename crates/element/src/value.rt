@@ -3,7 +3,7 @@ ghost use mathlib.Core.Path.{_≡_};
 ghost use mathlib.Core.Bool.{cond};
 ghost use lib.Dec.{ltb};
 ghost use Prim.Native.Nat.{_+_, _-_, _^_, _<_};
-ghost use Rattle.paper.specs.Value.{width, value, clampTo};
+ghost use Rattle.paper.specs.Value.{width, IsType, value, clampTo};
 ghost use Rattle.element.specs.Biased.{ex, Near, signBit};
 use words::types::width_of;
 
@@ -19,6 +19,7 @@ fn ones(kind: u64) -> u64
 
 // The bit of a type's patterns that says that a value is negative; 0 where the type has none.
 pub fn sign(kind: u64) -> u64
+    requires { ⌜ IsType kind ⌝ }
     ensures { λ r. ⌜ r ≡ signBit kind ⌝ }
 {
     if kind % 2 == 1 {
@@ -29,7 +30,7 @@ pub fn sign(kind: u64) -> u64
 
 // The value of a pattern.
 pub fn load(kind: u64, pattern: u64) -> u64
-    requires { ⌜ pattern < 2 ^ width kind ⌝ }
+    requires { ⌜ IsType kind × (pattern < 2 ^ width kind) ⌝ }
     ensures { λ r. ⌜ (ex r ≡ value kind pattern) × Near (width kind) r ⌝ }
 {
     let s = sign(kind);
@@ -51,6 +52,7 @@ fn between(v: u64, low: u64, high: u64) -> u64
 
 // The value of the type that is nearest to v.
 pub fn clamp(kind: u64, v: u64) -> u64
+    requires { ⌜ IsType kind ⌝ }
     ensures { λ r. ⌜ ex r ≡ clampTo kind (ex v) ⌝ }
 {
     let s = sign(kind);

@@ -12,7 +12,7 @@ use lib.Pow.{pow-mono}
 use Rattle.paper.specs.Bits.{bit}
 use Rattle.paper.specs.Word.{src0, src1, condModifier, saturate, dstType, qtrCtrl}
 use Rattle.paper.specs.Operation.{Plain}
-use Rattle.paper.specs.Value.{width, modZ, stored}
+use Rattle.paper.specs.Value.{width, IsType, modZ, stored}
 use Rattle.paper.specs.Element.{oneIf, result, made, meets}
 use Rattle.paper.specs.Region.{channels}
 use Rattle.paper.specs.Store.{Store}
@@ -45,36 +45,36 @@ unfolding lowestBits
 lowest-less results n h = omega (arith, ofBits-less (λ k. bit (getD results k 0) 0) n, pow-mono {i = n} {j = 16} h)
 
 -- What a destination of any type stores for an outcome has the outcome as its lowest bit.
-stored-outcome : (t : ℕ) (b : Bool) → bit (stored false t (oneIf b)) 0 ≡ b
+stored-outcome : (t : ℕ) → IsType t → (b : Bool) → bit (stored false t (oneIf b)) 0 ≡ b
 unfolding stored modZ
-stored-outcome t true = by-type (λ size bits. bit (1 % 2 ^ bits) 0 ≡ true) refl refl refl t
-stored-outcome t false = by-type (λ size bits. bit (0 % 2 ^ bits) 0 ≡ false) refl refl refl t
+stored-outcome t is true = by-type (λ size bits. bit (1 % 2 ^ bits) 0 ≡ true) refl refl refl t is
+stored-outcome t is false = by-type (λ size bits. bit (0 % 2 ^ bits) 0 ≡ false) refl refl refl t is
 
 -- What cmp stores for a channel has what it finds as its lowest bit.
-makes-outcome : (w predicate : ℕ) (registers : List ℕ) (k : ℕ) → saturate w ≡ 0
+makes-outcome : (w predicate : ℕ) (registers : List ℕ) (k : ℕ) → IsType (dstType w) → saturate w ≡ 0
     → bit (channelMakes Plain.cmp w predicate registers k) 0 ≡ meets (condModifier w) (operand w registers src0 k) (operand w registers src1 k)
 unfolding channelMakes made meets result
-makes-outcome w predicate registers k e = rw e (stored-outcome (dstType w) _)
+makes-outcome w predicate registers k is e = rw e (stored-outcome (dstType w) is _)
 
 -- A number's lowest bit is that of its low bits.
-bit-low : (kind v : ℕ) → bit v 0 ≡ bit (v % 2 ^ width kind) 0
-bit-low kind v = by-type (λ size bits. bit v 0 ≡ bit (v % 2 ^ bits) 0) (same 31) (same 15) (same 7) kind
+bit-low : (kind v : ℕ) → IsType kind → bit v 0 ≡ bit (v % 2 ^ width kind) 0
+bit-low kind v is = by-type (λ size bits. bit v 0 ≡ bit (v % 2 ^ bits) 0) (same 31) (same 15) (same 7) kind is
   where
     same : (q : ℕ) → bit v 0 ≡ bit (v % 2 ^ (1 + q)) 0
     same q = ap (λ (x : ℕ). eqb x 1) (sym (bits-below 0 1 q v))
 
 -- By channel number, the mask says what the paper's cmp finds.
-pub bit-finds : (w predicate : ℕ) (st : Store) (made : List ℕ) → saturate w ≡ 0 → Makes Plain.cmp w predicate (st .registers) made
+pub bit-finds : (w predicate : ℕ) (st : Store) (made : List ℕ) → IsType (dstType w) → saturate w ≡ 0 → Makes Plain.cmp w predicate (st .registers) made
     → (m : ℕ) → channelOf w 0 ≤ m → m < channelOf w 0 + channels w
     → bit (raisedMask (lowestBits made (channels w)) (qtrCtrl w)) m ≡ finds w st m
 unfolding lowestBits finds Makes
-bit-finds w predicate st made e makes m from before =
+bit-finds w predicate st made is e makes m from before =
     let n : ℕ = m - channelOf w 0 in
     let own : n < channels w = omega arith in
     let mask : ℕ = ofBits (λ k. bit (getD made k 0) 0) (channels w) in
     let at : 8 * qtrCtrl w + n ≡ m = omega arith in
     subst (λ (i : ℕ). bit (raisedMask mask (qtrCtrl w)) i ≡ bit mask n) at (bit-raised mask (qtrCtrl w) n)
     ∙ bit-ofBits (λ k. bit (getD made k 0) 0) (channels w) n own
-    ∙ bit-low (dstType w) (getD made n 0)
+    ∙ bit-low (dstType w) (getD made n 0) is
     ∙ ap (λ (v : ℕ). bit v 0) (makes n own)
-    ∙ makes-outcome w predicate (st .registers) n e
+    ∙ makes-outcome w predicate (st .registers) n is e

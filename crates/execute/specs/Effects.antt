@@ -18,7 +18,7 @@ use Rattle.laws.specs.Scatter.{scattered-same}
 use Rattle.lanes.specs.Masks.{quarterMask, raisedMask, awakeList}
 use Rattle.lanes.specs.MaskLaws.{predicateOf, enableOf, getD-awakeList}
 use Rattle.lanes.specs.Served.{scattered-masked, flag-masked}
-use Rattle.execute.specs.Readable.{legal-channels, legal-compared}
+use Rattle.execute.specs.Readable.{legal-channels, legal-type, legal-compared}
 use Rattle.execute.specs.Results.{Makes, makes-stores}
 use Rattle.execute.specs.Stored.{scattered-low}
 use Rattle.execute.specs.Compared.{lowestBits, bit-finds}
@@ -75,7 +75,7 @@ flag-compared w mask st made legal makes =
     flag-masked w st (awakeList mask) mask (legal-channels Plain.cmp w legal) (getD-awakeList mask) Plain.cmp (chosenFlag w st)
     (raisedMask (lowestBits made (channels w)) (qtrCtrl w))
     (finds w st)
-    (bit-finds w (quarterMask (predicateOf w st) (qtrCtrl w)) st made (legal-compared w legal) makes)
+    (bit-finds w (quarterMask (predicateOf w st) (qtrCtrl w)) st made (legal-type Plain.cmp w legal) (legal-compared w legal) makes)
 
 -- So is that of any operation that is cmp.
 flag-of-cmp : (p : Plain) (w mask : ℕ) (st : Store) (made : List ℕ) → p ≡ Plain.cmp → LegalPlain p w → MadeOf p w st made

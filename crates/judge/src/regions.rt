@@ -26,7 +26,7 @@ use words::region::stride_of;
 use words::types::size_of;
 ghost use mathlib.Core.Bool.{_||_};
 ghost use mathlib.Core.Path.{_≡_};
-ghost use Prim.Native.Nat.{_<_, _≤_};
+ghost use Prim.Native.Nat.{_-_, _<_, _≤_};
 ghost use Rattle.paper.specs.Word.{dstSubregister, srcSubregister};
 ghost use Rattle.paper.specs.Region.{dstSize, srcRegion};
 ghost use Rattle.paper.specs.Legal.{rowEndsElsewhere, columnHasStride, elementHasStride, scalarIsWide, fieldHangs};
@@ -110,11 +110,13 @@ pub fn shape_broken(p: Plain, w: Word) -> bool
 
 // ---- 10
 
-// A subregister is no multiple of the element size.
+// A subregister is no multiple of the element size. Of a size of 0, which no type has, only 0 is one.
 pub fn is_unaligned(subregister: u64, size: u64) -> bool
-    requires { ⌜ 0 < size ⌝ }
     ensures { λ r. ⌜ r ≡ unaligned subregister size ⌝ }
 {
+    if size == 0 {
+        return negated(subregister == 0);
+    }
     negated(subregister % size == 0)
 }
 
@@ -149,12 +151,22 @@ pub fn last_channel(w: Word) -> usize
     count_of(exec_size(w)) - 1
 }
 
+// The byte before another; 0 has none, and stays.
+fn byte_before(end: usize) -> usize
+    ensures { λ r. ⌜ r ≡ end - 1 ⌝ }
+{
+    if end == 0 {
+        return 0;
+    }
+    end - 1
+}
+
 // The first and the last byte lie in registers more than one apart, or past r127.
 pub fn too_far(origin: usize, element: usize, size: usize) -> bool
-    requires { ⌜ (origin < 16384) × (element < 134217728) × (0 < size) × (size ≤ 4) ⌝ }
+    requires { ⌜ (origin < 16384) × (element < 134217728) × (size ≤ 4) ⌝ }
     ensures { λ r. ⌜ r ≡ tooFar origin element size ⌝ }
 {
-    let last = element + size - 1;
+    let last = byte_before(element + size);
     either(origin / 32 + 1 < last / 32, REGISTER_BYTES <= last)
 }
 

@@ -2,25 +2,27 @@
 use mathlib.Core.Bool.{Bool, true, false, cond}
 use mathlib.Core.List.{List}
 use mathlib.Core.Option.{Option, none, some}
-use mathlib.Core.Path.{_≡_, refl, sym, ap, _∙_, subst}
+use mathlib.Core.Path.{_≡_, refl, sym, ap, ap₂, _∙_, subst}
 use Prim.Native.Nat.{ℕ, _*_, _<_, _≤_}
 use native.Mathlib.Omega.{arith}
 use lib.Dec.{eqb, leb}
 use lib.ListN.{length}
 use borrow.Author.Tests.{eqb-true, leb-true}
 use Rattle.paper.specs.Limits.{instructionLimit, dictionaryBytes, kernelBytes}
-use Rattle.paper.specs.Dictionary.{dictionaryOf, inRange}
+use Rattle.paper.specs.Dictionary.{Dictionary, dictionaryOf, inRange}
+use Rattle.paper.specs.Legal.{refusalOf}
 use Rattle.paper.specs.Kernel.{Instr, Forms, passed, judgeAt, Parsed, bad, good, parse}
 use Rattle.paper.specs.Jump.{fetch, endOf, lands, astray, withJumps}
 use Rattle.paper.specs.Calls.{sized, judgedKernel, accepted}
 use Rattle.laws.specs.Names.{Sound}
+use Rattle.laws.specs.Judged.{Passed, asLong, asShort, judge-passed}
 use Rattle.laws.specs.Walk.{walked}
 use Rattle.laws.specs.Parse.{jumps-good}
 use Rattle.words.specs.declared.answer.Answer.{Answer}
 use Rattle.words.specs.declared.answer.Answer.the-variants.{Told, Refused}
 use Rattle.kernel.specs.declared.jumps.Astray.{Astray}
 use Rattle.kernel.specs.declared.jumps.Astray.the-variants.{Nowhere, Branch}
-use Rattle.kernel.specs.Standing.{Whole, Fetches, Fits, fits, Stands, Standing, walk-stands, stands-fetch}
+use Rattle.kernel.specs.Standing.{sizeAt, wordAt, Whole, Fetches, fits, Stands, Standing, walk-stands, stands-fetch}
 use Rattle.kernel.specs.Marks.{marked, Says, says-bad, says-refused, Accepts, says-accepted}
 use Rattle.kernel.specs.Jumps.{instrOf, FirstOut, astrayIs, out-astray}
 use Rattle.laws.specs.Truth.{both-true}
@@ -141,32 +143,59 @@ accepted-kernel forms dictionary kernel k e =
       few = v .few;
     }
 
--- The instruction that starts at a place passes there.
-pub accepted-fetch : (forms : Forms) (dictionary kernel : List ℕ) (k : List Instr) → AcceptedKernel forms dictionary kernel k
-    → (p : ℕ) (i : Instr) → fetch k p ≡ some i
-    → (8 * p < length kernel) × (i .place ≡ p) × (judgeAt forms (dictionaryOf dictionary) kernel (8 * p) ≡ passed (i .size) (i .word))
-accepted-fetch forms dictionary kernel k h p i e = stands-fetch forms (dictionaryOf dictionary) kernel 0 refl k (h .stands) p i e
+-- ---- an instruction stands here
 
--- At a place that lands and is not the end there is one.
-pub lands-fetch : (k : List Instr) (p : ℕ) → lands k p ≡ true → (p ≡ endOf k → ⊥) → (i : Instr) × (fetch k p ≡ some i)
-unfolding lands
-lands-fetch k p e n = go (fetch k p) refl
-  where
-    go : (o : Option Instr) → fetch k p ≡ o → (i : Instr) × (fetch k p ≡ some i)
-    go none h = absurd (n (eqb-true p (endOf k) (rw h at e)))
-    go (some i) h = (i, h)
+-- At place p an instruction of k starts: it lies in the bytes, whole; its size and its word are what those bytes say; and it passes.
+pub record Here (forms : Forms) (D : Dictionary) (kernel : List ℕ) (k : List Instr) (p : ℕ) : Type 0 where
+  pub inside : 8 * p < length kernel
+  pub whole : Whole kernel (8 * p)
+  pub fetched : fetch k p ≡ some (instrOf p (sizeAt kernel (8 * p)) (wordAt D kernel (8 * p)))
+  pub passes : judgeAt forms D kernel (8 * p) ≡ passed (sizeAt kernel (8 * p)) (wordAt D kernel (8 * p))
 
--- So its bytes are there, and reading them gives the instruction.
-module _ (forms : Forms) (dictionary kernel : List ℕ) (k : List Instr) (h : AcceptedKernel forms dictionary kernel k) (p : ℕ) (i : Instr) (e : fetch k p ≡ some i) where
-  abbrev there : Fits (dictionaryOf dictionary) kernel (8 * p) (i .size) (i .word)
-  there = let f = accepted-fetch forms dictionary kernel k h p i e in fits forms (dictionaryOf dictionary) kernel (8 * p) (i .size) (i .word) (f .0) (f .2)
+-- The same of its size and its word as the code finds them.
+pub record Found (forms : Forms) (D : Dictionary) (kernel : List ℕ) (k : List Instr) (p size w : ℕ) : Type 0 where
+  pub fetched : fetch k p ≡ some (instrOf p size w)
+  pub legal : refusalOf w ≡ 0
 
-  pub fetch-whole : Whole kernel (8 * p)
-  fetch-whole = omega (arith, there .room, there .size-is)
+module _ (forms : Forms) (D : Dictionary) (kernel : List ℕ) (k : List Instr) (p : ℕ) (h : Here forms D kernel k p) (size w : ℕ) (f : Fetches D kernel (8 * p) size w) where
+  word-legal : {n v : ℕ} → Passed forms D kernel (8 * p) n v → refusalOf v ≡ 0
+  word-legal (asLong room form listed legal) = legal
+  word-legal (asShort room form listed plain takes legal) = legal
 
-  pub fetch-is : (size w : ℕ) → Fetches (dictionaryOf dictionary) kernel (8 * p) size w → i ≡ instrOf p size w
-  fetch-is size w f =
-      let at : i .place ≡ p = accepted-fetch forms dictionary kernel k h p i e .1 in
-      let long : i .size ≡ size = sym (f .size-is ∙ there .size-is) in
-      let same : i .word ≡ w = sym (f .word-is ∙ there .word-is) in
-      λ j. record { place = at j; size = long j; word = same j }
+  pub found-here : Found forms D kernel k p size w
+  found-here =
+      record {
+        fetched = rw (f .size-is, f .word-is) (h .fetched);
+        legal = rw (f .word-is) (word-legal (judge-passed forms D kernel (8 * p) (h .inside) _ _ (h .passes)));
+      }
+
+module _ (forms : Forms) (dictionary kernel : List ℕ) (k : List Instr) (h : AcceptedKernel forms dictionary kernel k) (p : ℕ) where
+  -- One stands where one is fetched.
+  here-fetched : (i : Instr) → fetch k p ≡ some i → Here forms (dictionaryOf dictionary) kernel k p
+  here-fetched i e =
+      let D = dictionaryOf dictionary in
+      let s = stands-fetch forms D kernel 0 refl k (h .stands) p i e in
+      let f = fits forms D kernel (8 * p) (i .size) (i .word) (s .0) (s .2) in
+      record {
+        inside = s .0;
+        whole = omega (arith, f .room, f .size-is);
+        fetched = e ∙ ap some (λ j. record { place = s .1 j; size = sym (f .size-is) j; word = sym (f .word-is) j });
+        passes = s .2 ∙ ap₂ passed (sym (f .size-is)) (sym (f .word-is));
+      }
+
+  -- At the end and past it none does.
+  pub none-past : length kernel ≤ 8 * p → fetch k p ≡ none
+  none-past past = go (fetch k p) refl
+    where
+      go : (o : Option Instr) → fetch k p ≡ o → o ≡ none
+      go none e = refl
+      go (some i) e = absurd (omega (arith, here-fetched i e .inside))
+
+  -- At a place that lands and is not the end one does.
+  pub lands-here : lands k p ≡ true → (8 * p ≡ length kernel → ⊥) → Here forms (dictionaryOf dictionary) kernel k p
+  unfolding lands
+  lands-here e away = go (fetch k p) refl
+    where
+      go : (o : Option Instr) → fetch k p ≡ o → Here forms (dictionaryOf dictionary) kernel k p
+      go none n = absurd (away (ap (λ (q : ℕ). 8 * q) (eqb-true p (endOf k) (rw n at e)) ∙ h .ends))
+      go (some i) n = here-fetched i n

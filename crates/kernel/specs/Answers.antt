@@ -1,8 +1,8 @@
 -- What the code's answers are in the paper's terms. Assumes nothing.
 use mathlib.Core.Bool.{Bool, true, false, not, cond}
 use mathlib.Core.List.{List, []}
-use mathlib.Core.Path.{_≡_, refl, sym, ap}
-use Prim.Native.Nat.{ℕ, _+_, _-_, _*_, _<_, _≤_}
+use mathlib.Core.Path.{_≡_, refl, sym, ap, ap₂, _∙_}
+use Prim.Native.Nat.{ℕ, _+_, _-_, _*_, _^_, _<_, _≤_}
 use native.Mathlib.Nat.{add-sub-cancel-left}
 use native.Mathlib.Omega.{arith}
 use lib.Dec.{leb, ltb}
@@ -16,6 +16,7 @@ use Rattle.paper.specs.Calls as paper
 use Rattle.words.specs.Words.{toWord}
 use Rattle.words.specs.Answer.{answerIs}
 use Rattle.words.specs.declared.answer.Answer.{Answer}
+use Rattle.words.specs.declared.bytes.Word.{Word}
 use Rattle.kernel.specs.declared.decode.Decoded.{Decoded}
 use Rattle.kernel.specs.declared.decode.Decoded.the-variants.{Refused, Passed}
 use Rattle.kernel.specs.Standing.{fits}
@@ -25,6 +26,39 @@ use Rattle.kernel.specs.Accepting.{right-sizes}
 abbrev pub decodedIs : Decoded → paper.Decoded
 decodedIs (Refused number offset) = undecoded number offset
 decodedIs (Passed size w) = decoded size (toWord w)
+
+-- ---- one outcome
+
+-- A word's halves have 64 bits each, which their types say of the code's.
+pub record Halved (w : Word) : Type 0 where
+  pub low : w .lo < 2 ^ 64
+  pub high : w .hi < 2 ^ 64
+
+-- Such halves are determined by the word that they make up.
+word-back : (v w : Word) → Halved v → Halved w → toWord v ≡ toWord w → v ≡ w
+word-back v w a b e =
+    let low : v .lo ≡ w .lo = omega (arith, a .low, b .low) in
+    let high : v .hi ≡ w .hi = omega (arith, a .low, b .low) in
+    λ i. record { lo = low i; hi = high i }
+
+-- The word, if there is one, has such halves.
+abbrev pub HalvedIn : Decoded → Type 0
+HalvedIn (Refused number offset) = Unit {0}
+HalvedIn (Passed size w) = Halved w
+
+-- What decoding gives is one to one with what it means.
+decoded-back : (r s : Decoded) → HalvedIn r → HalvedIn s → decodedIs r ≡ decodedIs s → r ≡ s
+decoded-back (Refused n o) (Refused m p) a b e = cc
+decoded-back (Refused n o) (Passed m w) a b e = cc
+decoded-back (Passed n v) (Refused m p) a b e = cc
+decoded-back (Passed n v) (Passed m w) a b e =
+    let size : n ≡ m = cc in
+    let sum : toWord v ≡ toWord w = cc in
+    ap₂ Passed size (word-back v w a b sum)
+
+-- So what `decode` ensures admits one answer.
+pub one-decoded : (d : paper.Decoded) (r s : Decoded) → HalvedIn r → HalvedIn s → decodedIs r ≡ d → decodedIs s ≡ d → r ≡ s
+one-decoded d r s a b p q = decoded-back r s a b (p ∙ sym q)
 
 -- ---- the check
 

@@ -10,13 +10,12 @@ use lib.Pow.{pow-pos, shr-mono, ones-split, low, ones-lt}
 use borrow.Author.Tests.{ltb-false, leb-false, eqb-false, not-false}
 use Rattle.paper.specs.Limits.{registerBytes}
 use Rattle.paper.specs.Bits.{bits}
-use Rattle.paper.specs.Word.{Source, shiftOf, execSize, srcType, srcField, srcWidth, dstType, dstStride, isNull, isImmediate}
+use Rattle.paper.specs.Word.{Source, shiftOf, execSize, srcField, srcWidth, dstStride, isNull, isImmediate}
 use Rattle.paper.specs.Operation.{Plain, plain, operation, sources}
 use Rattle.paper.specs.Region.{Region, strideOf, channels, elementAt, srcRegion, dstOrigin, dstSize, dstElement}
 use Rattle.paper.specs.Legal.{anyOf, someOperand, reservedSet, plainServed, operandRuleBroken, shapeRefused, shapeBroken, srcShapeBroken, alignmentBroken}
 use Rattle.paper.specs.Legal.{tooFar, regionTooFar, lastChannel, reachBroken, later, refusalOf}
 use Rattle.laws.specs.Bits.{bits-inner}
-use Rattle.laws.specs.Values.{size-least}
 
 -- ---- the rules one by one
 
@@ -136,9 +135,9 @@ region-last r x k n e hk hn =
     omega arith
 
 -- An element that does not reach too far ends inside the registers.
-near : (origin element size : ℕ) → 0 < size → tooFar origin element size ≡ false → element + size ≤ registerBytes
+near : (origin element size : ℕ) → tooFar origin element size ≡ false → element + size ≤ registerBytes
 unfolding tooFar
-near origin element size h e =
+near origin element size e =
     let inside : element + size - 1 < registerBytes =
     leb-false registerBytes (element + size - 1) (or-false (ltb (origin / 32 + 1) ((element + size - 1) / 32)) _ e .1) in
     omega arith
@@ -152,9 +151,9 @@ abbrev pub Inside : Region → ℕ → Type 0
 Inside r count = (n : ℕ) → n < count → elementAt r n + r .size ≤ registerBytes
 
 -- They do where rows are whole and the last one is not too far.
-pub region-inside : (r : Region) (x k : ℕ) → r .wide ≡ 2 ^ k → k ≤ x → 0 < r .size → regionTooFar r (2 ^ x - 1) ≡ false → Inside r (2 ^ x)
-region-inside r x k e hk size far n h =
-    ends-before _ _ _ _ (region-last r x k n e hk h) (near (r .origin) (elementAt r (2 ^ x - 1)) (r .size) size far)
+pub region-inside : (r : Region) (x k : ℕ) → r .wide ≡ 2 ^ k → k ≤ x → regionTooFar r (2 ^ x - 1) ≡ false → Inside r (2 ^ x)
+region-inside r x k e hk far n h =
+    ends-before _ _ _ _ (region-last r x k n e hk h) (near (r .origin) (elementAt r (2 ^ x - 1)) (r .size) far)
 
 -- Every channel of a legal word reads its register sources inside the registers.
 pub source-inside : (p : Plain) (w : ℕ) → shapeBroken p w ≡ false → reachBroken p w ≡ false
@@ -162,7 +161,7 @@ pub source-inside : (p : Plain) (w : ℕ) → shapeBroken p w ≡ false → reac
 unfolding reachBroken
 source-inside p w s r x m i =
     let wide : srcWidth x w ≤ execSize w = rw (field-width x w) at (source-shape p w s x m i .wide) in
-    region-inside (srcRegion x w) (execSize w) (srcWidth x w) refl wide (size-least (srcType x w))
+    region-inside (srcRegion x w) (execSize w) (srcWidth x w) refl wide
     (by-source p w _ (λ y. regionTooFar (srcRegion y w) (lastChannel w)) r x m i)
 
 -- ---- the destination
@@ -181,7 +180,7 @@ pub destination-inside : (p : Plain) (w : ℕ) → reachBroken p w ≡ false →
 unfolding reachBroken
 destination-inside p w r d n h =
     rw (destination-element w n) at
-    (region-inside (dstRegion w) (execSize w) 0 refl (omega arith) (size-least (dstType w))
+    (region-inside (dstRegion w) (execSize w) 0 refl (omega arith)
     (ap (λ (e : ℕ). tooFar (dstOrigin w) e (dstSize w)) (destination-element w (lastChannel w)) ∙ by-destination p w _ _ r d) n h)
 
 -- ---- elements apart

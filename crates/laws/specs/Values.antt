@@ -9,37 +9,44 @@ use lib.Dec.{T, ltb, leb, lit<, lit≤, le→leb}
 use lib.IntN.{ℤ, pos, negsuc, negℤ, subℕ, _+ℤ_, _*ℤ_}
 use lib.Signed.{ltZ, _≤ℤ_, leZ-yes, ltZ-no, ≤ℤ-refl}
 use lib.Pow.{pow-pos}
-use Rattle.paper.specs.Value.{width, sizeOf, isSigned, value, least, greatest, modZ, floorZ, clampTo, stored}
+use borrow.Author.Tests.{lt-ltb}
+use Rattle.paper.specs.Value.{width, sizeOf, IsType, isSigned, value, least, greatest, modZ, floorZ, clampTo, stored}
 use Rattle.paper.specs.Operation.{Plain}
 use Rattle.paper.specs.Element.{Element, meaning, result, made}
 use Rattle.laws.specs.Differences.{neg-of, is-neg, is-pos, sub-add, sub-mod}
 
 -- ---- types
 
--- What holds of four bytes and 32 bits, of two and 16, and of one and 8, holds of every type.
-pub by-type : (P : ℕ → ℕ → Type 0) → P 4 32 → P 2 16 → P 1 8 → (t : ℕ) → P (sizeOf t) (width t)
-by-type P dword word byte t = pick (ltb t 2) (ltb t 4)
+-- What holds of four bytes and 32 bits, of two and 16, of one and 8, and of none, holds of every code.
+pub by-code : (P : ℕ → ℕ → Type 0) → P 4 32 → P 2 16 → P 1 8 → P 0 0 → (t : ℕ) → P (sizeOf t) (width t)
+by-code P dword word byte none t = pick (ltb t 2) (ltb t 4) (ltb t 6)
   where
-    pick : (p q : Bool) → P (cond p 4 (cond q 2 1)) (cond p 32 (cond q 16 8))
-    pick true q = dword
-    pick false true = word
-    pick false false = byte
+    pick : (p q r : Bool) → P (cond p 4 (cond q 2 (cond r 1 0))) (8 * cond p 4 (cond q 2 (cond r 1 0)))
+    pick true q r = dword
+    pick false true r = word
+    pick false false true = byte
+    pick false false false = none
 
--- A type's bits are eight times its bytes.
-pub width-size : (t : ℕ) → width t ≡ 8 * sizeOf t
-width-size = by-type (λ size bits. bits ≡ 8 * size) refl refl refl
+-- What holds of four, of two and of one holds of every type.
+pub by-type : (P : ℕ → ℕ → Type 0) → P 4 32 → P 2 16 → P 1 8 → (t : ℕ) → IsType t → P (sizeOf t) (width t)
+by-type P dword word byte = by-code (λ size bits. 0 < size → P size bits) (λ h. dword) (λ h. word) (λ h. byte) (λ h. absurd (omega arith))
 
--- A type has one byte at least.
-pub size-least : (t : ℕ) → 0 < sizeOf t
-size-least = by-type (λ size bits. 0 < size) (lit< tt) (lit< tt) (lit< tt)
+-- Codes 0 to 5 are types.
+pub listed-type : (t : ℕ) → t ≤ 5 → IsType t
+listed-type t h = rw (lt-ltb t 6 (omega arith)) (pick (ltb t 2) (ltb t 4))
+  where
+    pick : (p q : Bool) → 0 < cond p 4 (cond q 2 1)
+    pick true q = lit< tt
+    pick false true = lit< tt
+    pick false false = lit< tt
 
--- And four at most.
+-- A type has four bytes at most.
 pub size-most : (t : ℕ) → sizeOf t ≤ 4
-size-most = by-type (λ size bits. size ≤ 4) (lit≤ tt) (lit≤ tt) (lit≤ tt)
+size-most = by-code (λ size bits. size ≤ 4) (lit≤ tt) (lit≤ tt) (lit≤ tt) (lit≤ tt)
 
 -- So many bytes hold so many patterns as the bits do.
 pub size-patterns : (t : ℕ) → 256 ^ sizeOf t ≡ 2 ^ width t
-size-patterns = by-type (λ size bits. 256 ^ size ≡ 2 ^ bits) refl refl refl
+size-patterns = by-code (λ size bits. 256 ^ size ≡ 2 ^ bits) refl refl refl refl
 
 -- ---- quotient and remainder
 

@@ -8,7 +8,7 @@ use lib.ListN.{length, getD}
 use lib.Pow.{pow-mono, pow-pos}
 use Rattle.paper.specs.Limits.{registerBytes}
 use Rattle.paper.specs.Bits.{numberAt}
-use Rattle.paper.specs.Value.{width, value, modified}
+use Rattle.paper.specs.Value.{width, IsType, value, modified}
 use Rattle.paper.specs.Word.{Source, execSize, srcType, srcModifier, isImmediate, immediate}
 use Rattle.paper.specs.Region.{Region, channels, elementAt, srcRegion}
 use Rattle.paper.specs.Element.{meaning}
@@ -19,9 +19,10 @@ use Rattle.element.specs.Operands.{width-most}
 use Rattle.lanes.specs.Mapped.{Mapped, mapped-weaker}
 use Rattle.operands.specs.Reads.{Reads, ElementRead, ElementsRead}
 
--- Source x of a word can be read: there are 16 channels at most, and what is no immediate lies inside the registers.
+-- Source x of a word can be read: there are 16 channels at most, its type is one, and what is no immediate lies inside the registers.
 pub record Readable (x : Source) (w : ℕ) : Type 0 where
   pub count : execSize w ≤ 4
+  pub type : IsType (srcType x w)
   pub inside : isImmediate x w ≡ false → Inside (srcRegion x w) (channels w)
 
 -- Of sixteen numbers, each of the n first stands for what its channel of source x reads, as near to 0 as the type's values; the others stay.

@@ -8,7 +8,7 @@ ghost use Rattle.operands.specs.Reads.{ElementsRead};
 
 // The n first elements from byte `from` on, as numbers.
 fn line(registers: &[u8], from: usize, kind: u64, size: usize, n: usize, values: &mut [u64; 16])
-    requires { ⌜ (size ≡ sizeOf kind) × (n ≤ 16) × (length (now values) ≡ 16) ⌝ }
+    requires { ⌜ (size ≡ sizeOf kind) × (n ≤ 16) × (length (now values) ≡ 16) × (0 < size) ⌝ }
     requires { ⌜ ((k : ℕ) → k < n → from + k * size + size ≤ length (now registers)) ⌝ }
     ensures { λ r. ⌜ ElementsRead (now (registers .entry)) (λ k. from + k * size) kind size n (now (values .entry)) (now (values .exit)) ⌝ }
 {
@@ -76,7 +76,7 @@ fn sixteen_bytes(registers: &[u8], from: usize, kind: u64, values: &mut [u64; 16
 
 // Sixteen elements.
 fn sixteen(registers: &[u8], from: usize, kind: u64, size: usize, values: &mut [u64; 16])
-    requires { ⌜ (size ≡ sizeOf kind) × (length (now values) ≡ 16) ⌝ }
+    requires { ⌜ (size ≡ sizeOf kind) × (length (now values) ≡ 16) × (0 < size) ⌝ }
     requires { ⌜ ((k : ℕ) → k < 16 → from + k * size + size ≤ length (now registers)) ⌝ }
     ensures { λ r. ⌜ ElementsRead (now (registers .entry)) (λ k. from + k * size) kind size 16 (now (values .entry)) (now (values .exit)) ⌝ }
 {
@@ -100,7 +100,7 @@ pub fn beside(
     n: usize,
     values: &mut [u64; 16],
 )
-    requires { ⌜ (size ≡ sizeOf kind) × (n ≤ 16) × (length (now values) ≡ 16) ⌝ }
+    requires { ⌜ (size ≡ sizeOf kind) × (n ≤ 16) × (length (now values) ≡ 16) × (0 < size) ⌝ }
     requires { ⌜ ((k : ℕ) → k < n → from + k * size + size ≤ length (now registers)) ⌝ }
     ensures { λ r. ⌜ ElementsRead (now (registers .entry)) (λ k. from + k * size) kind size n (now (values .entry)) (now (values .exit)) ⌝ }
 {

@@ -16,6 +16,7 @@ use Rattle.paper.specs.Kernel.{Instr, Forms}
 use Rattle.paper.specs.Jump.{nextOf, targetsOf, placeOf, fetch, endOf, lands, jumpLands, targetsLand}
 use Rattle.paper.specs.Packing.{index, Form, piece, placesTaken, startOf, newTargets}
 use Rattle.laws.specs.Names.{piecesOf, newEnd}
+use Rattle.laws.specs.Lasting.{lands-before}
 use Rattle.laws.specs.Moved.{start-high}
 use Rattle.laws.specs.Places.{apart, index-le, start-zero, none-length, fetch-index, lands-names, jump-lands, zero-lands, place-lands}
 use Rattle.laws.specs.Places as places
@@ -25,7 +26,7 @@ use Rattle.laws.specs.Relay.{newEnd-near}
 use Rattle.kernel.specs.Standing.{Whole, Fetches}
 use Rattle.kernel.specs.Marks.{placeCount}
 use Rattle.kernel.specs.Jumps.{instrOf}
-use Rattle.kernel.specs.Accepting.{AcceptedKernel, accepted-fetch, lands-fetch, fetch-whole, fetch-is}
+use Rattle.kernel.specs.Accepting.{AcceptedKernel, Here, found-here, none-past, lands-here}
 use Rattle.packer.specs.Pieces.{start-next}
 
 -- At each place at which an instruction starts, and at the end's, stands the place at which it comes to stand.
@@ -55,21 +56,11 @@ module _ (forms : Forms) (dictionary kernel : List ℕ) (k : List Instr) (h : Ac
 
   -- No instruction starts at the end, whose number is therefore that past the last.
   end-last : index k (endOf k) ≡ length k
-  end-last = go (fetch k (endOf k)) refl
-    where
-      go : (o : Option Instr) → fetch k (endOf k) ≡ o → index k (endOf k) ≡ length k
-      go none e = none-length k (endOf k) e
-      go (some i) e = absurd (omega (arith, accepted-fetch forms dictionary kernel k h (endOf k) i e .0, h .ends))
+  end-last = none-length k (endOf k) (none-past forms dictionary kernel k h (endOf k) (omega (arith, h .ends)))
 
   -- No place past the end lands.
   pub lands-low : (p : ℕ) → lands k p ≡ true → 8 * p ≤ length kernel
-  lands-low p e = go (eqb p (endOf k)) refl
-    where
-      go : (b : Bool) → eqb p (endOf k) ≡ b → 8 * p ≤ length kernel
-      go true t = omega (arith, eqb-true p (endOf k) t, h .ends)
-      go false f =
-          let i = lands-fetch k p e (eqb-false p (endOf k) f) in
-          omega (arith, accepted-fetch forms dictionary kernel k h p (i .0) (i .1) .0)
+  lands-low p e = omega (arith, lands-before k (h .sound .laid) p e, h .ends)
 
   -- The place after an instruction lands.
   next-lands : (p : ℕ) (i : Instr) → fetch k p ≡ some i → lands k (nextOf i) ≡ true
@@ -142,12 +133,12 @@ module _ (forms : Forms) (dictionary kernel : List ℕ) (k : List Instr) (h : Ac
     end-to e = s .to-is ∙ ap (startOf 0 (piecesOf form k)) (stage-end e ∙ sym (length-map k (piece form)))
 
     module _ (inside : from < length kernel) where
-      -- Before it an instruction starts there.
-      there : (i : Instr) × (fetch k (from / 8) ≡ some i)
-      there = lands-fetch k (from / 8) (s .starts) (λ e. omega (arith, s .whole, h .ends))
+      -- Before it an instruction stands there.
+      here : Here forms (dictionaryOf dictionary) kernel k (from / 8)
+      here = lands-here forms dictionary kernel k h (from / 8) (s .starts) (λ e. omega (arith, s .whole))
 
       pub stage-whole : Whole kernel from
-      stage-whole = subst (λ (x : ℕ). Whole kernel x) (s .whole) (fetch-whole forms dictionary kernel k h (from / 8) (there .0) (there .1))
+      stage-whole = subst (λ (x : ℕ). Whole kernel x) (s .whole) (here .whole)
 
       module _ (size w : ℕ) (f : Fetches (dictionaryOf dictionary) kernel from size w) where
         abbrev instr : Instr
@@ -156,7 +147,7 @@ module _ (forms : Forms) (dictionary kernel : List ℕ) (k : List Instr) (h : Ac
         pub stage-fetch : fetch k (from / 8) ≡ some instr
         stage-fetch =
             let g = subst (λ (x : ℕ). Fetches (dictionaryOf dictionary) kernel x size w) (sym (s .whole)) f in
-            there .1 ∙ ap some (fetch-is forms dictionary kernel k h (from / 8) (there .0) (there .1) size w g)
+            found-here forms (dictionaryOf dictionary) kernel k (from / 8) here size w g .fetched
 
         pub stage-piece : getElem? (piecesOf form k) (index k (from / 8)) ≡ some (piece form instr)
         stage-piece = fetch-index (piece form) k (from / 8) ∙ ap (Option·map (piece form)) stage-fetch

@@ -1,20 +1,24 @@
 -- Types, and the whole numbers that elements hold (the paper, "Operations"). An element's pattern is the unsigned number that its bits write;
 -- its value is a whole number: `pos n` is n, `negsuc n` is −(n + 1), `subℕ a b` is a − b. Assumes nothing.
 use mathlib.Core.Bool.{Bool, true, false, cond, _&&_}
-use Prim.Native.Nat.{ℕ, _+_, _-_, _*_, _/_, _%_, _^_}
+use Prim.Native.Nat.{ℕ, _+_, _-_, _*_, _/_, _%_, _^_, _<_}
 use lib.Dec.{leb, ltb, eqb}
 use lib.IntN.{ℤ, pos, negsuc, negℤ, natAbs, subℕ}
 use lib.Signed.{ltZ}
 
 -- ---- types: ud 0, d 1, uw 2, w 3, ub 4, b 5
 
--- A type's bits.
-abbrev pub width : ℕ → ℕ
-width t = cond (ltb t 2) 32 (cond (ltb t 4) 16 8)
-
--- Its bytes: the element size.
+-- A type's bytes: the element size. Codes 6 and 7 are no type's, and have none.
 abbrev pub sizeOf : ℕ → ℕ
-sizeOf t = cond (ltb t 2) 4 (cond (ltb t 4) 2 1)
+sizeOf t = cond (ltb t 2) 4 (cond (ltb t 4) 2 (cond (ltb t 6) 1 0))
+
+-- Its bits.
+abbrev pub width : ℕ → ℕ
+width t = 8 * sizeOf t
+
+-- The code is a type's.
+abbrev pub IsType : ℕ → Type 0
+IsType t = 0 < sizeOf t
 
 abbrev pub isSigned : ℕ → Bool
 isSigned t = eqb (t % 2) 1

@@ -14,7 +14,6 @@ use Rattle.paper.specs.Kernel.{Instr, longAndShort}
 use Rattle.paper.specs.Jump.{fetch, targetsOf, placeOf, jumpLands, targetsLand}
 use Rattle.paper.specs.Machine.{Ways, waysOf, stepAt, stepOn, step, stopsOn, stops}
 use Rattle.paper.specs.Calls.{accepted}
-use Rattle.laws.specs.Judged.{Passed, asLong, asShort, judge-passed}
 use Rattle.laws.specs.Truth.{both-true}
 use Rattle.laws.specs.Rename.{AtPlaces, leads-at}
 use Rattle.laws.specs.Places.{jump-lands, place-lands}
@@ -22,7 +21,7 @@ use Rattle.laws.specs.Lasting.{Lasting, names-lands, lands-before, step-lasting
 use Rattle.kernel.specs.Standing.{Whole, Fetches}
 use Rattle.kernel.specs.Marks.{instrsOf}
 use Rattle.kernel.specs.Jumps.{instrOf}
-use Rattle.kernel.specs.Accepting.{AcceptedKernel, accepted-fetch, lands-fetch, fetch-whole, fetch-is}
+use Rattle.kernel.specs.Accepting.{AcceptedKernel, Here, Found, found-here, none-past, lands-here}
 use Rattle.machine.specs.declared.state.State.{State}
 use Rattle.machine.specs.Branches.{SaneWays}
 use Rattle.machine.specs.States.{stateIs, SaneState}
@@ -56,37 +55,23 @@ module _ (dictionary kernel registers : List ℕ) (s : State) (r : Running dicti
 
   -- At the end no instruction starts.
   pub running-end : 8 * s .place ≡ length kernel → stops k (stateIs registers s) ≡ some 20
-  running-end e = go (fetch k (s .place)) refl
-    where
-      go : (o : Option Instr) → fetch k (s .place) ≡ o → stopsOn o ≡ some 20
-      go none f = refl
-      go (some i) f = absurd (let h = accepted-fetch longAndShort dictionary kernel k (r .accepts) (s .place) i f in omega (arith, h .0))
+  running-end e = ap stopsOn (none-past longAndShort dictionary kernel k (r .accepts) (s .place) (omega arith))
 
   module _ (away : 8 * s .place ≡ length kernel → ⊥) where
-    -- Away from it one does.
-    there : (i : Instr) × (fetch k (s .place) ≡ some i)
-    there =
-        lands-fetch k (s .place) (names-lands k (s .place) (r .lasts .naming .current)) (λ e. away (ap (λ (p : ℕ). 8 * p) e ∙ r .accepts .ends))
+    -- Away from it one stands there.
+    here : Here longAndShort (dictionaryOf dictionary) kernel k (s .place)
+    here = lands-here longAndShort dictionary kernel k (r .accepts) (s .place) (names-lands k (s .place) (r .lasts .naming .current)) away
 
     pub running-on : stops k (stateIs registers s) ≡ none
-    running-on = ap stopsOn (there .1)
+    running-on = ap stopsOn (here .fetched)
 
     -- Its bytes are there.
     pub running-whole : Whole kernel (8 * s .place)
-    running-whole = fetch-whole longAndShort dictionary kernel k (r .accepts) (s .place) (there .0) (there .1)
+    running-whole = here .whole
 
     module _ (size w : ℕ) (f : Fetches (dictionaryOf dictionary) kernel (8 * s .place) size w) where
-      found : fetch k (s .place) ≡ some (instrOf (s .place) size w)
-      found = there .1 ∙ ap some (fetch-is longAndShort dictionary kernel k (r .accepts) (s .place) (there .0) (there .1) size w f)
-
-      passes : Passed longAndShort (dictionaryOf dictionary) kernel (8 * s .place) size w
-      passes =
-          let a = accepted-fetch longAndShort dictionary kernel k (r .accepts) (s .place) (instrOf (s .place) size w) found in
-          judge-passed longAndShort (dictionaryOf dictionary) kernel (8 * s .place) (a .0) size w (a .2)
-
-      word-legal : {n v : ℕ} → Passed longAndShort (dictionaryOf dictionary) kernel (8 * s .place) n v → refusalOf v ≡ 0
-      word-legal (asLong room form listed legal) = legal
-      word-legal (asShort room form listed plain takes legal) = legal
+      found : Found longAndShort (dictionaryOf dictionary) kernel k (s .place) size w
+      found = found-here longAndShort (dictionaryOf dictionary) kernel k (s .place) here size w f
 
       -- No target that lands lies past the kernel's end.
       targets-less : (zs : List ℤ) → targetsLand k zs ≡ true → AtPlaces (λ p. p < 65536) (map placeOf zs)
@@ -104,17 +89,17 @@ module _ (dictionary kernel registers : List ℕ) (s : State) (r : Running dicti
           let i : Instr = instrOf (s .place) size w in
           let a =
           leads-at (λ p. p < 65536) (s .place + size) (map placeOf (targetsOf i)) next-less (omega arith)
-          (targets-less (targetsOf i) (jump-lands k k (s .place) i (r .accepts .sound .land) found)) in
+          (targets-less (targetsOf i) (jump-lands k k (s .place) i (r .accepts .sound .land) (found .fetched))) in
           record { next = a .next; jump = a .jump; wait = a .wait }
 
       pub running-steps : (ways : Ways) → ways ≡ waysOf (instrOf (s .place) size w) → Steps dictionary kernel registers s size w ways
       unfolding stepOn
       running-steps ways e =
           record {
-            legal = word-legal passes;
+            legal = found .legal;
             near = next-less;
             fits = rw e ways-less;
-            makes = rw e (sym (ap (λ (o : Option Instr). stepOn o (stateIs registers s)) found));
+            makes = rw e (sym (ap (λ (o : Option Instr). stepOn o (stateIs registers s)) (found .fetched)));
           }
 
   -- A step leaves such a state.

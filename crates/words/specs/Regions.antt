@@ -20,7 +20,6 @@ pub record Small (r : Region) : Type 0 where
   pub rows : r .vert < 32768
   pub wide : r .code < 8
   pub columns : r .horz < 32768
-  pub least : 0 < r .size
   pub most : r .size ≤ 4
 
 -- (n >> k) << k loses nothing at the top.

@@ -1,11 +1,11 @@
 // What the code of a type says.
 ghost use mathlib.Core.Path.{_≡_};
-ghost use Prim.Native.Nat.{_<_, _≤_};
+ghost use Prim.Native.Nat.{_≤_};
 ghost use Rattle.paper.specs.Value.{width, sizeOf};
 
-// The bytes of its elements.
+// The bytes of its elements; none where the code is no type's.
 pub fn size_of(kind: u64) -> u64
-    ensures { λ r. ⌜ (r ≡ sizeOf kind) × (0 < r) × (r ≤ 4) ⌝ }
+    ensures { λ r. ⌜ (r ≡ sizeOf kind) × (r ≤ 4) ⌝ }
 {
     if kind < 2 {
         return 4;
@@ -13,18 +13,15 @@ pub fn size_of(kind: u64) -> u64
     if kind < 4 {
         return 2;
     }
-    1
+    if kind < 6 {
+        return 1;
+    }
+    0
 }
 
 // Their bits.
 pub fn width_of(kind: u64) -> u32
     ensures { λ r. ⌜ (r ≡ width kind) × (r ≤ 32) ⌝ }
 {
-    if kind < 2 {
-        return 32;
-    }
-    if kind < 4 {
-        return 16;
-    }
-    8
+    8 * size_of(kind) as u32
 }

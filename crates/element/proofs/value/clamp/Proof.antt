@@ -15,10 +15,10 @@ sub-between : tie.Need-sub-between
 sub-between c = omega (arith, sign-most (c .before .before .args .kind))
 
 sub-between-2 : tie.Need-sub-between-2
-sub-between-2 c = omega (arith, sign-ones (c .before .before .args .kind))
+sub-between-2 c = omega (arith, sign-ones (c .before .before .args .kind) (c .before .before .pre))
 
 add-between : tie.Need-add-between
-add-between c = omega (arith, ones-most (c .before .before .args .kind))
+add-between c = omega (arith, ones-most (c .before .before .args .kind) (c .before .before .pre))
 
 between-requires : tie.Need-between-requires
 between-requires c κs = search needs
@@ -26,7 +26,7 @@ between-requires c κs = search needs
 returns : tie.Need-returns
 returns c =
     let x = c .before .before .before .args in
-    rw (c .between .ensures, c .before .before .sign .ensures, c .before .ones .ensures) (ex-clamp (x .kind) (x .v))
+    rw (c .between .ensures, c .before .before .sign .ensures, c .before .ones .ensures) (ex-clamp (x .kind) (x .v) (c .before .before .before .pre))
 
 pub clamp-spec : {M : Type 1} → statement M
 clamp-spec =

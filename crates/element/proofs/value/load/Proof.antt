@@ -14,12 +14,12 @@ sub-result c = omega (arith, sign-most (c .before .args .kind))
 add-result : tie.Need-add-result
 add-result c =
     let x = c .before .args in
-    rw (c .sign .ensures) (record { fits = load-fits (x .kind) (x .pattern) (c .before .pre) })
+    rw (c .sign .ensures) (record { fits = load-fits (x .kind) (x .pattern) (c .before .pre .0) (c .before .pre .1) })
 
 returns : tie.Need-returns
 returns c =
     let x = c .before .args in
-    rw (c .sign .ensures) (ex-load (x .kind) (x .pattern) (c .before .pre), load-near (x .kind) (x .pattern) (c .before .pre))
+    rw (c .sign .ensures) (ex-load (x .kind) (x .pattern) (c .before .pre .0) (c .before .pre .1), load-near (x .kind) (x .pattern) (c .before .pre .0) (c .before .pre .1))
 
 pub load-spec : {M : Type 1} → statement M
 load-spec = tie.close (tie.spec sign-requires sub-result add-result returns)

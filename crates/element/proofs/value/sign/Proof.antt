@@ -11,7 +11,7 @@ add-result : tie.Need-add-result
 add-result c = search needs
 
 returns : tie.Need-returns
-returns c = rw (c .ones .ensures) (sign-some (c .before .before .args .kind) (c .before .if1 .taken))
+returns c = rw (c .ones .ensures) (sign-some (c .before .before .args .kind) (c .before .before .pre) (c .before .if1 .taken))
 
 returns-2 : tie.Need-returns-2
 returns-2 c = sign-none (c .before .args .kind) (c .if1 .left)

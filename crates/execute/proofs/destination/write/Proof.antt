@@ -30,7 +30,7 @@ scatter-requires c κs =
     let w = toWord (s .args .w) in
     let kept : isNull w ≡ false = rw (← (c .before .before .before .before .is-null .ensures)) (c .before .before .before .if1 .left) in
     rw (c .channels .ensures .0, ap (λ (s : Region). s .origin) (c .before .before .dst-region .ensures .0), ap (λ (s : Region). s .vert) (c .before .before .dst-region .ensures .0), ap (λ (s : Region). s .size) (c .before .before .dst-region .ensures .0))
-    ((type-size (dstType w), count-channels w (s .pre .0 .count)), λ k h. rw (s .pre .1) (s .pre .0 .inside kept k h))
+    ((type-size (dstType w) (s .pre .0 .type), count-channels w (s .pre .0 .count)), λ k h. rw (s .pre .1) (s .pre .0 .inside kept k h))
 
 same-length : tie.Need-same-length
 same-length c = search needs

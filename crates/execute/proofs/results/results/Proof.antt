@@ -6,7 +6,7 @@ use Rattle.paper.specs.Word.{src0}
 use Rattle.words.specs.Operations.{plainIs}
 use Rattle.words.specs.Traits.{first-source}
 use Rattle.words.specs.Words.{toWord}
-use Rattle.execute.specs.Readable.{legal-count, legal-readable}
+use Rattle.execute.specs.Readable.{legal-count, legal-type, legal-readable}
 use Rattle.execute.specs.Results.{zeros-near, read-sixteen, read-operands, combined-sixteen, results-made}
 use borrow.Author.Needs.{needs}
 use Rattle.execute.proofs.results.results.Statement.{statement}
@@ -43,7 +43,9 @@ dst-type-requires : tie.Need-dst-type-requires
 dst-type-requires c κs = search needs
 
 clamp-all-requires : tie.Need-clamp-all-requires
-clamp-all-requires c κs = (c .before .before .before .before .before .before .before .before .before .before .before .channels .ensures .1, combined-sixteen _ _ _ _ _ _ _ (c .before .before .before .combine .ensures))
+clamp-all-requires c κs =
+    let s = c .before .before .before .before .before .before .before .before .before .before .before .before .before in
+    (c .before .before .before .before .before .before .before .before .before .before .before .channels .ensures .1, combined-sixteen _ _ _ _ _ _ _ (c .before .before .before .combine .ensures), rw (c .before .dst-type .ensures .0) (legal-type _ _ (s .pre .0)))
 
 returns : tie.Need-returns
 returns c =

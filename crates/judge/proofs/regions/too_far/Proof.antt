@@ -4,11 +4,11 @@ use borrow.Author.Needs.{needs}
 use Rattle.judge.proofs.regions.too_far.Statement.{statement}
 use Rattle.judge.proofs.regions.too_far.Tie as tie
 
-add-last : tie.Need-add-last
-add-last c = search needs
+add-byte-before : tie.Need-add-byte-before
+add-byte-before c = search needs
 
-sub-last : tie.Need-sub-last
-sub-last c = search needs
+byte-before-requires : tie.Need-byte-before-requires
+byte-before-requires c κs = search needs
 
 add-either : tie.Need-add-either
 add-either c = search needs
@@ -21,4 +21,4 @@ unfolding tooFar
 returns c = cc
 
 pub too-far-spec : {M : Type 1} → statement M
-too-far-spec = tie.close (tie.spec add-last sub-last add-either either-requires returns)
+too-far-spec = tie.close (tie.spec add-byte-before byte-before-requires add-either either-requires returns)

@@ -10,7 +10,7 @@ use Rattle.operands.proofs.beside.beside.Tie as tie
 sixteen-requires : tie.Need-sixteen-requires
 sixteen-requires c κs =
     let s = c .before .before .before in
-    ((s .pre .0 .0, s .pre .0 .2), λ k h. s .pre .1 k (omega (arith, c .before .if1 .taken)))
+    ((s .pre .0 .0, s .pre .0 .2, s .pre .0 .3), λ k h. s .pre .1 k (omega (arith, c .before .if1 .taken)))
 
 returns : tie.Need-returns
 returns c = rw (c .before .before .if1 .taken) (c .sixteen .ensures)
@@ -42,13 +42,13 @@ returns-3 c =
 some-bytes-requires : tie.Need-some-bytes-requires
 some-bytes-requires c κs =
     let s = c .before .before .before .before .before in
-    let e : s .args .size ≡ 1 = size-one _ (s .args .kind) (s .pre .0 .0) (c .before .before .if2 .left) (c .before .if3 .left) in
+    let e : s .args .size ≡ 1 = size-one _ (s .args .kind) (s .pre .0 .0) (s .pre .0 .3) (c .before .before .if2 .left) (c .before .if3 .left) in
     ((sym e ∙ s .pre .0 .0, s .pre .0 .1, s .pre .0 .2), λ k h. subst (λ (z : ℕ). s .args .from + k * z + z ≤ length (s .args .registers .now)) e (s .pre .1 k h))
 
 returns-4 : tie.Need-returns-4
 returns-4 c =
     let s = c .before .before .before .before .before .before in
-    let e : s .args .size ≡ 1 = size-one _ (s .args .kind) (s .pre .0 .0) (c .before .before .before .if2 .left) (c .before .before .if3 .left) in
+    let e : s .args .size ≡ 1 = size-one _ (s .args .kind) (s .pre .0 .0) (s .pre .0 .3) (c .before .before .before .if2 .left) (c .before .before .if3 .left) in
     rw e (c .some-bytes .ensures)
 
 pub beside-spec : {M : Type 1} → statement M

@@ -26,7 +26,7 @@ add-at : tie.Need-add-at Inv-loop μ-loop
 add-at c = omega (arith, c .before .before .before .pre .1 (c .before .loop .k) (c .loop-test .taken))
 
 read-as-requires : tie.Need-read-as-requires Inv-loop μ-loop
-read-as-requires c κs = (c .before .before .before .pre .0 .0, c .before .before .before .pre .1 (c .before .loop .k) (c .loop-test .taken))
+read-as-requires c κs = (c .before .before .before .pre .0 .0, c .before .before .before .pre .1 (c .before .loop .k) (c .loop-test .taken), c .before .before .before .pre .0 .3)
 
 mul-values : tie.Need-mul-values Inv-loop μ-loop
 mul-values c = search needs

@@ -33,13 +33,13 @@ returns-2 c =
 sixteen-bytes-requires : tie.Need-sixteen-bytes-requires
 sixteen-bytes-requires c κs =
     let s = c .before .before .before .before in
-    let e : s .args .size ≡ 1 = size-one _ (s .args .kind) (s .pre .0 .0) (c .before .before .if1 .left) (c .before .if2 .left) in
+    let e : s .args .size ≡ 1 = size-one _ (s .args .kind) (s .pre .0 .0) (s .pre .0 .2) (c .before .before .if1 .left) (c .before .if2 .left) in
     ((sym e ∙ s .pre .0 .0, s .pre .0 .1), λ k h. subst (λ (z : ℕ). s .args .from + k * z + z ≤ length (s .args .registers .now)) e (s .pre .1 k h))
 
 returns-3 : tie.Need-returns-3
 returns-3 c =
     let s = c .before .before .before .before .before in
-    let e : s .args .size ≡ 1 = size-one _ (s .args .kind) (s .pre .0 .0) (c .before .before .before .if1 .left) (c .before .before .if2 .left) in
+    let e : s .args .size ≡ 1 = size-one _ (s .args .kind) (s .pre .0 .0) (s .pre .0 .2) (c .before .before .before .if1 .left) (c .before .before .if2 .left) in
     rw e (c .sixteen-bytes .ensures)
 
 pub sixteen-spec : {M : Type 1} → statement M

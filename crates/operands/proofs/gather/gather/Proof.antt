@@ -12,7 +12,7 @@ beside-requires : tie.Need-beside-requires
 beside-requires c κs =
     let s = c .before .before .before .before in
     let e = c .before .before .is-beside .ensures (c .before .if1 .taken) in
-    ((s .pre .0 .1, s .pre .0 .3, s .pre .0 .4), λ k h. rw (beside-at (regionIs (s .args .r)) k (e .0) (e .1)) (s .pre .1 k h))
+    ((s .pre .0 .1, s .pre .0 .3, s .pre .0 .4, s .pre .0 .5), λ k h. rw (beside-at (regionIs (s .args .r)) k (e .0) (e .1)) (s .pre .1 k h))
 
 returns : tie.Need-returns
 returns c =
@@ -27,7 +27,7 @@ read-as-requires : tie.Need-read-as-requires
 read-as-requires c κs =
     let s = c .before .before .before .before .before in
     let e = c .before .is-single .ensures (c .if2 .taken) in
-    (s .pre .0 .1, rw (single-at (regionIs (s .args .r)) 0 (e .0) (e .1)) (s .pre .1 0 (s .pre .0 .2)))
+    (s .pre .0 .1, rw (single-at (regionIs (s .args .r)) 0 (e .0) (e .1)) (s .pre .1 0 (s .pre .0 .2)), s .pre .0 .5)
 
 spread-requires : tie.Need-spread-requires
 spread-requires c κs = search needs

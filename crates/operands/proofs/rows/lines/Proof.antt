@@ -28,7 +28,7 @@ element-at-requires c κs =
 read-as-requires : tie.Need-read-as-requires Inv-loop μ-loop
 read-as-requires c κs =
     let p = c .before .before .before .before .pre in
-    (p .0 .2, rw (c .element-at .ensures .0) (p .1 (c .before .before .loop .k) (c .before .loop-test .taken)))
+    (p .0 .2, rw (c .element-at .ensures .0) (p .1 (c .before .before .loop .k) (c .before .loop-test .taken)), p .0 .5)
 
 mul-values : tie.Need-mul-values Inv-loop μ-loop
 mul-values c = search needs

@@ -22,7 +22,7 @@ load-requires c κs =
     let s = c .before .before .before .before .before .before in
     let w = toWord (s .args .w) in
     let t = fixed-told (sourceIs (s .args .x)) w _ (c .before .before .before .operand-of .ensures) _ (c .before .o .given .1) in
-    rw (c .before .before .before .before .src-type .ensures .0) (t .2)
+    rw (c .before .before .before .before .src-type .ensures .0) (s .pre .0 .type, t .2)
 
 spread-requires : tie.Need-spread-requires
 spread-requires c κs =
@@ -38,7 +38,7 @@ gather-requires c κs =
     let s = c .before .before .before .before .before .before .before in
     let w = toWord (s .args .w) in
     let t = direct-told (sourceIs (s .args .x)) w _ (c .before .before .before .before .operand-of .ensures) _ (c .before .before .o2 .given .1) in (
-      (t .2, t .3 ∙ sym (ap sizeOf (c .before .before .before .before .before .src-type .ensures .0)), rw (s .pre .1) (channels-some w), rw (s .pre .1) (count-channels w (s .pre .0 .count)), s .pre .3),
+      (t .2, t .3 ∙ sym (ap sizeOf (c .before .before .before .before .before .src-type .ensures .0)), rw (s .pre .1) (channels-some w), rw (s .pre .1) (count-channels w (s .pre .0 .count)), s .pre .3, rw (t .3) (s .pre .0 .type)),
       region-read (sourceIs (s .args .x)) w _ (s .pre .0) (t .0) (t .1) _ _ (s .pre .1) (s .pre .2),
     )
 

@@ -47,7 +47,7 @@ size-of-requires c κs = search needs
 returns : tie.Need-returns
 returns c = (
   cc,
-  record { start = omega arith; rows = omega arith; wide = omega arith; columns = omega arith; least = omega arith; most = omega arith },
+  record { start = omega arith; rows = omega arith; wide = omega arith; columns = omega arith; most = omega arith },
 )
 
 pub dst-region-spec : {M : Type 1} → statement M

@@ -62,7 +62,7 @@ size-of-requires c κs = search needs
 returns : tie.Need-returns
 returns c = (
   region-is _ _ (cc) (cc) (cc) (cc) (cc),
-  record { start = omega arith; rows = omega arith; wide = omega arith; columns = omega arith; least = omega arith; most = omega arith },
+  record { start = omega arith; rows = omega arith; wide = omega arith; columns = omega arith; most = omega arith },
 )
 
 pub src-region-spec : {M : Type 1} → statement M
