@@ -1,5 +1,6 @@
 // The distances of an operation.
 use crate::distance::Distance;
+use crate::distance::without;
 use words::bytes::Word;
 use words::fields::operation;
 use words::operation::Branch;
@@ -7,6 +8,7 @@ use words::operation::Operation;
 ghost use mathlib.Core.Path.{_≡_};
 ghost use Rattle.paper.specs.Jump.{distances, distancesOf};
 ghost use Rattle.paper.specs.Operation.{operation};
+ghost use Rattle.laws.specs.Names.{blank};
 ghost use Rattle.words.specs.Operations.{branchIs, operationIs};
 ghost use Rattle.words.specs.Words.{toWord};
 ghost use Rattle.distances.specs.Distances.{distancesIs};
@@ -40,5 +42,16 @@ pub fn distances_in(w: Word) -> Distances
         Operation::Nop => Distances::Nothing,
         Operation::Jumps(b) => of_branch(b),
         Operation::Unlisted => Distances::Nothing,
+    }
+}
+
+// The word with 0 for each of its distances: what two kernels that jump alike have in common.
+pub fn blank(w: Word) -> Word
+    ensures { λ r. ⌜ toWord r ≡ blank (toWord w) ⌝ }
+{
+    let held = distances_in(w);
+    match held {
+        Distances::Nothing => w,
+        Distances::One(d) => without(d, w),
     }
 }

@@ -1,4 +1,4 @@
-// One distance in a word: read, followed, written.
+// One distance in a word: read, followed, written, blanked.
 use words::bytes::Word;
 use words::fields::long_distance;
 use words::fields::short_distance;
@@ -121,4 +121,11 @@ pub fn aim(d: Distance, w: Word, here: u64, next: u64, to: u64) -> Word
     let from = base(d, here, next);
     let span = 2 * half(d);
     with_field(d, w, (to + span - from) % span)
+}
+
+// The word with 0 for the distance.
+pub fn without(d: Distance, w: Word) -> Word
+    ensures { λ r. ⌜ toWord r ≡ put (toWord w) (distanceIs d .lo) (distanceIs d .width) 0 ⌝ }
+{
+    with_field(d, w, 0)
 }

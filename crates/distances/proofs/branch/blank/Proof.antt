@@ -1,0 +1,35 @@
+-- The distances are those of the word, none or one. Assumes nothing.
+use mathlib.Core.List.{List}
+use mathlib.Core.Path.{sym, ap, _∙_}
+use Rattle.paper.specs.Jump.{Distance}
+use Rattle.laws.specs.Names.{blanked}
+use Rattle.words.specs.Words.{toWord}
+use Rattle.distances.specs.Distances.{distancesIs}
+use borrow.Author.Needs.{needs}
+use Rattle.distances.proofs.branch.blank.Statement.{statement}
+use Rattle.distances.proofs.branch.blank.Tie as tie
+
+distances-in-requires : tie.Need-distances-in-requires
+distances-in-requires c κs = search needs
+
+enum-told : tie.Need-enum-told
+enum-told c = search needs
+
+enum-known-held : tie.Need-enum-known-held
+enum-known-held c = search needs
+
+without-requires : tie.Need-without-requires
+without-requires c κs = search needs
+
+returns : tie.Need-returns
+unfolding blanked
+returns c = ap (λ (fs : List Distance). blanked fs (toWord (c .before .before .before .args .w))) (ap distancesIs (sym (c .enum-told .given .1)) ∙ c .before .before .distances-in .ensures)
+
+returns-2 : tie.Need-returns-2
+unfolding blanked
+returns-2 c = c .without .ensures ∙ ap (λ (fs : List Distance). blanked fs (toWord (c .before .before .before .before .before .args .w))) (ap distancesIs (sym (c .before .before .held .given .1)) ∙ c .before .before .before .before .distances-in .ensures)
+
+pub blank-spec : {M : Type 1} → statement M
+blank-spec =
+    tie.close
+    (tie.spec distances-in-requires enum-told enum-known-held without-requires returns returns-2)
