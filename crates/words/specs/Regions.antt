@@ -14,6 +14,11 @@ pub region-is : (r : Region) (s : paper.Region)
     → r .origin ≡ s .origin → r .vert ≡ s .vert → 2 ^ r .code ≡ s .wide → r .horz ≡ s .horz → r .size ≡ s .size → regionIs r ≡ s
 region-is r s a b c d e = λ i. record { origin = a i; vert = b i; wide = c i; horz = d i; size = e i }
 
+-- So is one in which each channel is a row.
+pub destination-is : (origin vert size : ℕ) {o v z : ℕ} → origin ≡ o → vert ≡ v → size ≡ z
+    → regionIs (record { origin = origin; vert = vert; code = 0; horz = 0; size = size }) ≡ record { origin = o; vert = v; wide = 1; horz = 0; size = z }
+destination-is origin vert size a b c = λ i. record { origin = a i; vert = b i; wide = 1; horz = 0; size = c i }
+
 -- Numbers as small as the fields of any word make them, so that an element's place can be reckoned.
 pub record Small (r : Region) : Type 0 where
   pub start : r .origin < 8192

@@ -1,4 +1,10 @@
+-- Each part of the region is what its field says. Assumes nothing.
+use mathlib.Core.Path.{ap, ap₂, _∙_}
+use Prim.Native.Nat.{ℕ, _+_, _*_}
 use native.Mathlib.Omega.{arith}
+use Rattle.paper.specs.Value.{sizeOf}
+use Rattle.paper.specs.Region.{strideOf}
+use Rattle.words.specs.Regions.{destination-is}
 use borrow.Author.Needs.{needs}
 use Rattle.words.proofs.region.dst_region.Statement.{statement}
 use Rattle.words.proofs.region.dst_region.Tie as tie
@@ -45,10 +51,12 @@ size-of-requires c κs = search needs
 
 -- src/region.rt:66:1
 returns : tie.Need-returns
-returns c = (
-  cc,
-  record { start = omega arith; rows = omega arith; wide = omega arith; columns = omega arith; most = omega arith },
-)
+returns c =
+    (destination-is _ _ _
+    (ap₂ (λ (a b : ℕ). a * 32 + b) (c .before .before .before .before .before .dst-register .ensures .0) (c .before .before .before .before .dst-subregister .ensures .0))
+    (c .before .before .stride-of .ensures .0 ∙ ap strideOf (c .before .before .before .dst-stride .ensures .0))
+    (c .size-of .ensures .0 ∙ ap sizeOf (c .before .dst-type .ensures .0)),
+    record { start = omega arith; rows = omega arith; wide = omega arith; columns = omega arith; most = omega arith })
 
 pub dst-region-spec : {M : Type 1} → statement M
 dst-region-spec =
