@@ -12,6 +12,7 @@ pub const BASE: u64 = 9223372036854775808;
 
 // The pattern of a type that has every bit set.
 fn ones(kind: u64) -> u64
+    requires { ⌜ IsType kind ⌝ }
     ensures { λ r. ⌜ r ≡ 2 ^ width kind - 1 ⌝ }
 {
     (1 << width_of(kind)) - 1

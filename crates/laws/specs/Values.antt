@@ -9,7 +9,7 @@ use lib.Dec.{T, ltb, leb, lit<, lit≤, le→leb}
 use lib.IntN.{ℤ, pos, negsuc, negℤ, subℕ, _+ℤ_, _*ℤ_}
 use lib.Signed.{ltZ, _≤ℤ_, leZ-yes, ltZ-no, ≤ℤ-refl}
 use lib.Pow.{pow-pos}
-use borrow.Author.Tests.{lt-ltb}
+use borrow.Author.Tests.{lt-ltb, le-ltb}
 use Rattle.paper.specs.Value.{width, sizeOf, IsType, isSigned, value, least, greatest, modZ, floorZ, clampTo, stored}
 use Rattle.paper.specs.Operation.{Plain}
 use Rattle.paper.specs.Element.{Element, meaning, result, made}
@@ -39,6 +39,14 @@ listed-type t h = rw (lt-ltb t 6 (omega arith)) (pick (ltb t 2) (ltb t 4))
     pick true q = lit< tt
     pick false true = lit< tt
     pick false false = lit< tt
+
+-- A type from 4 on has one byte.
+pub byte-type : (t : ℕ) → 4 ≤ t → IsType t → sizeOf t ≡ 1
+byte-type t h is = rw (le-ltb t 2 (omega arith), le-ltb t 4 h) (pick (ltb t 6) (rw (le-ltb t 2 (omega arith), le-ltb t 4 h) at is))
+  where
+    pick : (r : Bool) → 0 < cond r 1 0 → _≡_ {A = ℕ} (cond r 1 0) 1
+    pick true h = refl
+    pick false h = absurd (omega arith)
 
 -- A type has four bytes at most.
 pub size-most : (t : ℕ) → sizeOf t ≤ 4

@@ -6,7 +6,7 @@ use crate::fields::is_immediate;
 use crate::fields::src_type;
 use crate::region::Region;
 use crate::region::src_region;
-use crate::types::width_of;
+use crate::types::size_of;
 ghost use mathlib.Core.Path.{_≡_};
 ghost use Rattle.paper.specs.Word.{srcType};
 ghost use Rattle.paper.specs.Region.{operandOf};
@@ -24,7 +24,8 @@ pub fn operand_of(x: Source, w: Word) -> Operand
     ensures { λ r. ⌜ (operandIs r ≡ operandOf (sourceIs x) (toWord w)) × Bounded (srcType (sourceIs x) (toWord w)) r ⌝ }
 {
     if is_immediate(x, w) {
-        let pattern = high(w, 32, width_of(src_type(x, w)));
+        let bits = 8 * size_of(src_type(x, w)) as u32;
+        let pattern = high(w, 32, bits);
         return Operand::Fixed(pattern);
     }
     Operand::Direct(src_region(x, w))

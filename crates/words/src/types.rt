@@ -1,7 +1,7 @@
 // What the code of a type says.
 ghost use mathlib.Core.Path.{_≡_};
 ghost use Prim.Native.Nat.{_≤_};
-ghost use Rattle.paper.specs.Value.{width, sizeOf};
+ghost use Rattle.paper.specs.Value.{width, sizeOf, IsType};
 
 // The bytes of its elements; none where the code is no type's.
 pub fn size_of(kind: u64) -> u64
@@ -19,9 +19,16 @@ pub fn size_of(kind: u64) -> u64
     0
 }
 
-// Their bits.
+// A type's bits. It is asked of types alone, since elements are read by it: a fourth case made runs slower by a sixth.
 pub fn width_of(kind: u64) -> u32
+    requires { ⌜ IsType kind ⌝ }
     ensures { λ r. ⌜ (r ≡ width kind) × (r ≤ 32) ⌝ }
 {
-    8 * size_of(kind) as u32
+    if kind < 2 {
+        return 32;
+    }
+    if kind < 4 {
+        return 16;
+    }
+    8
 }
