@@ -1,4 +1,7 @@
-// Elements of 1, 2 or 4 bytes stored to the registers, the lowest byte first.
+// Elements of 1, 2 or 4 bytes stored to the registers.
+use numbers::write1;
+use numbers::write2;
+use numbers::write4;
 ghost use mathlib.Core.Path.{_≡_};
 ghost use Prim.Native.Nat.{_+_, _≤_};
 ghost use lib.ListN.{length};
@@ -10,20 +13,13 @@ pub fn write_element(registers: &mut [u8], from: usize, size: usize, v: u64)
     requires { ⌜ Size size × (from + size ≤ length (now registers)) ⌝ }
     ensures { λ r. ⌜ now (registers .exit) ≡ putAt (now (registers .entry)) from size v ⌝ }
 {
-    registers[from] = (v % 256) as u8;
     if size == 1 {
+        write1(registers, from, v);
         return;
     }
-    let second = from + 1;
-    let above = v / 256;
-    registers[second] = (above % 256) as u8;
     if size == 2 {
+        write2(registers, from, v);
         return;
     }
-    let third = second + 1;
-    let higher = above / 256;
-    registers[third] = (higher % 256) as u8;
-    let fourth = third + 1;
-    let highest = higher / 256;
-    registers[fourth] = (highest % 256) as u8;
+    write4(registers, from, v);
 }

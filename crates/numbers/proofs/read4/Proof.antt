@@ -1,9 +1,9 @@
 -- Four bytes write the first two and, above them, the other two. Assumes nothing.
 use native.Mathlib.Omega.{arith}
 use borrow.Author.Needs.{needs}
-use Rattle.words.specs.Bytes.{parts-read}
-use Rattle.words.proofs.bytes.read4.Statement.{statement}
-use Rattle.words.proofs.bytes.read4.Tie as tie
+use Rattle.numbers.specs.Bytes.{parts-read}
+use Rattle.numbers.proofs.read4.Statement.{statement}
+use Rattle.numbers.proofs.read4.Tie as tie
 
 add-middle : tie.Need-add-middle
 add-middle c = search needs

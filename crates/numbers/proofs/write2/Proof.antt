@@ -3,8 +3,8 @@ use native.Mathlib.Omega.{arith}
 use lib.ListN.{length-set}
 use borrow.Author.Needs.{needs}
 use Rattle.paper.specs.Bits.{putAt}
-use Rattle.words.proofs.bytes.write2.Statement.{statement}
-use Rattle.words.proofs.bytes.write2.Tie as tie
+use Rattle.numbers.proofs.write2.Statement.{statement}
+use Rattle.numbers.proofs.write2.Tie as tie
 
 add-second : tie.Need-add-second
 add-second c = search needs

@@ -1,9 +1,9 @@
 -- Eight bytes write the first four and, above them, the other four. Assumes nothing.
 use native.Mathlib.Omega.{arith}
 use borrow.Author.Needs.{needs}
-use Rattle.words.specs.Bytes.{parts-read}
-use Rattle.words.proofs.bytes.read8.Statement.{statement}
-use Rattle.words.proofs.bytes.read8.Tie as tie
+use Rattle.numbers.specs.Bytes.{parts-read}
+use Rattle.numbers.proofs.read8.Statement.{statement}
+use Rattle.numbers.proofs.read8.Tie as tie
 
 add-middle : tie.Need-add-middle
 add-middle c = search needs

@@ -1,9 +1,9 @@
 -- Two bytes write the first and 256 times the second. Assumes nothing.
 use native.Mathlib.Omega.{arith}
 use borrow.Author.Needs.{needs}
-use Rattle.words.specs.Bytes.{two-read}
-use Rattle.words.proofs.bytes.read2.Statement.{statement}
-use Rattle.words.proofs.bytes.read2.Tie as tie
+use Rattle.numbers.specs.Bytes.{two-read}
+use Rattle.numbers.proofs.read2.Statement.{statement}
+use Rattle.numbers.proofs.read2.Tie as tie
 
 add-second : tie.Need-add-second
 add-second c = search needs
