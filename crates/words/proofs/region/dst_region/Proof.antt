@@ -51,12 +51,13 @@ size-of-requires c κs = search needs
 
 -- src/region.rt:66:1
 returns : tie.Need-returns
-returns c =
-    (destination-is _ _ _
-    (ap₂ (λ (a b : ℕ). a * 32 + b) (c .before .before .before .before .before .dst-register .ensures .0) (c .before .before .before .before .dst-subregister .ensures .0))
-    (c .before .before .stride-of .ensures .0 ∙ ap strideOf (c .before .before .before .dst-stride .ensures .0))
-    (c .size-of .ensures .0 ∙ ap sizeOf (c .before .dst-type .ensures .0)),
-    record { start = omega arith; rows = omega arith; wide = omega arith; columns = omega arith; most = omega arith })
+returns c = (
+  destination-is _ _ _
+      (ap₂ (λ (a b : ℕ). a * 32 + b) (c .before .before .before .before .before .dst-register .ensures .0) (c .before .before .before .before .dst-subregister .ensures .0))
+      (c .before .before .stride-of .ensures .0 ∙ ap strideOf (c .before .before .before .dst-stride .ensures .0))
+      (c .size-of .ensures .0 ∙ ap sizeOf (c .before .dst-type .ensures .0)),
+  record { start = omega arith; rows = omega arith; wide = omega arith; columns = omega arith; most = omega arith },
+)
 
 pub dst-region-spec : {M : Type 1} → statement M
 dst-region-spec =

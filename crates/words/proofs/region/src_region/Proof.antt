@@ -65,14 +65,15 @@ size-of-requires c κs = search needs
 
 -- src/region.rt:48:1
 returns : tie.Need-returns
-returns c =
-    (region-is _ _
-    (ap₂ (λ (a b : ℕ). a * 32 + b) (c .before .before .before .before .before .before .before .before .src-register .ensures .0) (c .before .before .before .before .before .before .before .src-subregister .ensures .0))
-    (c .before .before .before .before .before .stride-of .ensures .0 ∙ ap strideOf (c .before .before .before .before .before .before .src-vert-stride .ensures .0))
-    (ap countOf (c .before .before .before .before .src-width .ensures .0))
-    (c .before .before .stride-of2 .ensures .0 ∙ ap strideOf (c .before .before .before .src-horz-stride .ensures .0))
-    (c .size-of .ensures .0 ∙ ap sizeOf (c .before .src-type .ensures .0)),
-    record { start = omega arith; rows = omega arith; wide = omega arith; columns = omega arith; most = omega arith })
+returns c = (
+  region-is _ _
+      (ap₂ (λ (a b : ℕ). a * 32 + b) (c .before .before .before .before .before .before .before .before .src-register .ensures .0) (c .before .before .before .before .before .before .before .src-subregister .ensures .0))
+      (c .before .before .before .before .before .stride-of .ensures .0 ∙ ap strideOf (c .before .before .before .before .before .before .src-vert-stride .ensures .0))
+      (ap countOf (c .before .before .before .before .src-width .ensures .0))
+      (c .before .before .stride-of2 .ensures .0 ∙ ap strideOf (c .before .before .before .src-horz-stride .ensures .0))
+      (c .size-of .ensures .0 ∙ ap sizeOf (c .before .src-type .ensures .0)),
+  record { start = omega arith; rows = omega arith; wide = omega arith; columns = omega arith; most = omega arith },
+)
 
 pub src-region-spec : {M : Type 1} → statement M
 src-region-spec =
