@@ -14,16 +14,16 @@ ghost use lib.ListN.{length};
 ghost use Rattle.paper.specs.Limits.{registerBytes};
 ghost use Rattle.paper.specs.Word.{src0, src1};
 ghost use Rattle.paper.specs.Region.{channels};
-ghost use Rattle.words.specs.Words.{toWord, sourceIs};
+ghost use Rattle.words.specs.Words.{toWord};
 ghost use Rattle.operands.specs.Sources.{Readable, OperandRead};
 
-// What the channels of a source read.
-fn read_source(x: Source, w: Word, n: usize, registers: &[u8], values: &mut [u64; 16])
-    requires { ⌜ Readable (sourceIs x) (toWord w) × (n ≡ channels (toWord w)) × (length (now registers) ≡ registerBytes) × (length (now values) ≡ 16) ⌝ }
-    ensures { λ r. ⌜ OperandRead (toWord w) (now (registers .entry)) (sourceIs x) n (now (values .entry)) (now (values .exit)) ⌝ }
+// What the channels of src0 read.
+pub fn first_operand(w: Word, n: usize, registers: &[u8], values: &mut [u64; 16])
+    requires { ⌜ Readable src0 (toWord w) × (n ≡ channels (toWord w)) × (length (now registers) ≡ registerBytes) × (length (now values) ≡ 16) ⌝ }
+    ensures { λ r. ⌜ OperandRead (toWord w) (now (registers .entry)) src0 n (now (values .entry)) (now (values .exit)) ⌝ }
 {
-    let kind = src_type(x, w);
-    let o = operand_of(x, w);
+    let kind = src_type(Source::First, w);
+    let o = operand_of(Source::First, w);
     match o {
         Operand::Fixed(pattern) => {
             let number = load(kind, pattern);
@@ -31,23 +31,26 @@ fn read_source(x: Source, w: Word, n: usize, registers: &[u8], values: &mut [u64
         }
         Operand::Direct(r) => {
             gather(r, kind, n, registers, values);
-            modify_all(src_modifier(x, w), n, values);
+            modify_all(src_modifier(Source::First, w), n, values);
         }
     }
 }
 
-// What the channels of src0 read.
-pub fn first_operand(w: Word, n: usize, registers: &[u8], values: &mut [u64; 16])
-    requires { ⌜ Readable src0 (toWord w) × (n ≡ channels (toWord w)) × (length (now registers) ≡ registerBytes) × (length (now values) ≡ 16) ⌝ }
-    ensures { λ r. ⌜ OperandRead (toWord w) (now (registers .entry)) src0 n (now (values .entry)) (now (values .exit)) ⌝ }
-{
-    read_source(Source::First, w, n, registers, values);
-}
-
-// What the channels of src1 read.
+// What the channels of src1 read. It is said apart from src0, so that the fields of each are taken from known bits.
 pub fn second_operand(w: Word, n: usize, registers: &[u8], values: &mut [u64; 16])
     requires { ⌜ Readable src1 (toWord w) × (n ≡ channels (toWord w)) × (length (now registers) ≡ registerBytes) × (length (now values) ≡ 16) ⌝ }
     ensures { λ r. ⌜ OperandRead (toWord w) (now (registers .entry)) src1 n (now (values .entry)) (now (values .exit)) ⌝ }
 {
-    read_source(Source::Second, w, n, registers, values);
+    let kind = src_type(Source::Second, w);
+    let o = operand_of(Source::Second, w);
+    match o {
+        Operand::Fixed(pattern) => {
+            let number = load(kind, pattern);
+            spread(number, n, values);
+        }
+        Operand::Direct(r) => {
+            gather(r, kind, n, registers, values);
+            modify_all(src_modifier(Source::Second, w), n, values);
+        }
+    }
 }

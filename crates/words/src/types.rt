@@ -19,7 +19,7 @@ pub fn size_of(kind: u64) -> u64
     0
 }
 
-// A type's bits. It is asked of types alone, since elements are read by it: a fourth case made runs slower by a sixth.
+// A type's bits. It is asked of types alone, since elements are read by it, and a fourth case made runs slower.
 pub fn width_of(kind: u64) -> u32
     requires { ⌜ IsType kind ⌝ }
     ensures { λ r. ⌜ (r ≡ width kind) × (r ≤ 32) ⌝ }

@@ -1,12 +1,13 @@
 -- An immediate is the same for all channels; elements are gathered and modified. Assumes nothing.
 use mathlib.Core.Path.{sym, ap, _∙_}
 use Rattle.paper.specs.Value.{sizeOf}
-use Rattle.words.specs.Words.{toWord, sourceIs}
+use Rattle.paper.specs.Word.{src1}
+use Rattle.words.specs.Words.{toWord}
 use Rattle.words.specs.Operands.{fixed-told, direct-told}
 use Rattle.operands.specs.Sources.{operand-fixed, operand-direct, elements-near, elements-sixteen, count-channels, channels-some, region-read}
 use borrow.Author.Needs.{needs}
-use Rattle.operands.proofs.sources.read_source.Statement.{statement}
-use Rattle.operands.proofs.sources.read_source.Tie as tie
+use Rattle.operands.proofs.sources.second_operand.Statement.{statement}
+use Rattle.operands.proofs.sources.second_operand.Tie as tie
 
 src-type-requires : tie.Need-src-type-requires
 src-type-requires c κs = search needs
@@ -21,7 +22,7 @@ load-requires : tie.Need-load-requires
 load-requires c κs =
     let s = c .before .before .before .before .before .before in
     let w = toWord (s .args .w) in
-    let t = fixed-told (sourceIs (s .args .x)) w _ (c .before .before .before .operand-of .ensures) _ (c .before .o .given .1) in
+    let t = fixed-told src1 w _ (c .before .before .before .operand-of .ensures) _ (c .before .o .given .1) in
     rw (c .before .before .before .before .src-type .ensures .0) (s .pre .0 .type, t .2)
 
 spread-requires : tie.Need-spread-requires
@@ -37,9 +38,9 @@ gather-requires : tie.Need-gather-requires
 gather-requires c κs =
     let s = c .before .before .before .before .before .before .before in
     let w = toWord (s .args .w) in
-    let t = direct-told (sourceIs (s .args .x)) w _ (c .before .before .before .before .operand-of .ensures) _ (c .before .before .o2 .given .1) in (
+    let t = direct-told src1 w _ (c .before .before .before .before .operand-of .ensures) _ (c .before .before .o2 .given .1) in (
       (t .2, t .3 ∙ sym (ap sizeOf (c .before .before .before .before .before .src-type .ensures .0)), rw (s .pre .1) (channels-some w), rw (s .pre .1) (count-channels w (s .pre .0 .count)), s .pre .3, rw (t .3) (s .pre .0 .type)),
-      region-read (sourceIs (s .args .x)) w _ (s .pre .0) (t .0) (t .1) _ _ (s .pre .1) (s .pre .2),
+      region-read src1 w _ (s .pre .0) (t .0) (t .1) _ _ (s .pre .1) (s .pre .2),
     )
 
 src-modifier-requires : tie.Need-src-modifier-requires
@@ -55,18 +56,18 @@ returns : tie.Need-returns
 returns c =
     let s = c .before .before .before .before .before .before .before .before .before in
     let w = toWord (s .args .w) in
-    let t = fixed-told (sourceIs (s .args .x)) w _ (c .before .before .before .before .before .before .operand-of .ensures) _ (c .before .before .before .before .o .given .1) in
-    operand-fixed w (s .args .registers .now) (sourceIs (s .args .x)) _ _ _ _ _ _ (t .0) (c .before .before .before .before .before .before .before .src-type .ensures .0) (t .1) (c .before .before .load .ensures) (c .spread .ensures)
+    let t = fixed-told src1 w _ (c .before .before .before .before .before .before .operand-of .ensures) _ (c .before .before .before .before .o .given .1) in
+    operand-fixed w (s .args .registers .now) src1 _ _ _ _ _ _ (t .0) (c .before .before .before .before .before .before .before .src-type .ensures .0) (t .1) (c .before .before .load .ensures) (c .spread .ensures)
 
 returns-2 : tie.Need-returns-2
 returns-2 c =
     let s = c .before .before .before .before .before .before .before .before .before .before .before in
     let w = toWord (s .args .w) in
-    let t = direct-told (sourceIs (s .args .x)) w _ (c .before .before .before .before .before .before .before .before .operand-of .ensures) _ (c .before .before .before .before .before .before .o2 .given .1) in
-    operand-direct w (s .args .registers .now) (sourceIs (s .args .x)) _ _ _ _ _ _ _ (t .0) (c .before .before .before .before .before .before .before .before .before .src-type .ensures .0) (c .before .before .src-modifier .ensures .0) (t .1) (c .before .before .before .gather .ensures) (c .modify-all .ensures)
+    let t = direct-told src1 w _ (c .before .before .before .before .before .before .before .before .operand-of .ensures) _ (c .before .before .before .before .before .before .o2 .given .1) in
+    operand-direct w (s .args .registers .now) src1 _ _ _ _ _ _ _ (t .0) (c .before .before .before .before .before .before .before .before .before .src-type .ensures .0) (c .before .before .src-modifier .ensures .0) (t .1) (c .before .before .before .gather .ensures) (c .modify-all .ensures)
 
-pub read-source-spec : {M : Type 1} → statement M
-read-source-spec =
+pub second-operand-spec : {M : Type 1} → statement M
+second-operand-spec =
     tie.close
     (tie.spec
     src-type-requires
