@@ -5,7 +5,7 @@ use mathlib.Core.Path.{_≡_, refl, sym, ap, _∙_}
 use Prim.Native.Nat.{ℕ, zero, suc, _+_, _/_, _<_, _≤_}
 use native.Mathlib.Omega.{arith}
 use lib.Dec.{eqb, ltb}
-use lib.ListN.{length, getD, set, replicate, length-replicate}
+use lib.ListN.{length, getD, set, replicate}
 use lib.Seq.{getD-set-same, getD-set-other}
 use borrow.Author.Tests.{lt-ltb, le-ltb, eqb-true, eqb-false}
 use Rattle.paper.specs.Limits.{kernelBytes}
@@ -23,10 +23,6 @@ placeCount = kernelBytes / 8 + 1
 -- Place p is marked. No place past the marks is.
 unfoldable pub marked : List ℕ → ℕ → Bool
 marked marks p = cond (ltb p placeCount) (eqb (getD marks p 0) 1) false
-
--- There is a mark for each place, and none is set.
-unfoldable pub Blank : List ℕ → Type 0
-Blank marks = (length marks ≡ placeCount) × ((p : ℕ) → marked marks p ≡ false)
 
 -- The marks of a kernel that is judged so: where it is accepted, the places at which an instruction starts or the kernel ends.
 abbrev pub MarksOf : Parsed → List ℕ → Type 0
@@ -87,26 +83,14 @@ blank-zero zero p = refl
 blank-zero (suc n) zero = refl
 blank-zero (suc n) (suc p) = blank-zero n p
 
-none-unmarked : (n p : ℕ) → marked (replicate n 0) p ≡ false
+-- Before the first is marked, none is.
+pub blank-unmarked : (n p : ℕ) → marked (replicate n 0) p ≡ false
 unfolding marked
-none-unmarked n p = rw (blank-zero n p) (either (ltb p placeCount))
+blank-unmarked n p = rw (blank-zero n p) (either (ltb p placeCount))
   where
     either : (t : Bool) → cond t false false ≡ false
     either true = refl
     either false = refl
-
--- Fresh marks, all 0, are blank.
-pub fresh : Blank (replicate placeCount 0)
-unfolding Blank
-fresh = (length-replicate {A = ℕ} placeCount 0, none-unmarked placeCount)
-
-pub blank-length : (marks : List ℕ) → Blank marks → length marks ≡ placeCount
-unfolding Blank
-blank-length marks b = b .0
-
-pub blank-unmarked : (marks : List ℕ) → Blank marks → (p : ℕ) → marked marks p ≡ false
-unfolding Blank
-blank-unmarked marks b = b .1
 
 -- One mark more.
 pub mark-more : (m : List ℕ) (q p : ℕ) → q < placeCount → length m ≡ placeCount → marked (set m q 1) p ≡ (marked m p || eqb q p)

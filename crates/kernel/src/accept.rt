@@ -11,7 +11,7 @@ ghost use mathlib.Core.Bool.{true};
 ghost use mathlib.Core.Path.{_≡_};
 ghost use Rattle.paper.specs.Calls.{sized, accepted};
 ghost use Rattle.kernel.specs.Judging.{formsIs};
-ghost use Rattle.kernel.specs.Marks.{Blank, Says};
+ghost use Rattle.kernel.specs.Marks.{Says};
 ghost use Rattle.kernel.specs.Accepting.{RightSizes};
 
 // 1: the dictionary has its bytes, the kernel not too many.
@@ -25,10 +25,9 @@ pub fn is_sized(dictionary: &[u8], kernel: &[u8]) -> bool
     kernel.len() <= KERNEL_BYTES
 }
 
-// What is said of a kernel as a whole: 0 and how many instructions it has, or its refusal. The marks are lent blank, and an accepted kernel's places, its end
-// among them, are then marked; what a refused kernel leaves in them is working storage.
+// What is said of a kernel as a whole: 0 and how many instructions it has, or its refusal. In the marks that are lent, whatever they hold, an accepted kernel's
+// places are then marked, its end among them, and no other; what a refused kernel leaves in them is working storage.
 pub fn accept(long: bool, dictionary: &[u8], kernel: &[u8], marks: &mut [u8; PLACES]) -> Answer
-    requires { ⌜ Blank (now marks) ⌝ }
     ensures { λ r. ⌜ Says (accepted (formsIs long) (now (dictionary .entry)) (now (kernel .entry))) r (now (marks .exit)) ⌝ }
 {
     if !is_sized(dictionary, kernel) {

@@ -11,14 +11,15 @@ ghost use Rattle.paper.specs.Limits.{dictionaryBytes, kernelBytes};
 ghost use Rattle.paper.specs.Dictionary.{dictionaryOf};
 ghost use Rattle.paper.specs.Kernel.{parse};
 ghost use Rattle.kernel.specs.Judging.{formsIs};
-ghost use Rattle.kernel.specs.Marks.{Blank, Says};
+ghost use Rattle.kernel.specs.Marks.{Says};
 
-// The kernel's instructions, judged one after the other: 0 and how many there are, or the refusal of the first that is refused. In the blank marks that are
-// lent it sets a mark, 1, for each place at which one starts and for the end. The marks that a refused kernel leaves are working storage.
-pub fn walk(long: bool, dictionary: &[u8], kernel: &[u8], marks: &mut [u8; PLACES]) -> Answer
-    requires { ⌜ (length (now dictionary) ≡ dictionaryBytes) × (length (now kernel) ≤ kernelBytes) × Blank (now marks) ⌝ }
+// The kernel's instructions, judged one after the other: 0 and how many there are, or the refusal of the first that is refused. In the marks that are
+// lent it sets a mark, 1, for each place at which one starts and for the end, and none elsewhere. The marks that a refused kernel leaves are working storage.
+pub(crate) fn walk(long: bool, dictionary: &[u8], kernel: &[u8], marks: &mut [u8; PLACES]) -> Answer
+    requires { ⌜ (length (now dictionary) ≡ dictionaryBytes) × (length (now kernel) ≤ kernelBytes) ⌝ }
     ensures { λ r. ⌜ Says (parse (formsIs long) (dictionaryOf (now (dictionary .entry))) (now (kernel .entry))) r (now (marks .exit)) ⌝ }
 {
+    *marks = [0u8; PLACES];
     let mut from: usize = 0;
     let mut count: u64 = 0;
     while from < kernel.len() {

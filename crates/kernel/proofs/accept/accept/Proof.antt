@@ -22,7 +22,7 @@ returns-2 c = accept-range _ _ _ _ (sym (c .before .before .before .is-sized .en
 walk-requires : tie.Need-walk-requires
 walk-requires c κs =
     let s = c .before .before .before .before .is-sized .ensures .1 (not-false _ (c .before .before .before .if1 .left)) in
-    (s .dictionary-is, s .kernel-most, c .before .before .before .before .before .before .before .pre)
+    (s .dictionary-is, s .kernel-most)
 
 enum-known-walked : tie.Need-enum-known-walked
 enum-known-walked c = search needs

@@ -1,15 +1,15 @@
 -- The loop's invariant: any answer and marks that say what is left of the walk from byte `from` on, after `count` instructions and with the marks made so
 -- far, say what the whole parse is. The measure is what is left of the kernel. Assumes nothing.
 use mathlib.Core.Path.{_≡_, sym, ap, _∙_}
-use Prim.Native.Nat.{_-_, _≤_, _<_}
+use Prim.Native.Nat.{ℕ, _-_, _≤_, _<_}
 use native.Mathlib.Omega.{arith}
-use lib.ListN.{length, length-set}
+use lib.ListN.{length, length-set, length-replicate}
 use borrow.Author.Needs.{needs}
 use Rattle.paper.specs.Limits.{instructionLimit}
 use Rattle.paper.specs.Dictionary.{dictionaryOf}
 use Rattle.paper.specs.Kernel.{judgeAt, parse}
 use Rattle.kernel.specs.Judging.{judgedIs, formsIs}
-use Rattle.kernel.specs.Marks.{placeCount, blank-length, blank-unmarked}
+use Rattle.kernel.specs.Marks.{placeCount, blank-unmarked}
 use Rattle.kernel.specs.Standing.{fits}
 use Rattle.kernel.proofs.Walking.{Leads, leads-start, leads-full, leads-refused, leads-passed, leads-end}
 use Rattle.kernel.proofs.walk.walk.Statement.{statement}
@@ -28,8 +28,7 @@ abbrev μ-loop : tie.MeasureT-loop
 loop-holds : tie.Need-loop-holds Inv-loop μ-loop
 unfolding parse
 loop-holds c =
-    let b = c .before .before .pre .2 in
-    (search needs, search needs, blank-length _ b, leads-start _ _ _ (blank-unmarked _ b))
+    (search needs, search needs, length-replicate {A = ℕ} placeCount 0, leads-start _ _ _ (blank-unmarked placeCount))
 
 returns : tie.Need-returns Inv-loop μ-loop
 returns c =

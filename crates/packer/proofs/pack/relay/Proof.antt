@@ -1,13 +1,12 @@
 -- What is said of the kernel refuses it, or it is laid out. Assumes nothing.
 use denote.Ref.{now}
 use borrow.Author.Needs.{needs}
-use Rattle.kernel.specs.Marks.{fresh}
 use Rattle.packer.specs.Answers.{call-refused, call-taken, call-laid}
 use Rattle.packer.proofs.pack.relay.Statement.{statement}
 use Rattle.packer.proofs.pack.relay.Tie as tie
 
 accept-requires : tie.Need-accept-requires
-accept-requires c κs = fresh
+accept-requires c κs = search needs
 
 enum-told : tie.Need-enum-told
 enum-told c = search needs

@@ -2,13 +2,12 @@
 use mathlib.Core.Path.{sym, _∙_}
 use borrow.Author.Tests.{not-true, not-false}
 use borrow.Author.Needs.{needs}
-use Rattle.kernel.specs.Marks.{fresh}
 use Rattle.run.specs.Answers.{admits-refused, admits-illegal, admits-fine}
 use Rattle.run.proofs.calls.admit.Statement.{statement}
 use Rattle.run.proofs.calls.admit.Tie as tie
 
 accept-requires : tie.Need-accept-requires
-accept-requires c κs = fresh
+accept-requires c κs = search needs
 
 enum-known-said : tie.Need-enum-known-said
 enum-known-said c = search needs
