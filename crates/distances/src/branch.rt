@@ -1,6 +1,6 @@
 // The distances of an operation.
 use crate::distance::Distance;
-use crate::distance::without;
+use crate::distance::blanked;
 use words::bytes::Word;
 use words::fields::operation;
 use words::operation::Branch;
@@ -52,6 +52,6 @@ pub fn blank(w: Word) -> Word
     let held = distances_in(w);
     match held {
         Distances::Nothing => w,
-        Distances::One(d) => without(d, w),
+        Distances::One(d) => blanked(d, w),
     }
 }

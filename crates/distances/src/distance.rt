@@ -124,7 +124,7 @@ pub fn aim(d: Distance, w: Word, here: u64, next: u64, to: u64) -> Word
 }
 
 // The word with 0 for the distance.
-pub fn without(d: Distance, w: Word) -> Word
+pub fn blanked(d: Distance, w: Word) -> Word
     ensures { λ r. ⌜ toWord r ≡ put (toWord w) (distanceIs d .lo) (distanceIs d .width) 0 ⌝ }
 {
     with_field(d, w, 0)

@@ -18,8 +18,8 @@ enum-told c = search needs
 enum-known-held : tie.Need-enum-known-held
 enum-known-held c = search needs
 
-without-requires : tie.Need-without-requires
-without-requires c κs = search needs
+blanked-requires : tie.Need-blanked-requires
+blanked-requires c κs = search needs
 
 returns : tie.Need-returns
 unfolding blanked
@@ -27,9 +27,9 @@ returns c = ap (λ (fs : List Distance). blanked fs (toWord (c .before .before .
 
 returns-2 : tie.Need-returns-2
 unfolding blanked
-returns-2 c = c .without .ensures ∙ ap (λ (fs : List Distance). blanked fs (toWord (c .before .before .before .before .before .args .w))) (ap distancesIs (sym (c .before .before .held .given .1)) ∙ c .before .before .before .before .distances-in .ensures)
+returns-2 c = c .blanked .ensures ∙ ap (λ (fs : List Distance). blanked fs (toWord (c .before .before .before .before .before .args .w))) (ap distancesIs (sym (c .before .before .held .given .1)) ∙ c .before .before .before .before .distances-in .ensures)
 
 pub blank-spec : {M : Type 1} → statement M
 blank-spec =
     tie.close
-    (tie.spec distances-in-requires enum-told enum-known-held without-requires returns returns-2)
+    (tie.spec distances-in-requires enum-told enum-known-held blanked-requires returns returns-2)
