@@ -143,6 +143,7 @@ elementHasStride size vert wide horz = (eqb size 1 && eqb wide 1) && not (eqb ve
 abbrev pub scalarIsWide : ℕ → ℕ → ℕ → ℕ → Bool
 scalarIsWide size vert wide horz = (eqb vert 0 && eqb horz 0) && not (eqb wide 1)
 
+-- One of the four.
 unfoldable pub hangs : ℕ → ℕ → ℕ → ℕ → Bool
 hangs size vert wide horz =
     rowEndsElsewhere size vert wide horz
@@ -162,10 +163,11 @@ shapeRefused size field =
     let wide = bits field 5 3 in
     ltb 6 vert || (ltb 4 wide || (ltb size wide || fieldHangs size field))
 
+-- 9 of source x.
 abbrev pub srcShapeBroken : ℕ → Source → Bool
 srcShapeBroken w x = shapeRefused (execSize w) (srcField x w)
 
--- The destination's stride is not 0.
+-- 9 of all operands: the destination's stride is 0, or a source breaks it.
 unfoldable pub shapeBroken : Plain → ℕ → Bool
 shapeBroken p w = someOperand p w (eqb (dstStride w) 0) (srcShapeBroken w)
 
@@ -182,6 +184,7 @@ unfoldable pub tooFar : ℕ → ℕ → ℕ → Bool
 tooFar origin element size =
     let last = element + size - 1 in ltb (origin / 32 + 1) (last / 32) || leb registerBytes last
 
+-- A region reaches too far, its last channel being `last`.
 abbrev pub regionTooFar : Region → ℕ → Bool
 regionTooFar r last = tooFar (r .origin) (elementAt r last) (r .size)
 

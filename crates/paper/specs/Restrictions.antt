@@ -39,6 +39,7 @@ rule7 size vert wide horz = must (eqb size wide && eqb wide 1) (eqb vert 0 && eq
 abbrev pub rule8 : ℕ → ℕ → ℕ → ℕ → Bool
 rule8 size vert wide horz = must (eqb vert horz && eqb horz 0) (eqb wide 1)
 
+-- All of them.
 unfoldable pub restricted : ℕ → ℕ → ℕ → ℕ → Bool
 restricted size vert wide horz =
     rule3 size vert wide horz
@@ -62,18 +63,20 @@ widths = 1 ∷ 2 ∷ 4 ∷ 8 ∷ 16 ∷ []
 abbrev pub horizontals : List ℕ
 horizontals = 0 ∷ 1 ∷ 2 ∷ 4 ∷ []
 
+-- The code is listed,
 abbrev pub listed : List ℕ → ℕ → Bool
 listed numbers code = ltb code (length numbers)
 
-abbrev pub meaning : List ℕ → ℕ → ℕ
-meaning numbers code = getD numbers code 0
+-- and stands for this number.
+abbrev pub numberFor : List ℕ → ℕ → ℕ
+numberFor numbers code = getD numbers code 0
 
 -- The twelve bits keep the restrictions at an ExecSize code. 000 says nothing of a reserved code; no region with one is allowed here.
 unfoldable pub allowed : ℕ → ℕ → Bool
 allowed size field =
     listed verticals (bits field 8 4)
     && (listed widths (bits field 5 3)
-    && restricted (meaning sizes size) (meaning verticals (bits field 8 4)) (meaning widths (bits field 5 3)) (meaning horizontals (bits field 3 2)))
+    && restricted (numberFor sizes size) (numberFor verticals (bits field 8 4)) (numberFor widths (bits field 5 3)) (numberFor horizontals (bits field 3 2)))
 
 -- ---- the sweep
 
