@@ -9,7 +9,7 @@ use super::value::BASE;
 const HALF_BASE: u64 = 4611686018427387904;
 
 // The sum.
-pub fn add(a: u64, b: u64) -> u64
+pub(crate) fn add(a: u64, b: u64) -> u64
     requires { ⌜ Near 32 a × Near 32 b ⌝ }
     ensures { λ r. ⌜ ex r ≡ ex a +ℤ ex b ⌝ }
 {
@@ -17,7 +17,7 @@ pub fn add(a: u64, b: u64) -> u64
 }
 
 // The average, rounded down after 1 is added to the sum.
-pub fn average(a: u64, b: u64) -> u64
+pub(crate) fn average(a: u64, b: u64) -> u64
     requires { ⌜ Near 32 a × Near 32 b ⌝ }
     ensures { λ r. ⌜ ex r ≡ average (ex a) (ex b) ⌝ }
 {
@@ -25,7 +25,7 @@ pub fn average(a: u64, b: u64) -> u64
 }
 
 // The product of words or bytes.
-pub fn multiply(a: u64, b: u64) -> u64
+pub(crate) fn multiply(a: u64, b: u64) -> u64
     requires { ⌜ Near 16 a × Near 16 b ⌝ }
     ensures { λ r. ⌜ ex r ≡ ex a *ℤ ex b ⌝ }
 {

@@ -6,7 +6,7 @@ ghost use Rattle.element.specs.Biased.{ex, Near, Keeps};
 use super::value::BASE;
 
 // The number less than 0 by as much as v is greater.
-pub fn negated(v: u64) -> u64
+pub(crate) fn negated(v: u64) -> u64
     requires { ⌜ Near 32 v ⌝ }
     ensures { λ r. ⌜ (ex r ≡ negℤ (ex v)) × Keeps v r ⌝ }
 {
@@ -14,7 +14,7 @@ pub fn negated(v: u64) -> u64
 }
 
 // The magnitude of v.
-pub fn absolute(v: u64) -> u64
+pub(crate) fn absolute(v: u64) -> u64
     requires { ⌜ Near 32 v ⌝ }
     ensures { λ r. ⌜ (ex r ≡ pos (natAbs (ex v))) × Keeps v r ⌝ }
 {

@@ -14,7 +14,7 @@ fn shift_count(count: u64) -> u64
 }
 
 // v divided by 2 to the count, rounded down: the shifted number has lost part of what stands for 0, which is put back.
-pub fn shift_right(v: u64, count: u64) -> u64
+pub(crate) fn shift_right(v: u64, count: u64) -> u64
     requires { ⌜ Near 32 v ⌝ }
     ensures { λ r. ⌜ ex r ≡ shiftRight (ex v) (ex count) ⌝ }
 {
@@ -23,7 +23,7 @@ pub fn shift_right(v: u64, count: u64) -> u64
 }
 
 // v times 2 to the count: v is raised by 2^32 before, and lowered by the shifted 2^32 after.
-pub fn shift_left(v: u64, count: u64) -> u64
+pub(crate) fn shift_left(v: u64, count: u64) -> u64
     requires { ⌜ Near 32 v ⌝ }
     ensures { λ r. ⌜ ex r ≡ shiftLeft (ex v) (ex count) ⌝ }
 {

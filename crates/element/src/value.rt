@@ -19,7 +19,7 @@ fn ones(kind: u64) -> u64
 }
 
 // The bit of a type's patterns that says that a value is negative; 0 where the type has none.
-pub fn sign(kind: u64) -> u64
+pub(crate) fn sign(kind: u64) -> u64
     requires { ⌜ IsType kind ⌝ }
     ensures { λ r. ⌜ r ≡ signBit kind ⌝ }
 {

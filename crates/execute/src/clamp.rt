@@ -21,7 +21,7 @@ fn clamp_each(kind: u64, n: usize, values: &mut [u64; 16])
 }
 
 // The same if Saturate is set; else they stay. Their low bits are then what is stored.
-pub fn clamp_all(saturated: bool, kind: u64, n: usize, values: &mut [u64; 16])
+pub(crate) fn clamp_all(saturated: bool, kind: u64, n: usize, values: &mut [u64; 16])
     requires { ⌜ (n ≤ 16) × (length (now values) ≡ 16) × IsType kind ⌝ }
     ensures { λ r. ⌜ Kept saturated kind n (now (values .entry)) (now (values .exit)) ⌝ }
 {

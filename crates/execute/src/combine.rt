@@ -42,7 +42,7 @@ fn compare_each(condition: u64, predicate: u64, n: usize, first: &mut [u64; 16],
 }
 
 // The results, by the operation. mov's are the first operands.
-pub fn combine(
+pub(crate) fn combine(
     p: Plain,
     condition: u64,
     predicate: u64,

@@ -36,7 +36,13 @@ fn lowest_bits(results: &[u64; 16], n: usize) -> u64
 }
 
 // The flags after an operation: cmp leaves what it found in the chosen one; the others change none.
-pub fn flags_after(p: Plain, w: Word, flags: Flags, enable: u64, results: &[u64; 16]) -> Flags
+pub(crate) fn flags_after(
+    p: Plain,
+    w: Word,
+    flags: Flags,
+    enable: u64,
+    results: &[u64; 16],
+) -> Flags
     requires { ⌜ LegalPlain (plainIs p) (toWord w) ⌝ }
     ensures { λ r. ⌜ FlagsOf r (toWord w) (storeOf [] flags) (flagMade (plainIs p) (toWord w) (chosenFlag (toWord w) (storeOf [] flags)) enable (now (results .entry))) ⌝ }
 {

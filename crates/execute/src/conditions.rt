@@ -10,7 +10,7 @@ ghost use Rattle.element.specs.Operands.{Operands};
 ghost use Rattle.execute.specs.Results.{Combined};
 
 // cmp with condition 1, z.
-pub fn compare_zero(predicate: u64, n: usize, first: &mut [u64; 16], second: &[u64; 16])
+pub(crate) fn compare_zero(predicate: u64, n: usize, first: &mut [u64; 16], second: &[u64; 16])
     requires { ⌜ (n ≤ 16) × (length (now first) ≡ 16) × ((k : ℕ) → k < n → Operands Cmp (getD (now first) k 0) (getD (now second) k 0)) ⌝ }
     ensures { λ r. ⌜ Combined cmp 1 predicate n (now (first .entry)) (now (second .entry)) (now (first .exit)) ⌝ }
 {
@@ -18,7 +18,7 @@ pub fn compare_zero(predicate: u64, n: usize, first: &mut [u64; 16], second: &[u
 }
 
 // cmp with condition 2, nz.
-pub fn compare_not_zero(predicate: u64, n: usize, first: &mut [u64; 16], second: &[u64; 16])
+pub(crate) fn compare_not_zero(predicate: u64, n: usize, first: &mut [u64; 16], second: &[u64; 16])
     requires { ⌜ (n ≤ 16) × (length (now first) ≡ 16) × ((k : ℕ) → k < n → Operands Cmp (getD (now first) k 0) (getD (now second) k 0)) ⌝ }
     ensures { λ r. ⌜ Combined cmp 2 predicate n (now (first .entry)) (now (second .entry)) (now (first .exit)) ⌝ }
 {
@@ -26,7 +26,7 @@ pub fn compare_not_zero(predicate: u64, n: usize, first: &mut [u64; 16], second:
 }
 
 // cmp with condition 3, g.
-pub fn compare_greater(predicate: u64, n: usize, first: &mut [u64; 16], second: &[u64; 16])
+pub(crate) fn compare_greater(predicate: u64, n: usize, first: &mut [u64; 16], second: &[u64; 16])
     requires { ⌜ (n ≤ 16) × (length (now first) ≡ 16) × ((k : ℕ) → k < n → Operands Cmp (getD (now first) k 0) (getD (now second) k 0)) ⌝ }
     ensures { λ r. ⌜ Combined cmp 3 predicate n (now (first .entry)) (now (second .entry)) (now (first .exit)) ⌝ }
 {
@@ -34,7 +34,12 @@ pub fn compare_greater(predicate: u64, n: usize, first: &mut [u64; 16], second: 
 }
 
 // cmp with condition 4, ge.
-pub fn compare_greater_or_equal(predicate: u64, n: usize, first: &mut [u64; 16], second: &[u64; 16])
+pub(crate) fn compare_greater_or_equal(
+    predicate: u64,
+    n: usize,
+    first: &mut [u64; 16],
+    second: &[u64; 16],
+)
     requires { ⌜ (n ≤ 16) × (length (now first) ≡ 16) × ((k : ℕ) → k < n → Operands Cmp (getD (now first) k 0) (getD (now second) k 0)) ⌝ }
     ensures { λ r. ⌜ Combined cmp 4 predicate n (now (first .entry)) (now (second .entry)) (now (first .exit)) ⌝ }
 {
@@ -42,7 +47,7 @@ pub fn compare_greater_or_equal(predicate: u64, n: usize, first: &mut [u64; 16],
 }
 
 // cmp with condition 5, l.
-pub fn compare_less(predicate: u64, n: usize, first: &mut [u64; 16], second: &[u64; 16])
+pub(crate) fn compare_less(predicate: u64, n: usize, first: &mut [u64; 16], second: &[u64; 16])
     requires { ⌜ (n ≤ 16) × (length (now first) ≡ 16) × ((k : ℕ) → k < n → Operands Cmp (getD (now first) k 0) (getD (now second) k 0)) ⌝ }
     ensures { λ r. ⌜ Combined cmp 5 predicate n (now (first .entry)) (now (second .entry)) (now (first .exit)) ⌝ }
 {
@@ -50,7 +55,7 @@ pub fn compare_less(predicate: u64, n: usize, first: &mut [u64; 16], second: &[u
 }
 
 // cmp with any other condition.
-pub fn compare_other(
+pub(crate) fn compare_other(
     condition: u64,
     predicate: u64,
     n: usize,

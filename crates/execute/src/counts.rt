@@ -9,7 +9,7 @@ ghost use Rattle.paper.specs.Region.{channels};
 ghost use Rattle.words.specs.Words.{toWord};
 
 // How many channels a word works on.
-pub fn channels(w: Word) -> usize
+pub(crate) fn channels(w: Word) -> usize
     requires { ⌜ execSize (toWord w) ≤ 4 ⌝ }
     ensures { λ r. ⌜ (r ≡ channels (toWord w)) × (r ≤ 16) ⌝ }
 {

@@ -12,7 +12,7 @@ use words::fields::is_null;
 use words::region::dst_region;
 
 // Results stored where the mask of the instruction's own channels says; a null destination stores nothing.
-pub fn write(w: Word, enable: u64, registers: &mut [u8], results: &[u64; 16])
+pub(crate) fn write(w: Word, enable: u64, registers: &mut [u8], results: &[u64; 16])
     requires { ⌜ Writable (toWord w) × (length (now registers) ≡ registerBytes) ⌝ }
     ensures { λ r. ⌜ now (registers .exit) ≡ written (toWord w) enable (now (registers .entry)) (now (results .entry)) ⌝ }
 {

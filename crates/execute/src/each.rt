@@ -10,7 +10,7 @@ ghost use Rattle.element.specs.Operands.{Operands};
 ghost use Rattle.execute.specs.Results.{Combined};
 
 // The first operands of the n first channels become the results. Bit k of the mask says whether channel k's predicate holds.
-pub fn each(
+pub(crate) fn each(
     p: Plain,
     condition: u64,
     predicate: u64,

@@ -10,7 +10,13 @@ ghost use Rattle.element.specs.Operands.{Operands};
 ghost use Rattle.execute.specs.Results.{Combined};
 
 // sel: the first operand where the predicate holds, else the second.
-pub fn each_sel(condition: u64, predicate: u64, n: usize, first: &mut [u64; 16], second: &[u64; 16])
+pub(crate) fn each_sel(
+    condition: u64,
+    predicate: u64,
+    n: usize,
+    first: &mut [u64; 16],
+    second: &[u64; 16],
+)
     requires { ⌜ (n ≤ 16) × (length (now first) ≡ 16) × ((k : ℕ) → k < n → Operands Sel (getD (now first) k 0) (getD (now second) k 0)) ⌝ }
     ensures { λ r. ⌜ Combined sel condition predicate n (now (first .entry)) (now (second .entry)) (now (first .exit)) ⌝ }
 {
@@ -18,7 +24,13 @@ pub fn each_sel(condition: u64, predicate: u64, n: usize, first: &mut [u64; 16],
 }
 
 // not.
-pub fn each_not(condition: u64, predicate: u64, n: usize, first: &mut [u64; 16], second: &[u64; 16])
+pub(crate) fn each_not(
+    condition: u64,
+    predicate: u64,
+    n: usize,
+    first: &mut [u64; 16],
+    second: &[u64; 16],
+)
     requires { ⌜ (n ≤ 16) × (length (now first) ≡ 16) × ((k : ℕ) → k < n → Operands Not (getD (now first) k 0) (getD (now second) k 0)) ⌝ }
     ensures { λ r. ⌜ Combined not condition predicate n (now (first .entry)) (now (second .entry)) (now (first .exit)) ⌝ }
 {
@@ -26,7 +38,13 @@ pub fn each_not(condition: u64, predicate: u64, n: usize, first: &mut [u64; 16],
 }
 
 // and.
-pub fn each_and(condition: u64, predicate: u64, n: usize, first: &mut [u64; 16], second: &[u64; 16])
+pub(crate) fn each_and(
+    condition: u64,
+    predicate: u64,
+    n: usize,
+    first: &mut [u64; 16],
+    second: &[u64; 16],
+)
     requires { ⌜ (n ≤ 16) × (length (now first) ≡ 16) × ((k : ℕ) → k < n → Operands And (getD (now first) k 0) (getD (now second) k 0)) ⌝ }
     ensures { λ r. ⌜ Combined and condition predicate n (now (first .entry)) (now (second .entry)) (now (first .exit)) ⌝ }
 {
@@ -34,7 +52,13 @@ pub fn each_and(condition: u64, predicate: u64, n: usize, first: &mut [u64; 16],
 }
 
 // or.
-pub fn each_or(condition: u64, predicate: u64, n: usize, first: &mut [u64; 16], second: &[u64; 16])
+pub(crate) fn each_or(
+    condition: u64,
+    predicate: u64,
+    n: usize,
+    first: &mut [u64; 16],
+    second: &[u64; 16],
+)
     requires { ⌜ (n ≤ 16) × (length (now first) ≡ 16) × ((k : ℕ) → k < n → Operands Or (getD (now first) k 0) (getD (now second) k 0)) ⌝ }
     ensures { λ r. ⌜ Combined or condition predicate n (now (first .entry)) (now (second .entry)) (now (first .exit)) ⌝ }
 {
@@ -42,7 +66,13 @@ pub fn each_or(condition: u64, predicate: u64, n: usize, first: &mut [u64; 16], 
 }
 
 // xor.
-pub fn each_xor(condition: u64, predicate: u64, n: usize, first: &mut [u64; 16], second: &[u64; 16])
+pub(crate) fn each_xor(
+    condition: u64,
+    predicate: u64,
+    n: usize,
+    first: &mut [u64; 16],
+    second: &[u64; 16],
+)
     requires { ⌜ (n ≤ 16) × (length (now first) ≡ 16) × ((k : ℕ) → k < n → Operands Xor (getD (now first) k 0) (getD (now second) k 0)) ⌝ }
     ensures { λ r. ⌜ Combined xor condition predicate n (now (first .entry)) (now (second .entry)) (now (first .exit)) ⌝ }
 {
@@ -50,7 +80,13 @@ pub fn each_xor(condition: u64, predicate: u64, n: usize, first: &mut [u64; 16],
 }
 
 // shr.
-pub fn each_shr(condition: u64, predicate: u64, n: usize, first: &mut [u64; 16], second: &[u64; 16])
+pub(crate) fn each_shr(
+    condition: u64,
+    predicate: u64,
+    n: usize,
+    first: &mut [u64; 16],
+    second: &[u64; 16],
+)
     requires { ⌜ (n ≤ 16) × (length (now first) ≡ 16) × ((k : ℕ) → k < n → Operands Shr (getD (now first) k 0) (getD (now second) k 0)) ⌝ }
     ensures { λ r. ⌜ Combined shr condition predicate n (now (first .entry)) (now (second .entry)) (now (first .exit)) ⌝ }
 {
@@ -58,7 +94,13 @@ pub fn each_shr(condition: u64, predicate: u64, n: usize, first: &mut [u64; 16],
 }
 
 // shl.
-pub fn each_shl(condition: u64, predicate: u64, n: usize, first: &mut [u64; 16], second: &[u64; 16])
+pub(crate) fn each_shl(
+    condition: u64,
+    predicate: u64,
+    n: usize,
+    first: &mut [u64; 16],
+    second: &[u64; 16],
+)
     requires { ⌜ (n ≤ 16) × (length (now first) ≡ 16) × ((k : ℕ) → k < n → Operands Shl (getD (now first) k 0) (getD (now second) k 0)) ⌝ }
     ensures { λ r. ⌜ Combined shl condition predicate n (now (first .entry)) (now (second .entry)) (now (first .exit)) ⌝ }
 {
@@ -66,7 +108,13 @@ pub fn each_shl(condition: u64, predicate: u64, n: usize, first: &mut [u64; 16],
 }
 
 // asr.
-pub fn each_asr(condition: u64, predicate: u64, n: usize, first: &mut [u64; 16], second: &[u64; 16])
+pub(crate) fn each_asr(
+    condition: u64,
+    predicate: u64,
+    n: usize,
+    first: &mut [u64; 16],
+    second: &[u64; 16],
+)
     requires { ⌜ (n ≤ 16) × (length (now first) ≡ 16) × ((k : ℕ) → k < n → Operands Asr (getD (now first) k 0) (getD (now second) k 0)) ⌝ }
     ensures { λ r. ⌜ Combined asr condition predicate n (now (first .entry)) (now (second .entry)) (now (first .exit)) ⌝ }
 {
@@ -74,7 +122,13 @@ pub fn each_asr(condition: u64, predicate: u64, n: usize, first: &mut [u64; 16],
 }
 
 // add.
-pub fn each_add(condition: u64, predicate: u64, n: usize, first: &mut [u64; 16], second: &[u64; 16])
+pub(crate) fn each_add(
+    condition: u64,
+    predicate: u64,
+    n: usize,
+    first: &mut [u64; 16],
+    second: &[u64; 16],
+)
     requires { ⌜ (n ≤ 16) × (length (now first) ≡ 16) × ((k : ℕ) → k < n → Operands Add (getD (now first) k 0) (getD (now second) k 0)) ⌝ }
     ensures { λ r. ⌜ Combined add condition predicate n (now (first .entry)) (now (second .entry)) (now (first .exit)) ⌝ }
 {
@@ -82,7 +136,13 @@ pub fn each_add(condition: u64, predicate: u64, n: usize, first: &mut [u64; 16],
 }
 
 // mul.
-pub fn each_mul(condition: u64, predicate: u64, n: usize, first: &mut [u64; 16], second: &[u64; 16])
+pub(crate) fn each_mul(
+    condition: u64,
+    predicate: u64,
+    n: usize,
+    first: &mut [u64; 16],
+    second: &[u64; 16],
+)
     requires { ⌜ (n ≤ 16) × (length (now first) ≡ 16) × ((k : ℕ) → k < n → Operands Mul (getD (now first) k 0) (getD (now second) k 0)) ⌝ }
     ensures { λ r. ⌜ Combined mul condition predicate n (now (first .entry)) (now (second .entry)) (now (first .exit)) ⌝ }
 {
@@ -90,7 +150,13 @@ pub fn each_mul(condition: u64, predicate: u64, n: usize, first: &mut [u64; 16],
 }
 
 // avg.
-pub fn each_avg(condition: u64, predicate: u64, n: usize, first: &mut [u64; 16], second: &[u64; 16])
+pub(crate) fn each_avg(
+    condition: u64,
+    predicate: u64,
+    n: usize,
+    first: &mut [u64; 16],
+    second: &[u64; 16],
+)
     requires { ⌜ (n ≤ 16) × (length (now first) ≡ 16) × ((k : ℕ) → k < n → Operands Avg (getD (now first) k 0) (getD (now second) k 0)) ⌝ }
     ensures { λ r. ⌜ Combined avg condition predicate n (now (first .entry)) (now (second .entry)) (now (first .exit)) ⌝ }
 {

@@ -36,7 +36,7 @@ fn second(p: Plain, w: Word, n: usize, registers: &[u8], values: &mut [u64; 16])
 
 // What the channels of an instruction make: all sources are read first. The low bits of each number, as many as the destination's type has,
 // are the pattern that its channel stores.
-pub fn results(p: Plain, w: Word, predicate: u64, registers: &[u8], made: &mut [u64; 16])
+pub(crate) fn results(p: Plain, w: Word, predicate: u64, registers: &[u8], made: &mut [u64; 16])
     requires { ⌜ LegalPlain (plainIs p) (toWord w) × (length (now registers) ≡ registerBytes) × (length (now made) ≡ 16) ⌝ }
     ensures { λ r. ⌜ Makes (plainIs p) (toWord w) predicate (now (registers .entry)) (now (made .exit)) ⌝ }
 {

@@ -48,7 +48,7 @@ pub fn some_operand(p: Plain, w: Word, dst: bool, first: bool, second: bool) -> 
 // ---- 9
 
 // ExecSize equal to Width with HorzStride not 0 and VertStride not Width×HorzStride; or Width 1 with HorzStride not 0.
-pub fn row_hangs(size: usize, vert: usize, wide: usize, horz: usize) -> bool
+pub(crate) fn row_hangs(size: usize, vert: usize, wide: usize, horz: usize) -> bool
     requires { ⌜ (wide ≤ 128) × (horz < 32768) ⌝ }
     ensures { λ r. ⌜ r ≡ (rowEndsElsewhere size vert wide horz || columnHasStride size vert wide horz) ⌝ }
 {
@@ -69,7 +69,7 @@ pub fn element_hangs(size: usize, vert: usize, wide: usize, horz: usize) -> bool
 }
 
 // The twelve bits that say a source's region have one of the four shapes on which the machines hang.
-pub fn field_hangs(size: u64, field: u64) -> bool
+pub(crate) fn field_hangs(size: u64, field: u64) -> bool
     requires { ⌜ size < 8 ⌝ }
     ensures { λ r. ⌜ r ≡ fieldHangs size field ⌝ }
 {
@@ -84,7 +84,7 @@ pub fn field_hangs(size: u64, field: u64) -> bool
 }
 
 // A stride or width code is undefined, or ExecSize lies under Width, or the shape is one of the four.
-pub fn shape_refused(size: u64, field: u64) -> bool
+pub(crate) fn shape_refused(size: u64, field: u64) -> bool
     requires { ⌜ size < 8 ⌝ }
     ensures { λ r. ⌜ r ≡ shapeRefused size field ⌝ }
 {
@@ -162,7 +162,7 @@ fn byte_before(end: usize) -> usize
 }
 
 // The first and the last byte lie in registers more than one apart, or past r127.
-pub fn too_far(origin: usize, element: usize, size: usize) -> bool
+pub(crate) fn too_far(origin: usize, element: usize, size: usize) -> bool
     requires { ⌜ (origin < 16384) × (element < 134217728) × (size ≤ 4) ⌝ }
     ensures { λ r. ⌜ r ≡ tooFar origin element size ⌝ }
 {
@@ -171,7 +171,7 @@ pub fn too_far(origin: usize, element: usize, size: usize) -> bool
 }
 
 // A region does so from its first byte to the element of its last channel.
-pub fn region_too_far(r: Region, last: usize) -> bool
+pub(crate) fn region_too_far(r: Region, last: usize) -> bool
     requires { ⌜ Small r × (last < 128) ⌝ }
     ensures { λ b. ⌜ b ≡ regionTooFar (regionIs r) last ⌝ }
 {

@@ -67,7 +67,7 @@ fn judge_long(w: Word) -> Judged
 }
 
 // 3 to 11 of the instruction that starts at byte `from`.
-pub fn judge_at(long: bool, dictionary: &[u8], kernel: &[u8], from: usize) -> Judged
+pub(crate) fn judge_at(long: bool, dictionary: &[u8], kernel: &[u8], from: usize) -> Judged
     requires { ⌜ (length (now dictionary) ≡ dictionaryBytes) × (from ≤ length (now kernel)) ⌝ }
     ensures { λ r. ⌜ judgedIs r ≡ judgeAt (formsIs long) (dictionaryOf (now (dictionary .entry))) (now (kernel .entry)) from ⌝ }
 {

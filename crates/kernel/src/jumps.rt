@@ -45,7 +45,7 @@ fn target_lands(marks: &[u8; PLACES], t: Target) -> bool
 }
 
 // Each distance in word w, an instruction of `size` places from place `here` on, leads to a mark.
-pub fn jump_lands(marks: &[u8; PLACES], w: Word, here: u64, size: u64) -> bool
+pub(crate) fn jump_lands(marks: &[u8; PLACES], w: Word, here: u64, size: u64) -> bool
     requires { ⌜ (here < placeCount) × (size ≤ 2) ⌝ }
     ensures { λ r. ⌜ r ≡ landBy (marked (now (marks .entry))) (targetsOf (instrOf here size (toWord w))) ⌝ }
 {
@@ -57,7 +57,7 @@ pub fn jump_lands(marks: &[u8; PLACES], w: Word, here: u64, size: u64) -> bool
 }
 
 // The first branch, in kernel order, with a distance that leads to no mark.
-pub fn first_astray(dictionary: &[u8], kernel: &[u8], marks: &[u8; PLACES]) -> Astray
+pub(crate) fn first_astray(dictionary: &[u8], kernel: &[u8], marks: &[u8; PLACES]) -> Astray
     requires { ⌜ (length (now dictionary) ≡ dictionaryBytes) × (length (now kernel) ≤ kernelBytes) × Standing (dictionaryOf (now dictionary)) (now kernel) ⌝ }
     ensures { λ r. ⌜ FirstOut (dictionaryOf (now (dictionary .entry))) (now (kernel .entry)) (marked (now (marks .entry))) r ⌝ }
 {

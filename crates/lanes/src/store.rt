@@ -9,7 +9,7 @@ ghost use Rattle.paper.specs.Bits.{putAt};
 ghost use Rattle.lanes.specs.Sizes.{Size};
 
 // The `size` lowest bytes of v stored from byte `from` on.
-pub fn write_element(registers: &mut [u8], from: usize, size: usize, v: u64)
+pub(crate) fn write_element(registers: &mut [u8], from: usize, size: usize, v: u64)
     requires { ⌜ Size size × (from + size ≤ length (now registers)) ⌝ }
     ensures { λ r. ⌜ now (registers .exit) ≡ putAt (now (registers .entry)) from size v ⌝ }
 {

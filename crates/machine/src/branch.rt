@@ -100,7 +100,7 @@ fn act_by(b: Branch, predicate: u64, ways: Ways, c: Channels) -> Forked
 }
 
 // A branch, once the channels that wait at its place are awake. It reads the flags, and neither reads nor writes registers.
-pub fn act(b: Branch, w: Word, ways: Ways, flags: Flags, c: Channels) -> Forked
+pub(crate) fn act(b: Branch, w: Word, ways: Ways, flags: Flags, c: Channels) -> Forked
     requires { ⌜ Sane c × SaneWays (waysIs ways) ⌝ }
     ensures { λ r. ⌜ ((registers : List ℕ) → forkedIs (storeOf registers flags) r
         ≡ act (branchIs b) (toWord w) (waysIs ways) (storeOf registers flags) (channelsIs c)) × Landed r ⌝ }

@@ -75,7 +75,7 @@ fn places_after(places: &[u64; 16], mask: u64, place: u64) -> [u64; 16]
 }
 
 // Each channel that waits at a place wakes.
-pub fn wake(c: Channels, place: u64) -> Channels
+pub(crate) fn wake(c: Channels, place: u64) -> Channels
     requires { ⌜ Sane c ⌝ }
     ensures { λ r. ⌜ (channelsIs r ≡ map (wake place) (channelsIs c)) × Sane r ⌝ }
 {
@@ -98,7 +98,7 @@ pub fn wake(c: Channels, place: u64) -> Channels
 }
 
 // Each awake channel whose bit of the mask is 1 waits at a place.
-pub fn park(c: Channels, mask: u64, place: u64) -> Channels
+pub(crate) fn park(c: Channels, mask: u64, place: u64) -> Channels
     requires { ⌜ Sane c × (place < 65536) ⌝ }
     ensures { λ r. ⌜ (channelsIs r ≡ each (λ n. park (bit mask n) place) 0 (channelsIs c)) × Sane r ⌝ }
 {
@@ -115,7 +115,7 @@ pub fn park(c: Channels, mask: u64, place: u64) -> Channels
 }
 
 // Some channel is awake, or waits at the next place.
-pub fn someone_here(c: Channels, next: u64) -> bool
+pub(crate) fn someone_here(c: Channels, next: u64) -> bool
     requires { ⌜ Sane c ⌝ }
     ensures { λ r. ⌜ r ≡ someone (λ _ ch. isAwake ch || waitsAt next ch) 0 (channelsIs c) ⌝ }
 {
@@ -127,7 +127,7 @@ pub fn someone_here(c: Channels, next: u64) -> bool
 }
 
 // Some awake channel's bit of the mask is 1.
-pub fn someone_awake(c: Channels, mask: u64) -> bool
+pub(crate) fn someone_awake(c: Channels, mask: u64) -> bool
     requires { ⌜ Sane c ⌝ }
     ensures { λ r. ⌜ r ≡ someone (λ n ch. isAwake ch && bit mask n) 0 (channelsIs c) ⌝ }
 {

@@ -4,7 +4,7 @@ ghost use Prim.Native.Nat.{_<_};
 ghost use Rattle.machine.specs.Together.{bothMask, eitherMask, withoutMask};
 
 // The channels that both masks have.
-pub fn both(a: u64, b: u64) -> u64
+pub(crate) fn both(a: u64, b: u64) -> u64
     requires { ⌜ a < 65536 ⌝ }
     ensures { λ r. ⌜ (r ≡ bothMask a b) × (r < 65536) ⌝ }
 {
@@ -12,7 +12,7 @@ pub fn both(a: u64, b: u64) -> u64
 }
 
 // The channels that either mask has.
-pub fn either(a: u64, b: u64) -> u64
+pub(crate) fn either(a: u64, b: u64) -> u64
     requires { ⌜ (a < 65536) × (b < 65536) ⌝ }
     ensures { λ r. ⌜ (r ≡ eitherMask a b) × (r < 65536) ⌝ }
 {
@@ -20,7 +20,7 @@ pub fn either(a: u64, b: u64) -> u64
 }
 
 // The channels that the first mask has and the second has not.
-pub fn without(a: u64, b: u64) -> u64
+pub(crate) fn without(a: u64, b: u64) -> u64
     requires { ⌜ (a < 65536) × (b < 65536) ⌝ }
     ensures { λ r. ⌜ (r ≡ withoutMask a b) × (r < 65536) ⌝ }
 {

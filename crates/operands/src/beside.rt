@@ -92,7 +92,7 @@ fn sixteen(registers: &[u8], from: usize, kind: u64, size: usize, values: &mut [
 }
 
 // The n first elements from byte `from` on, as numbers: each size has loops of its own, and one for sixteen channels.
-pub fn beside(
+pub(crate) fn beside(
     registers: &[u8],
     from: usize,
     kind: u64,

@@ -35,7 +35,7 @@ fn is_single(r: Region) -> bool
 }
 
 // The elements of the n first channels, as numbers.
-pub fn gather(r: Region, kind: u64, n: usize, registers: &[u8], values: &mut [u64; 16])
+pub(crate) fn gather(r: Region, kind: u64, n: usize, registers: &[u8], values: &mut [u64; 16])
     requires { ⌜ Small r × (r .size ≡ sizeOf kind) × (0 < n) × (n ≤ 16) × (length (now values) ≡ 16) × (0 < r .size) ⌝ }
     requires { ⌜ ((k : ℕ) → k < n → elementAt (regionIs r) k + r .size ≤ length (now registers)) ⌝ }
     ensures { λ u. ⌜ ElementsRead (now (registers .entry)) (elementAt (regionIs r)) kind (r .size) n (now (values .entry)) (now (values .exit)) ⌝ }

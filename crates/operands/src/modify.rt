@@ -21,7 +21,7 @@ fn modify_each(modifier: u64, n: usize, values: &mut [u64; 16])
 }
 
 // The same; where there is no modifier nothing is done.
-pub fn modify_all(modifier: u64, n: usize, values: &mut [u64; 16])
+pub(crate) fn modify_all(modifier: u64, n: usize, values: &mut [u64; 16])
     requires { ⌜ (n ≤ 16) × (length (now values) ≡ 16) × ((k : ℕ) → k < n → Near 32 (getD (now values) k 0)) ⌝ }
     ensures { λ r. ⌜ Mapped (λ k old new. (ex new ≡ modified modifier (ex old)) × Keeps old new) n (now (values .entry)) (now (values .exit)) ⌝ }
 {

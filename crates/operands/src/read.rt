@@ -8,7 +8,7 @@ ghost use Rattle.paper.specs.Value.{sizeOf};
 ghost use Rattle.operands.specs.Reads.{ElementRead};
 
 // The number that an element of a type means; its size is given beside the type.
-pub fn read_as(registers: &[u8], from: usize, kind: u64, size: usize) -> u64
+pub(crate) fn read_as(registers: &[u8], from: usize, kind: u64, size: usize) -> u64
     requires { ⌜ (size ≡ sizeOf kind) × (from + size ≤ length (now registers)) × (0 < size) ⌝ }
     ensures { λ r. ⌜ ElementRead (now (registers .entry)) from kind size r ⌝ }
 {

@@ -25,7 +25,7 @@ fn lines(registers: &[u8], r: Region, kind: u64, size: usize, n: usize, values: 
 }
 
 // The same, with a loop of its own for each size.
-pub fn rows(registers: &[u8], r: Region, kind: u64, n: usize, values: &mut [u64; 16])
+pub(crate) fn rows(registers: &[u8], r: Region, kind: u64, n: usize, values: &mut [u64; 16])
     requires { ⌜ Small r × (r .size ≡ sizeOf kind) × (n ≤ 16) × (length (now values) ≡ 16) × (0 < r .size) ⌝ }
     requires { ⌜ ((k : ℕ) → k < n → elementAt (regionIs r) k + r .size ≤ length (now registers)) ⌝ }
     ensures { λ u. ⌜ ElementsRead (now (registers .entry)) (elementAt (regionIs r)) kind (r .size) n (now (values .entry)) (now (values .exit)) ⌝ }

@@ -15,7 +15,7 @@ ghost use Rattle.packer.specs.Forms.{formOf};
 // Where a parameter `packs` is true, words are shortened; else all are long.
 
 // The short word that w becomes, if any.
-pub fn form(packs: bool, dictionary: &[u8], w: Word) -> Shorter
+pub(crate) fn form(packs: bool, dictionary: &[u8], w: Word) -> Shorter
     requires { ⌜ length (now dictionary) ≡ dictionaryBytes ⌝ }
     ensures { λ r. ⌜ shorterIs r ≡ formOf packs (dictionaryOf (now (dictionary .entry))) (toWord w) ⌝ }
 {

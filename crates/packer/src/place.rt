@@ -11,7 +11,12 @@ ghost use Rattle.packer.specs.Forms.{formOf, kernelOf, Taken, resultEnd}
 ghost use Rattle.packer.specs.Stages.{Placed};
 
 // Stores, at each place at which an instruction starts, the place at which it comes to stand, and at the end's place the new end, which is answered.
-pub fn place_all(packs: bool, dictionary: &[u8], kernel: &[u8], places: &mut [u64; PLACES]) -> u64
+pub(crate) fn place_all(
+    packs: bool,
+    dictionary: &[u8],
+    kernel: &[u8],
+    places: &mut [u64; PLACES],
+) -> u64
     requires { ⌜ Taken packs (now dictionary) (now kernel) × (length (now places) ≡ placeCount) ⌝ }
     ensures { λ r. ⌜ r ≡ resultEnd packs (now (dictionary .entry)) (now (kernel .entry)) ⌝ }
     ensures { λ r. ⌜ Placed (formOf packs (dictionaryOf (now (dictionary .entry)))) (kernelOf packs (now (dictionary .entry)) (now (kernel .entry)))

@@ -56,7 +56,7 @@ fn rewrite(places: &[u64; PLACES], w: Word, here: u64, size: u64, to: u64, next:
 }
 
 // The kernel's instructions as the output's first bytes.
-pub fn write_all(
+pub(crate) fn write_all(
     packs: bool,
     dictionary: &[u8],
     kernel: &[u8],

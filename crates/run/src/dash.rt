@@ -47,7 +47,13 @@ fn is_open(kernel: &[u8], waiting: u64, places: &[u64; 16], place: u64) -> bool
 }
 
 // As many such steps as there are, `limit` at most.
-pub fn dash(dictionary: &[u8], kernel: &[u8], limit: u64, registers: &mut [u8], s: State) -> Dashed
+pub(crate) fn dash(
+    dictionary: &[u8],
+    kernel: &[u8],
+    limit: u64,
+    registers: &mut [u8],
+    s: State,
+) -> Dashed
     requires { ⌜ Running (now dictionary) (now kernel) (now registers) s ⌝ }
     ensures { λ r. ⌜ Running (now (dictionary .entry)) (now (kernel .entry)) (now (registers .exit)) (dashed s (r .flags) (r .place)) ⌝ }
     ensures { λ r. ⌜ (r .steps ≤ limit) × Onward (instructions (now (dictionary .entry)) (now (kernel .entry))) limit

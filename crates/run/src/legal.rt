@@ -39,7 +39,7 @@ fn all_rest(marks: &[u8; PLACES], channels: Channels) -> bool
 }
 
 // A state is legal in a kernel that has these marks.
-pub fn is_legal(marks: &[u8; PLACES], bytes: &[u8]) -> bool
+pub(crate) fn is_legal(marks: &[u8; PLACES], bytes: &[u8]) -> bool
     requires { ⌜ length (now bytes) ≡ stateLength ⌝ }
     ensures { λ r. ⌜ r ≡ legalBy (marked (now (marks .entry))) (now (bytes .entry)) ⌝ }
 {

@@ -21,7 +21,7 @@ pub struct Outcome {
 }
 
 // The state's place is the kernel's end.
-pub fn at_end(kernel: &[u8], s: State) -> bool
+pub(crate) fn at_end(kernel: &[u8], s: State) -> bool
     requires { ⌜ s .place < 65536 ⌝ }
     ensures { λ r. ⌜ r ≡ eqb (8 * s .place) (length (now (kernel .entry))) ⌝ }
 {
@@ -29,7 +29,7 @@ pub fn at_end(kernel: &[u8], s: State) -> bool
 }
 
 // One step, away from the end.
-pub fn advance(dictionary: &[u8], kernel: &[u8], registers: &mut [u8], s: State) -> State
+pub(crate) fn advance(dictionary: &[u8], kernel: &[u8], registers: &mut [u8], s: State) -> State
     requires { ⌜ Running (now dictionary) (now kernel) (now registers) s × (8 * s .place ≡ length (now kernel) → ⊥) ⌝ }
     ensures { λ r. ⌜ stateIs (now (registers .exit)) r
         ≡ step (instructions (now (dictionary .entry)) (now (kernel .entry))) (stateIs (now (registers .entry)) s) ⌝ }
@@ -44,7 +44,7 @@ pub fn advance(dictionary: &[u8], kernel: &[u8], registers: &mut [u8], s: State)
 }
 
 // Steps until the end or until the budget is spent: one of any kind, then as many as need no look at the channels.
-pub fn run_from(
+pub(crate) fn run_from(
     dictionary: &[u8],
     kernel: &[u8],
     budget: u64,

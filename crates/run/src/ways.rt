@@ -13,7 +13,7 @@ ghost use Rattle.kernel.specs.Jumps.{instrOf};
 ghost use Rattle.machine.specs.Branches.{waysIs};
 
 // The ways of word w, an instruction of `size` places from place `here` on. What has no distance leads to the next place alone.
-pub fn ways_of(w: Word, here: u64, size: u64) -> Ways
+pub(crate) fn ways_of(w: Word, here: u64, size: u64) -> Ways
     requires { ⌜ (here < 65536) × (size < 65536) ⌝ }
     ensures { λ r. ⌜ waysIs r ≡ waysOf (instrOf here size (toWord w)) ⌝ }
 {

@@ -97,7 +97,7 @@ fn moved(
 }
 
 // A call on the kernel's bytes, if the row makes one.
-pub fn asked_of(row: Row, desk: Desk, table: &[u8], board: &mut [u8]) -> Desk
+pub(crate) fn asked_of(row: Row, desk: Desk, table: &[u8], board: &mut [u8]) -> Desk
     requires { ⌜ (length (now table) ≡ tableBytes) × (length (now board) ≡ boardBytes) ⌝ }
 {
     let numbers = least(desk.dictionary, KERNEL);
@@ -115,7 +115,13 @@ pub fn asked_of(row: Row, desk: Desk, table: &[u8], board: &mut [u8]) -> Desk
 }
 
 // A call on registers and state, if the row makes one.
-pub fn moved_by(row: Row, desk: Desk, table: &[u8], board: &mut [u8], state: &mut [u8]) -> Desk
+pub(crate) fn moved_by(
+    row: Row,
+    desk: Desk,
+    table: &[u8],
+    board: &mut [u8],
+    state: &mut [u8],
+) -> Desk
     requires { ⌜ (length (now table) ≡ tableBytes) × (length (now board) ≡ boardBytes) × (length (now state) ≡ stateBytes) ⌝ }
 {
     let numbers = least(desk.dictionary, KERNEL);
@@ -137,7 +143,7 @@ pub fn moved_by(row: Row, desk: Desk, table: &[u8], board: &mut [u8], state: &mu
 }
 
 // `part PLACE BYTE DWORD`: what the bytes of the instruction at a place hold.
-pub fn part_of(row: Row, desk: Desk, table: &[u8]) -> Outcome
+pub(crate) fn part_of(row: Row, desk: Desk, table: &[u8]) -> Outcome
     requires { ⌜ length (now table) ≡ tableBytes ⌝ }
 {
     if row.key != PART {

@@ -7,7 +7,7 @@ ghost use Rattle.paper.specs.Limits.{dictionaryBytes};
 ghost use Rattle.paper.specs.Dictionary.{dictionaryOf, tableWidth, inRange};
 
 // Number i of the dictionary.
-pub fn number(dictionary: &[u8], i: usize) -> u64
+pub(crate) fn number(dictionary: &[u8], i: usize) -> u64
     requires { ⌜ (length (now dictionary) ≡ dictionaryBytes) × (i < 128) ⌝ }
     ensures { λ r. ⌜ (r ≡ dictionaryOf (now (dictionary .entry)) i) × (r < 2 ^ 32) ⌝ }
 {

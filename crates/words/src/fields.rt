@@ -30,7 +30,7 @@ pub fn part(x: u64, k: u32, n: u32) -> u64
 }
 
 // The n bits of a word from bit k of its low half on.
-pub fn low(w: Word, k: u32, n: u32) -> u64
+pub(crate) fn low(w: Word, k: u32, n: u32) -> u64
     requires { ⌜ (k + n ≤ 64) × (k < 64) × (n < 64) ⌝ }
     ensures { λ r. ⌜ (r ≡ bits (toWord w) k n) × (r < 2 ^ n) ⌝ }
 {
@@ -38,7 +38,7 @@ pub fn low(w: Word, k: u32, n: u32) -> u64
 }
 
 // The n bits of a word from bit k of its high half on.
-pub fn high(w: Word, k: u32, n: u32) -> u64
+pub(crate) fn high(w: Word, k: u32, n: u32) -> u64
     requires { ⌜ (k < 64) × (n < 64) ⌝ }
     ensures { λ r. ⌜ (r ≡ bits (toWord w) (64 + k) n) × (r < 2 ^ n) ⌝ }
 {
