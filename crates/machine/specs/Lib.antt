@@ -2,7 +2,8 @@
 pub mod Together
 pub mod Numbered
 pub mod Channels
-pub mod Moves
+pub mod Posts
 pub mod Branches
 pub mod States
 pub mod Steps
+pub mod Posting

@@ -2,6 +2,8 @@
 pub mod branch;
 pub mod channels;
 pub mod masks;
+pub mod posting;
+pub mod posts;
 pub mod start;
 pub mod state;
 pub mod step;

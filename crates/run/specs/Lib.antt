@@ -2,6 +2,6 @@
 pub mod Landing
 pub mod Leading
 pub mod Running
+pub mod Tables
 pub mod Outcomes
 pub mod Answers
-pub mod Dashes

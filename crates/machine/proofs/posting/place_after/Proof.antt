@@ -1,8 +1,8 @@
 -- The branches are those of the choice. Assumes nothing.
 use mathlib.Core.Path.{sym, _∙_}
 use borrow.Author.Needs.{needs}
-use Rattle.machine.proofs.channels.place_after.Statement.{statement}
-use Rattle.machine.proofs.channels.place_after.Tie as tie
+use Rattle.machine.proofs.posting.place_after.Statement.{statement}
+use Rattle.machine.proofs.posting.place_after.Tie as tie
 
 bit-requires : tie.Need-bit-requires
 bit-requires c κs = search needs

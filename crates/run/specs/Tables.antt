@@ -1,0 +1,103 @@
+-- The table that a run decodes ahead: three numbers for each place, the halves of the word that stands there and where it leads. Assumes nothing.
+use mathlib.Core.Bool.{Bool, true, false, cond, true≢false}
+use mathlib.Core.List.{List}
+use mathlib.Core.Option.{Option, none, some}
+use mathlib.Core.Path.{_≡_, refl, sym, ap, ap₂, _∙_, subst}
+use Prim.Native.Nat.{ℕ, _+_, _*_, _/_, _%_, _^_, _<_, _≤_}
+use native.Mathlib.Omega.{arith}
+use lib.Dec.{eqb}
+use lib.ListN.{length, getD, set, length-set}
+use lib.Seq.{getD-set-same, getD-set-other}
+use borrow.Author.Tests.{eqb-true, eqb-false}
+use Rattle.paper.specs.Kernel.{Instr}
+use Rattle.paper.specs.Jump.{fetch, lands}
+use Rattle.paper.specs.Machine.{Ways, waysOf}
+
+-- Three places of 16 bits as one number: the next, the jump, the wait.
+abbrev pub waysFrom : ℕ → Ways
+waysFrom code = record { next = code % 65536; jump = code / 65536 % 65536; wait = code / 4294967296 % 65536 }
+
+pub ways-from : (ways : Ways) (code : ℕ) → ways .next < 65536 → ways .jump < 65536 → ways .wait < 65536
+    → code ≡ ways .next + ways .jump * 65536 + ways .wait * 4294967296 → waysFrom code ≡ ways
+ways-from ways code n j w e =
+    let a : code % 65536 ≡ ways .next = omega arith in
+    let b : code / 65536 % 65536 ≡ ways .jump = omega arith in
+    let c : code / 4294967296 % 65536 ≡ ways .wait = omega arith in
+    λ i. record { next = a i; jump = b i; wait = c i }
+
+-- What the table has at a place is the instruction that starts there.
+abbrev pub TabledAt : List Instr → List ℕ → ℕ → Type 0
+TabledAt k table p =
+    (i : Instr) → fetch k p ≡ some i → (getD table (3 * p) 0 + getD table (3 * p + 1) 0 * 2 ^ 64 ≡ i .word) × (waysFrom (getD table (3 * p + 2) 0) ≡ waysOf i)
+
+-- So at each place below q.
+abbrev pub TabledTo : List Instr → List ℕ → ℕ → Type 0
+TabledTo k table q = (p : ℕ) → p < q → TabledAt k table p
+
+-- One place more: three numbers are stored, and all others stay.
+pub record Entered (k : List Instr) (table after : List ℕ) (p : ℕ) : Type 0 where
+  pub long : length after ≡ length table
+  pub there : TabledAt k after p
+  pub others : (j : ℕ) → (3 * p ≤ j → j < 3 * p + 3 → ⊥) → getD after j 0 ≡ getD table j 0
+
+pub tabled-none : (k : List Instr) (table : List ℕ) → TabledTo k table 0
+tabled-none k table p h = absurd (omega arith)
+
+pub tabled-more : (k : List Instr) (table after : List ℕ) (p : ℕ) → TabledTo k table p → Entered k table after p → TabledTo k after (p + 1)
+tabled-more k table after p to e q h = go (eqb q p) refl
+  where
+    go : (b : Bool) → eqb q p ≡ b → TabledAt k after q
+    go true f = subst (TabledAt k after) (sym (eqb-true q p f)) (e .there)
+    go false f i fetched =
+        let apart : q ≡ p → ⊥ = eqb-false q p f in
+        let old = to q (omega arith) i fetched in
+        let a = e .others (3 * q) (λ x y. omega arith) in
+        let b = e .others (3 * q + 1) (λ x y. omega arith) in
+        let c = e .others (3 * q + 2) (λ x y. omega arith) in
+        rw (a, b, c) old
+
+-- Where no instruction starts there is nothing to store.
+pub entered-none : (k : List Instr) (table : List ℕ) (p : ℕ) → fetch k p ≡ none → Entered k table table p
+entered-none k table p e = record { long = refl; there = λ i f. absurd (other i (sym e ∙ f)); others = λ j h. refl }
+  where
+    other : (i : Instr) → _≡_ {A = Option Instr} none (some i) → ⊥
+    other i e = let z : _≡_ {A = ℕ} 0 1 = cc in omega arith
+
+-- The three numbers of an instruction are stored.
+pub entered-three : (k : List Instr) (table : List ℕ) (p lo hi code : ℕ) (i : Instr) → 3 * p + 2 < length table → fetch k p ≡ some i
+    → lo + hi * 2 ^ 64 ≡ i .word → waysFrom code ≡ waysOf i
+    → Entered k table (set (set (set table (3 * p) lo) (3 * p + 1) hi) (3 * p + 2) code) p
+entered-three k table p lo hi code i room fetched word ways =
+    record {
+      long = length-set (set (set table (3 * p) lo) (3 * p + 1) hi) (3 * p + 2) code ∙ length-set (set table (3 * p) lo) (3 * p + 1) hi ∙ length-set table (3 * p) lo;
+      there = λ j f.
+          let same : i ≡ j = some-same i j (sym fetched ∙ f) in
+          rw (third, second, first) (word ∙ ap (λ (x : Instr). x .word) same, ways ∙ ap waysOf same);
+      others = λ j h.
+          getD-set-other (set (set table (3 * p) lo) (3 * p + 1) hi) (3 * p + 2) j code 0 (λ e. h (omega arith) (omega arith))
+          ∙ getD-set-other (set table (3 * p) lo) (3 * p + 1) j hi 0 (λ e. h (omega arith) (omega arith))
+          ∙ getD-set-other table (3 * p) j lo 0 (λ e. h (omega arith) (omega arith));
+    }
+  where
+    some-same : (i j : Instr) → some i ≡ some j → i ≡ j
+    some-same i j e = cc
+
+    one : length (set table (3 * p) lo) ≡ length table
+    one = length-set table (3 * p) lo
+
+    two : length (set (set table (3 * p) lo) (3 * p + 1) hi) ≡ length table
+    two = length-set (set table (3 * p) lo) (3 * p + 1) hi ∙ one
+
+    third : getD (set (set (set table (3 * p) lo) (3 * p + 1) hi) (3 * p + 2) code) (3 * p + 2) 0 ≡ code
+    third = getD-set-same (set (set table (3 * p) lo) (3 * p + 1) hi) (3 * p + 2) code 0 (omega (arith, two))
+
+    second : getD (set (set (set table (3 * p) lo) (3 * p + 1) hi) (3 * p + 2) code) (3 * p + 1) 0 ≡ hi
+    second =
+        getD-set-other (set (set table (3 * p) lo) (3 * p + 1) hi) (3 * p + 2) (3 * p + 1) code 0 (λ e. omega arith)
+        ∙ getD-set-same (set table (3 * p) lo) (3 * p + 1) hi 0 (omega (arith, one))
+
+    first : getD (set (set (set table (3 * p) lo) (3 * p + 1) hi) (3 * p + 2) code) (3 * p) 0 ≡ lo
+    first =
+        getD-set-other (set (set table (3 * p) lo) (3 * p + 1) hi) (3 * p + 2) (3 * p) code 0 (λ e. omega arith)
+        ∙ getD-set-other (set table (3 * p) lo) (3 * p + 1) (3 * p) hi 0 (λ e. omega arith)
+        ∙ getD-set-same table (3 * p) lo 0 (omega arith)
