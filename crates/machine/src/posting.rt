@@ -1,6 +1,7 @@
 // The two ends of a run: from channels with their places to a mask for each place, and back.
 use crate::channels::Channels;
 use crate::masks::either;
+use crate::posts::wide;
 use lanes::mask::bit;
 ghost use mathlib.Core.Path.{_≡_};
 ghost use mathlib.Core.Bool.{true, cond};
@@ -15,20 +16,20 @@ ghost use Rattle.machine.specs.Channels.{channelsIs, Sane};
 ghost use Rattle.machine.specs.Posts.{Posted};
 
 // Channel n, if it waits, is put into the mask of its place.
-fn post_one(waiting: u64, place: u64, n: u64, here: &mut [u64])
+fn post_one(waiting: u64, place: u64, n: u64, here: &mut [u16])
     requires { ⌜ (n < 16) × (bit waiting n ≡ true → (place < length (now here)) × (getD (now here) place 0 < 65536)) ⌝ }
     ensures { λ r. ⌜ now (here .exit) ≡ cond (bit waiting n) (set (now (here .entry)) place (eitherMask (getD (now (here .entry)) place 0) (2 ^ n))) (now (here .entry)) ⌝ }
 {
     if bit(waiting, n) {
         let i = place as usize;
-        let before = here[i];
-        here[i] = either(before, 1 << n);
+        let before = wide(here[i]);
+        here[i] = either(before, 1 << n) as u16;
         return;
     }
 }
 
 // Each channel that waits is put into the mask of its place. No mask has a channel before.
-pub fn post_all(c: Channels, here: &mut [u64])
+pub fn post_all(c: Channels, here: &mut [u16])
     requires { ⌜ Sane c × ((p : ℕ) → getD (now here) p 0 ≡ 0)
         × ((k : ℕ) → k < 16 → bit (c .waiting) k ≡ true → getD (c .places) k 0 < length (now here)) ⌝ }
     ensures { λ r. ⌜ Posted (c .awake) (now (here .exit)) (channelsIs c) × (length (now (here .exit)) ≡ length (now (here .entry))) ⌝ }
@@ -78,7 +79,7 @@ fn place_those(mask: u64, place: u64, places: &mut [u64; 16])
 }
 
 // The channels that the masks tell.
-pub fn channels_from(up: u64, here: &[u64]) -> Channels
+pub fn channels_from(up: u64, here: &[u16]) -> Channels
     requires { ⌜ (length (now here) ≤ 65536) × ((p : ℕ) → getD (now here) p 0 < 65536) ⌝ }
     ensures { λ r. ⌜ ((cs : List Channel) → Posted up (now (here .entry)) cs → (channelsIs r ≡ cs) × Sane r) ⌝ }
 {
@@ -86,7 +87,7 @@ pub fn channels_from(up: u64, here: &[u64]) -> Channels
     let mut places = [0u64; 16];
     let mut p = 0;
     while p < here.len() {
-        let mask = here[p];
+        let mask = wide(here[p]);
         waiting = either(waiting, mask);
         place_those(mask, p as u64, &mut places);
         p += 1;

@@ -38,7 +38,7 @@ fn perform(
     flags: Flags,
     up: u64,
     registers: &mut [u8],
-    here: &mut [u64],
+    here: &mut [u16],
 ) -> Stand
     requires { ⌜ (operationIs o ≡ operation (toWord w)) × (refusalOf (toWord w) ≡ 0) × (length (now registers) ≡ registerBytes) ⌝ }
     requires { ⌜ (flags .flag0 < 65536) × (flags .flag1 < 65536) × (up < 65536) × ((p : ℕ) → getD (now here) p 0 < 65536)
@@ -78,7 +78,7 @@ fn perform(
 }
 
 // One step where an accepted word stands; it first wakes the channels that wait there.
-pub fn step_at(w: Word, ways: Ways, s: Stand, registers: &mut [u8], here: &mut [u64]) -> Stand
+pub fn step_at(w: Word, ways: Ways, s: Stand, registers: &mut [u8], here: &mut [u16]) -> Stand
     requires { ⌜ (refusalOf (toWord w) ≡ 0) × (length (now registers) ≡ registerBytes) × Within (length (now here)) (waysIs ways) ⌝ }
     requires { ⌜ Sound (now here) s × (s .place < length (now here)) ⌝ }
     ensures { λ r. ⌜ ((t : State) → Shows (now (registers .entry)) (now (here .entry)) s t

@@ -21,17 +21,20 @@ abbrev μ-loop : tie.MeasureT-loop
 loop-holds : tie.Need-loop-holds Inv-loop μ-loop
 loop-holds c = (omega arith, lit< tt, refl, λ cs s. found-none cs)
 
-mul-mask : tie.Need-mul-mask Inv-loop μ-loop
-mul-mask c = search needs
+mul-wide : tie.Need-mul-wide Inv-loop μ-loop
+mul-wide c = search needs
 
-shared-slice-read-mask : tie.Need-shared-slice-read-mask Inv-loop μ-loop
-shared-slice-read-mask c = c .before .loop-test .taken
+shared-slice-read-wide : tie.Need-shared-slice-read-wide Inv-loop μ-loop
+shared-slice-read-wide c = c .before .loop-test .taken
+
+wide-requires : tie.Need-wide-requires Inv-loop μ-loop
+wide-requires c κs = search needs
 
 either-requires : tie.Need-either-requires Inv-loop μ-loop
-either-requires c κs = (c .before .before .loop .inv .1, c .before .before .before .before .pre .1 (c .before .before .loop .p))
+either-requires c κs = (c .before .before .before .loop .inv .1, c .wide .ensures .1)
 
 place-those-requires : tie.Need-place-those-requires Inv-loop μ-loop
-place-those-requires c κs = c .before .before .before .before .loop .inv .2
+place-those-requires c κs = c .before .before .before .before .before .loop .inv .2
 
 add-p : tie.Need-add-p Inv-loop μ-loop
 add-p c = search needs
@@ -41,10 +44,11 @@ loop-less c = search needs
 
 loop-again : tie.Need-loop-again Inv-loop μ-loop
 loop-again c =
-    let s = c .before .before .before .before .before .before .before in
-    let l = c .before .before .before .before .before .loop in
+    let s = c .before .before .before .before .before .before .before .before in
+    let l = c .before .before .before .before .before .before .loop in
     let e = c .before .before .either .ensures in
-    (omega (arith, c .before .before .before .before .loop-test .taken), e .1, c .place-those .ensures .sixteen, λ cs posted. rw (e .0) (found-more (s .args .up) (s .args .here .now) cs posted (l .p) (l .waiting) (l .places) (l .inv .3 cs posted) _ (c .place-those .ensures)))
+    let w = c .before .before .before .wide .ensures .0 in
+    (omega (arith, c .before .before .before .before .before .loop-test .taken), e .1, c .place-those .ensures .sixteen, λ cs posted. rw (e .0, w) (found-more (s .args .up) (s .args .here .now) cs posted (l .p) (l .waiting) (l .places) (l .inv .3 cs posted) _ (rw (← w) (c .place-those .ensures))))
 
 returns : tie.Need-returns Inv-loop μ-loop
 returns c =
@@ -63,8 +67,9 @@ channels-from-spec =
     Inv-loop
     μ-loop
     loop-holds
-    mul-mask
-    shared-slice-read-mask
+    mul-wide
+    shared-slice-read-wide
+    wide-requires
     either-requires
     place-those-requires
     add-p

@@ -3,17 +3,23 @@ use borrow.Author.Needs.{needs}
 use Rattle.machine.proofs.posts.post.Statement.{statement}
 use Rattle.machine.proofs.posts.post.Tie as tie
 
-mul-waiting : tie.Need-mul-waiting
-mul-waiting c = search needs
+mul-wide : tie.Need-mul-wide
+mul-wide c = search needs
 
-slice-read-waiting : tie.Need-slice-read-waiting
-slice-read-waiting c = search needs
+slice-read-wide : tie.Need-slice-read-wide
+slice-read-wide c = search needs
+
+wide-requires : tie.Need-wide-requires
+wide-requires c κs = search needs
 
 both-requires : tie.Need-both-requires
 both-requires c κs = search needs
 
 either-requires : tie.Need-either-requires
 either-requires c κs = search needs
+
+cast-here : tie.Need-cast-here
+cast-here c = search needs
 
 mul-here : tie.Need-mul-here
 mul-here c = search needs
@@ -34,10 +40,12 @@ pub post-spec : {M : Type 1} → statement M
 post-spec =
     tie.close
     (tie.spec
-    mul-waiting
-    slice-read-waiting
+    mul-wide
+    slice-read-wide
+    wide-requires
     both-requires
     either-requires
+    cast-here
     mul-here
     slice-write-here
     without-requires
