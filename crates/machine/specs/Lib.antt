@@ -7,3 +7,4 @@ pub mod Branches
 pub mod States
 pub mod Steps
 pub mod Posting
+pub mod Ends

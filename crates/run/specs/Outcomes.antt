@@ -9,11 +9,7 @@ use Rattle.paper.specs.Machine as paper
 use Rattle.paper.specs.Machine.{stops, step, run}
 use Rattle.laws.specs.Runs.{still, orSpent, run-zero, run-stop, run-on}
 use Rattle.run.specs.declared.running.Outcome.{Outcome}
-use Rattle.machine.specs.States.{stateIs}
-
--- The paper's outcome, with the registers that are lent beside the state.
-abbrev pub outcomeIs : List ℕ → Outcome → paper.Outcome
-outcomeIs registers o = record { verdict = o .verdict; steps = o .steps; state = stateIs registers (o .state) }
+use Rattle.run.specs.Running.{Running}
 
 -- An outcome after n steps more.
 abbrev pub after : ℕ → paper.Outcome → paper.Outcome
@@ -22,6 +18,11 @@ after n o = record { verdict = o .verdict; steps = n + o .steps; state = o .stat
 -- The outcome of a run that stops after n steps with verdict v.
 abbrev pub ended : ℕ → ℕ → paper.State → paper.Outcome
 ended v n s = record { verdict = v; steps = n; state = s }
+
+-- A run's outcome: where it stands is a state of the kernel's, and with it the outcome is the paper's.
+abbrev pub Ends : List Instr → ℕ → paper.State → List ℕ → List ℕ → Outcome → Type 0
+Ends k budget whole registers here r =
+    (u : paper.State) × Running k registers here (r .stand) u × (ended (r .verdict) (r .steps) u ≡ run k budget whole)
 
 -- The whole run comes to what is left of it from state s, n steps being made.
 abbrev pub Leads : List Instr → ℕ → paper.State → ℕ → paper.State → Type 0
@@ -47,11 +48,11 @@ module _ (k : List Instr) (budget : ℕ) (whole : paper.State) (n : ℕ) (s : pa
 
   module _ (on : stops k s ≡ none) where
     -- The budget is spent.
-    pub leads-spent : n ≡ budget → ended 21 budget s ≡ run k budget whole
+    pub leads-spent : n ≡ budget → ended 21 n s ≡ run k budget whole
     leads-spent e =
         let z : budget - n ≡ 0 = omega arith in
         let spent : run k 0 s ≡ still 21 s = run-zero (stops k) (step k) s ∙ ap (λ (o : Option ℕ). still (orSpent o) s) on in
-        sym (leads ∙ ap (λ (m : ℕ). after n (run k m s)) z ∙ ap (after n) spent ∙ summed (still 21 s) (n + 0) budget (omega arith))
+        sym (leads ∙ ap (λ (m : ℕ). after n (run k m s)) z ∙ ap (after n) spent ∙ summed (still 21 s) (n + 0) n (omega arith))
 
     -- One step more.
     pub leads-on : n < budget → (t : paper.State) → t ≡ step k s → Leads k budget whole (n + 1) t

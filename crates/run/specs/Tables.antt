@@ -10,8 +10,10 @@ use lib.ListN.{length, getD, set, length-set}
 use lib.Seq.{getD-set-same, getD-set-other}
 use borrow.Author.Tests.{eqb-true, eqb-false}
 use Rattle.paper.specs.Kernel.{Instr}
-use Rattle.paper.specs.Jump.{fetch, lands}
-use Rattle.paper.specs.Machine.{Ways, waysOf}
+use Rattle.paper.specs.Jump.{fetch, endOf}
+use Rattle.paper.specs.Machine.{State, Ways, waysOf}
+use Rattle.machine.specs.declared.step.Stand.{Stand}
+use Rattle.run.specs.Running.{Running, Steps, running-before, running-place, running-instr, running-fetched, running-steps}
 
 -- Three places of 16 bits as one number: the next, the jump, the wait.
 abbrev pub waysFrom : ℕ → Ways
@@ -21,8 +23,10 @@ pub ways-from : (ways : Ways) (code : ℕ) → ways .next < 65536 → ways .jump
     → code ≡ ways .next + ways .jump * 65536 + ways .wait * 4294967296 → waysFrom code ≡ ways
 ways-from ways code n j w e =
     let a : code % 65536 ≡ ways .next = omega arith in
-    let b : code / 65536 % 65536 ≡ ways .jump = omega arith in
-    let c : code / 4294967296 % 65536 ≡ ways .wait = omega arith in
+    let q : code / 65536 ≡ ways .jump + ways .wait * 65536 = omega arith in
+    let b : code / 65536 % 65536 ≡ ways .jump = rw q (omega arith) in
+    let t : code / 4294967296 ≡ ways .wait = omega arith in
+    let c : code / 4294967296 % 65536 ≡ ways .wait = rw t (omega arith) in
     λ i. record { next = a i; jump = b i; wait = c i }
 
 -- What the table has at a place is the instruction that starts there.
@@ -33,6 +37,12 @@ TabledAt k table p =
 -- So at each place below q.
 abbrev pub TabledTo : List Instr → List ℕ → ℕ → Type 0
 TabledTo k table q = (p : ℕ) → p < q → TabledAt k table p
+
+-- The table has the instructions of a kernel that ends at this place.
+pub record Tabled (k : List Instr) (end : ℕ) (table : List ℕ) : Type 0 where
+  pub ends : end ≡ endOf k
+  pub rows : TabledTo k table end
+  pub long : 3 * end ≤ length table
 
 -- One place more: three numbers are stored, and all others stay.
 pub record Entered (k : List Instr) (table after : List ℕ) (p : ℕ) : Type 0 where
@@ -48,13 +58,18 @@ tabled-more k table after p to e q h = go (eqb q p) refl
   where
     go : (b : Bool) → eqb q p ≡ b → TabledAt k after q
     go true f = subst (TabledAt k after) (sym (eqb-true q p f)) (e .there)
-    go false f i fetched =
+    go false f =
+        λ i fetched.
         let apart : q ≡ p → ⊥ = eqb-false q p f in
         let old = to q (omega arith) i fetched in
         let a = e .others (3 * q) (λ x y. omega arith) in
         let b = e .others (3 * q + 1) (λ x y. omega arith) in
         let c = e .others (3 * q + 2) (λ x y. omega arith) in
         rw (a, b, c) old
+
+-- All places of a kernel that has n bytes.
+pub tabled-all : (k : List Instr) (table : List ℕ) (n p : ℕ) → 8 * endOf k ≡ n → p ≡ n / 8 → TabledTo k table p → 3 * (n / 8) ≤ length table → Tabled k (n / 8) table
+tabled-all k table n p ends e rows long = record { ends = omega arith; rows = subst (TabledTo k table) e rows; long = long }
 
 -- Where no instruction starts there is nothing to store.
 pub entered-none : (k : List Instr) (table : List ℕ) (p : ℕ) → fetch k p ≡ none → Entered k table table p
@@ -101,3 +116,26 @@ entered-three k table p lo hi code i room fetched word ways =
         getD-set-other (set (set table (3 * p) lo) (3 * p + 1) hi) (3 * p + 2) (3 * p) code 0 (λ e. omega arith)
         ∙ getD-set-other (set table (3 * p) lo) (3 * p + 1) (3 * p) hi 0 (λ e. omega arith)
         ∙ getD-set-same table (3 * p) lo 0 (omega arith)
+
+-- ---- a run over a table
+
+module _ (k : List Instr) (end : ℕ) (table : List ℕ) (d : Tabled k end table) (registers here : List ℕ) (s : Stand) (t : State) (r : Running k registers here s t)
+    (away : s .place ≡ end → ⊥) where
+  inside : s .place < end
+  inside = omega (arith, running-before k registers here s t r, d .ends, away)
+
+  -- The row where a run stands is in the table,
+  pub row-there : (3 * s .place + 2 < length table) × (s .place < 65536)
+  row-there = (omega (arith, inside, d .long), omega (arith, running-place k registers here s t r, r .few))
+
+  pub row-away : s .place ≡ endOf k → ⊥
+  row-away e = away (e ∙ sym (d .ends))
+
+  -- and makes the step of the instruction there.
+  pub row-steps : (w : ℕ) (ways : Ways) → w ≡ getD table (3 * s .place) 0 + getD table (3 * s .place + 1) 0 * 2 ^ 64
+      → ways ≡ waysFrom (getD table (3 * s .place + 2) 0) → Steps k here s t w ways
+  row-steps w ways ew e =
+      let i = running-instr k registers here s t r row-away in
+      let f = running-fetched k registers here s t r row-away in
+      let row = d .rows (s .place) inside i f in
+      running-steps k registers here s t r row-away i f w ways (ew ∙ row .0) (e ∙ row .1)

@@ -5,12 +5,15 @@ use kernel::fetch::word_at;
 use machine::step::Stand;
 use machine::step::step_at;
 ghost use mathlib.Core.Path.{_≡_};
-ghost use Prim.Native.Nat.{ℕ, _+_, _*_, _<_, _≤_};
+ghost use mathlib.Core.List.{List};
+ghost use Prim.Native.Nat.{_*_};
 ghost use lib.ListN.{length};
-ghost use Rattle.paper.specs.Machine.{State, step, run};
-ghost use Rattle.run.specs.Running.{instructions, Running};
-ghost use Rattle.run.specs.Tables.{TabledTo};
-ghost use Rattle.run.specs.Outcomes.{ended};
+ghost use Rattle.paper.specs.Kernel.{Instr};
+ghost use Rattle.paper.specs.Machine.{State, step};
+ghost use Rattle.run.specs.Running.{Running};
+ghost use Rattle.run.specs.Kernels.{instructions, Takes};
+ghost use Rattle.run.specs.Tables.{Tabled};
+ghost use Rattle.run.specs.Outcomes.{Ends};
 
 // What a run comes to: 20 at the end or 21 with the budget spent, the steps that were made, and where it stands.
 pub struct Outcome {
@@ -20,20 +23,58 @@ pub struct Outcome {
 }
 
 // One step, away from the end.
-pub fn advance(
+pub(crate) fn advance(
     dictionary: &[u8],
     kernel: &[u8],
     s: Stand,
     registers: &mut [u8],
-    here: &mut [u64],
+    here: &mut [u16],
 ) -> Stand
-    requires { ⌜ ((t : State) × Running (now dictionary) (now kernel) (now registers) (now here) s t) × (8 * s .place ≡ length (now kernel) → ⊥) ⌝ }
-    ensures { λ r. ⌜ ((t : State) → Running (now (dictionary .entry)) (now (kernel .entry)) (now (registers .entry)) (now (here .entry)) s t
-        → Running (now (dictionary .entry)) (now (kernel .entry)) (now (registers .exit)) (now (here .exit)) r (step (instructions (now (dictionary .entry)) (now (kernel .entry))) t)) ⌝ }
+    requires { ⌜ Takes (now dictionary) (now kernel) × (8 * s .place ≡ length (now kernel) → ⊥) ⌝ }
+    requires { ⌜ ((t : State) × Running (instructions (now dictionary) (now kernel)) (now registers) (now here) s t) ⌝ }
+    ensures { λ r. ⌜ ((t : State) → Running (instructions (now (dictionary .entry)) (now (kernel .entry))) (now (registers .entry)) (now (here .entry)) s t
+        → Running (instructions (now (dictionary .entry)) (now (kernel .entry))) (now (registers .exit)) (now (here .exit)) r
+        (step (instructions (now (dictionary .entry)) (now (kernel .entry))) t)) ⌝ }
 {
     let place = s.place;
     let f = word_at(dictionary, kernel, 8 * (place as usize));
     let w = f.word;
     let ways = ways_of(w, place, f.size);
     step_at(w, ways, s, registers, here)
+}
+
+// Steps of the instructions in a table, until the end or until the budget is spent.
+pub(crate) fn run_on(
+    table: &[u64],
+    end: u64,
+    budget: u64,
+    start: Stand,
+    registers: &mut [u8],
+    here: &mut [u16],
+) -> Outcome
+    requires { ⌜ ((k : List Instr) × (t : State) × Running k (now registers) (now here) start t × Tabled k end (now table)) ⌝ }
+    ensures { λ r. ⌜ ((k : List Instr) (t : State) → Running k (now (registers .entry)) (now (here .entry)) start t → Tabled k end (now (table .entry))
+        → Ends k budget t (now (registers .exit)) (now (here .exit)) r) ⌝ }
+{
+    let mut s = start;
+    let mut steps = 0;
+    while s.place != end {
+        if steps == budget {
+            return Outcome {
+                verdict: 21,
+                steps: steps,
+                stand: s,
+            };
+        }
+        let row = row_at(table, s.place);
+        let w = row.word;
+        let ways = row.ways;
+        s = step_at(w, ways, s, registers, here);
+        steps += 1;
+    }
+    Outcome {
+        verdict: 20,
+        steps: steps,
+        stand: s,
+    }
 }

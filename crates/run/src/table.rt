@@ -6,17 +6,14 @@ use machine::ways::Ways;
 use words::bytes::Word;
 use words::limits::PLACES;
 ghost use mathlib.Core.Path.{_≡_};
-ghost use mathlib.Core.Option.{some};
 ghost use Prim.Native.Nat.{ℕ, _+_, _*_, _^_, _<_, _≤_};
 ghost use lib.ListN.{length, getD};
-ghost use Rattle.paper.specs.Kernel.{longAndShort};
 ghost use Rattle.paper.specs.Jump.{lands};
 ghost use Rattle.words.specs.Words.{toWord};
 ghost use Rattle.kernel.specs.Marks.{marked};
-ghost use Rattle.kernel.specs.Accepting.{AcceptedKernel};
 ghost use Rattle.machine.specs.Branches.{waysIs};
-ghost use Rattle.run.specs.Running.{instructions};
-ghost use Rattle.run.specs.Tables.{waysFrom, TabledTo, Entered};
+ghost use Rattle.run.specs.Kernels.{instructions, Takes};
+ghost use Rattle.run.specs.Tables.{waysFrom, Tabled, Entered};
 
 // A row of the table: a word, and where it leads.
 pub struct Row {
@@ -33,7 +30,7 @@ fn code_of(ways: Ways) -> u64
 }
 
 // The row at a place.
-pub fn row_at(table: &[u64], place: u64) -> Row
+pub(crate) fn row_at(table: &[u64], place: u64) -> Row
     requires { ⌜ (3 * place + 2 < length (now table)) × (place < 65536) ⌝ }
     ensures { λ r. ⌜ (toWord (r .word) ≡ getD (now (table .entry)) (3 * place) 0 + getD (now (table .entry)) (3 * place + 1) 0 * 2 ^ 64)
         × (waysIs (r .ways) ≡ waysFrom (getD (now (table .entry)) (3 * place + 2) 0)) ⌝ }
@@ -56,7 +53,7 @@ pub fn row_at(table: &[u64], place: u64) -> Row
 
 // The row at place p, if an instruction starts there, is stored.
 fn enter(dictionary: &[u8], kernel: &[u8], marks: &[u8; PLACES], p: usize, table: &mut [u64])
-    requires { ⌜ AcceptedKernel longAndShort (now dictionary) (now kernel) (instructions (now dictionary) (now kernel))
+    requires { ⌜ Takes (now dictionary) (now kernel)
         × ((q : ℕ) → marked (now marks) q ≡ lands (instructions (now dictionary) (now kernel)) q)
         × (8 * p < length (now kernel)) × (3 * p + 2 < length (now table)) ⌝ }
     ensures { λ r. ⌜ Entered (instructions (now (dictionary .entry)) (now (kernel .entry))) (now (table .entry)) (now (table .exit)) p ⌝ }
@@ -72,18 +69,19 @@ fn enter(dictionary: &[u8], kernel: &[u8], marks: &[u8; PLACES], p: usize, table
     }
 }
 
-// All rows of an accepted kernel, by the marks of the places at which its instructions start.
-pub fn fill(dictionary: &[u8], kernel: &[u8], marks: &[u8; PLACES], table: &mut [u64])
-    requires { ⌜ AcceptedKernel longAndShort (now dictionary) (now kernel) (instructions (now dictionary) (now kernel))
+// All rows of an accepted kernel, by the marks of the places at which its instructions start. The answer is the place where it ends.
+pub(crate) fn fill(dictionary: &[u8], kernel: &[u8], marks: &[u8; PLACES], table: &mut [u64]) -> u64
+    requires { ⌜ Takes (now dictionary) (now kernel)
         × ((q : ℕ) → marked (now marks) q ≡ lands (instructions (now dictionary) (now kernel)) q)
         × (3 * length (now kernel) ≤ 8 * length (now table)) ⌝ }
-    ensures { λ r. ⌜ ((p : ℕ) → 8 * p < length (now (kernel .entry)) → TabledTo (instructions (now (dictionary .entry)) (now (kernel .entry))) (now (table .exit)) (p + 1))
+    ensures { λ r. ⌜ Tabled (instructions (now (dictionary .entry)) (now (kernel .entry))) r (now (table .exit))
         × (length (now (table .exit)) ≡ length (now (table .entry))) ⌝ }
 {
-    let places = kernel.len() / 8;
+    let end = kernel.len() / 8;
     let mut p = 0;
-    while p < places {
+    while p < end {
         enter(dictionary, kernel, marks, p, table);
         p += 1;
     }
+    end as u64
 }

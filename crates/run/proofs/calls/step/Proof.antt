@@ -20,7 +20,7 @@ returns c = step-size _ _ _ _ (sym (c .before .are-sized .ensures .0) ∙ not-tr
 
 admit-requires : tie.Need-admit-requires
 admit-requires c κs =
-    let z = c .before .before .are-sized .ensures .1 (not-false _ (c .before .if1 .left)) in
+    let z = c .before .before .before .are-sized .ensures .1 (not-false _ (c .before .before .if1 .left)) in
     (z .right, z .state-is)
 
 enum-known-o : tie.Need-enum-known-o
@@ -31,8 +31,8 @@ enum-told c = search needs
 
 step-lawful-requires : tie.Need-step-lawful-requires
 step-lawful-requires c κs =
-    let z = c .before .before .before .before .before .before .before .are-sized .ensures .1 (not-false _ (c .before .before .before .before .before .before .if1 .left)) in
-    (z, lawful _ _ _ _ z _ (c .before .before .before .before .admit .ensures _) (c .before .before .enum-told .given .1))
+    let z = c .before .before .before .before .before .before .before .before .are-sized .ensures .1 (not-false _ (c .before .before .before .before .before .before .before .if1 .left)) in
+    (z, lawful _ _ _ _ z _ _ (c .before .before .before .before .admit .ensures _) (c .before .before .enum-told .given .1) .0)
 
 same-length-3 : tie.Need-same-length-3
 same-length-3 c = search needs
@@ -42,8 +42,8 @@ same-length-4 c = search needs
 
 returns-2 : tie.Need-returns-2
 returns-2 c =
-    let z = c .before .before .before .before .before .before .are-sized .ensures .1 (not-false _ (c .before .before .before .before .before .if1 .left)) in
-    step-barred _ _ _ _ z _ (c .before .before .before .admit .ensures _) _ _ (c .before .o .given .1)
+    let z = c .before .before .before .before .before .before .before .are-sized .ensures .1 (not-false _ (c .before .before .before .before .before .before .if1 .left)) in
+    step-barred _ _ _ _ z _ _ (c .before .before .before .admit .ensures _) _ _ (c .before .o .given .1)
 
 same-length-5 : tie.Need-same-length-5
 same-length-5 c = search needs
