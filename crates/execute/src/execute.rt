@@ -14,15 +14,17 @@ use crate::compare::flags_after;
 use crate::destination::write;
 use crate::enable::enable_of;
 use crate::enable::predicate_of;
+use crate::one::execute_one;
 use crate::results::results;
 use lanes::flags::Flags;
 use lanes::mask::quarter_mask;
 use words::bytes::Word;
+use words::fields::exec_size;
 use words::fields::qtr_ctrl;
 use words::operation::Plain;
 
-// An instruction that is no branch: its sources are read, its results stored where its channels are enabled, its flags answered.
-pub fn execute(p: Plain, w: Word, awake: u64, flags: Flags, registers: &mut [u8]) -> Flags
+// An instruction on any number of channels: its sources are read, its results stored where its channels are enabled, its flags answered.
+fn execute_many(p: Plain, w: Word, awake: u64, flags: Flags, registers: &mut [u8]) -> Flags
     requires { ⌜ (operation (toWord w) ≡ plain (plainIs p)) × (refusalOf (toWord w) ≡ 0) ⌝ }
     requires { ⌜ (length (now registers) ≡ registerBytes) × (awake < 65536) × (flags .flag0 < 65536) × (flags .flag1 < 65536) ⌝ }
     ensures { λ r. ⌜ now (registers .exit) ≡ effect (toWord w) (awakeList awake) (storeOf (now (registers .entry)) flags) .registers ⌝ }
@@ -37,4 +39,19 @@ pub fn execute(p: Plain, w: Word, awake: u64, flags: Flags, registers: &mut [u8]
     results(p, w, quarter_mask(predicate, quarter), registers, &mut made);
     write(w, quarter_mask(enable, quarter), registers, &made);
     flags_after(p, w, flags, enable, &made)
+}
+
+// An instruction that is no branch. One channel has a way of its own.
+pub fn execute(p: Plain, w: Word, awake: u64, flags: Flags, registers: &mut [u8]) -> Flags
+    requires { ⌜ (operation (toWord w) ≡ plain (plainIs p)) × (refusalOf (toWord w) ≡ 0) ⌝ }
+    requires { ⌜ (length (now registers) ≡ registerBytes) × (awake < 65536) × (flags .flag0 < 65536) × (flags .flag1 < 65536) ⌝ }
+    ensures { λ r. ⌜ now (registers .exit) ≡ effect (toWord w) (awakeList awake) (storeOf (now (registers .entry)) flags) .registers ⌝ }
+    ensures { λ r. ⌜ (r .flag0 ≡ effect (toWord w) (awakeList awake) (storeOf (now (registers .entry)) flags) .flag0)
+        × (r .flag1 ≡ effect (toWord w) (awakeList awake) (storeOf (now (registers .entry)) flags) .flag1) ⌝ }
+    ensures { λ r. ⌜ (r .flag0 < 65536) × (r .flag1 < 65536) ⌝ }
+{
+    if exec_size(w) == 0 {
+        return execute_one(p, w, awake, flags, registers);
+    }
+    execute_many(p, w, awake, flags, registers)
 }
