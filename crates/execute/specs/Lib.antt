@@ -1,6 +1,5 @@
 -- What the code's flags and patterns are in the paper's terms, and what legality gives for them.
 pub mod Stores
-pub mod PlainCodes
 pub mod Readable
 pub mod Results
 pub mod Stored

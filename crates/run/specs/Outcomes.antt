@@ -48,11 +48,11 @@ module _ (k : List Instr) (budget : ℕ) (whole : paper.State) (n : ℕ) (s : pa
 
   module _ (on : stops k s ≡ none) where
     -- The budget is spent.
-    pub leads-spent : n ≡ budget → ended 21 n s ≡ run k budget whole
+    pub leads-spent : n ≡ budget → ended 21 budget s ≡ run k budget whole
     leads-spent e =
         let z : budget - n ≡ 0 = omega arith in
         let spent : run k 0 s ≡ still 21 s = run-zero (stops k) (step k) s ∙ ap (λ (o : Option ℕ). still (orSpent o) s) on in
-        sym (leads ∙ ap (λ (m : ℕ). after n (run k m s)) z ∙ ap (after n) spent ∙ summed (still 21 s) (n + 0) n (omega arith))
+        sym (leads ∙ ap (λ (m : ℕ). after n (run k m s)) z ∙ ap (after n) spent ∙ summed (still 21 s) (n + 0) budget (omega arith))
 
     -- One step more.
     pub leads-on : n < budget → (t : paper.State) → t ≡ step k s → Leads k budget whole (n + 1) t

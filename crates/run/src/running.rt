@@ -62,7 +62,7 @@ pub(crate) fn run_on(
         if steps == budget {
             return Outcome {
                 verdict: 21,
-                steps: steps,
+                steps: budget,
                 stand: s,
             };
         }

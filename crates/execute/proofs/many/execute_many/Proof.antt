@@ -6,8 +6,8 @@ use Rattle.execute.specs.Readable.{legal-writable}
 use Rattle.execute.proofs.Executed.{Made, registers-made, flag0-made, flag1-made, flags-less}
 use mathlib.Core.Path.{refl}
 use borrow.Author.Needs.{needs}
-use Rattle.execute.proofs.execute.execute_many.Statement.{statement}
-use Rattle.execute.proofs.execute.execute_many.Tie as tie
+use Rattle.execute.proofs.many.execute_many.Statement.{statement}
+use Rattle.execute.proofs.many.execute_many.Tie as tie
 
 -- The word is legal.
 legal : (s : tie.Start) → LegalPlain (plainIs (s .args .p)) (toWord (s .args .w))
