@@ -2,6 +2,7 @@
 
 // Bit k is 1 exactly when the field is addressed directly and its region passes 9 at ExecSize 2 to the power k, k from 0 to 4; other bits are 0.
 pub(crate) const ENTRIES: [u8; 4096] = [
+    // VertStride 0, Width 0
     31,
     31,
     31,
@@ -34,6 +35,7 @@ pub(crate) const ENTRIES: [u8; 4096] = [
     0,
     0,
     0,
+    // VertStride 0, Width 1
     0,
     0,
     0,
@@ -66,6 +68,7 @@ pub(crate) const ENTRIES: [u8; 4096] = [
     0,
     0,
     0,
+    // VertStride 0, Width 2
     0,
     0,
     0,
@@ -98,6 +101,7 @@ pub(crate) const ENTRIES: [u8; 4096] = [
     0,
     0,
     0,
+    // VertStride 0, Width 3
     0,
     0,
     0,
@@ -130,6 +134,7 @@ pub(crate) const ENTRIES: [u8; 4096] = [
     0,
     0,
     0,
+    // VertStride 0, Width 4
     0,
     0,
     0,
@@ -162,6 +167,7 @@ pub(crate) const ENTRIES: [u8; 4096] = [
     0,
     0,
     0,
+    // VertStride 0, Width 5
     0,
     0,
     0,
@@ -194,6 +200,7 @@ pub(crate) const ENTRIES: [u8; 4096] = [
     0,
     0,
     0,
+    // VertStride 0, Width 6
     0,
     0,
     0,
@@ -226,6 +233,7 @@ pub(crate) const ENTRIES: [u8; 4096] = [
     0,
     0,
     0,
+    // VertStride 0, Width 7
     0,
     0,
     0,
@@ -258,6 +266,7 @@ pub(crate) const ENTRIES: [u8; 4096] = [
     0,
     0,
     0,
+    // VertStride 1, Width 0
     30,
     30,
     30,
@@ -290,6 +299,7 @@ pub(crate) const ENTRIES: [u8; 4096] = [
     0,
     0,
     0,
+    // VertStride 1, Width 1
     30,
     30,
     30,
@@ -322,6 +332,7 @@ pub(crate) const ENTRIES: [u8; 4096] = [
     0,
     0,
     0,
+    // VertStride 1, Width 2
     28,
     28,
     28,
@@ -354,6 +365,7 @@ pub(crate) const ENTRIES: [u8; 4096] = [
     0,
     0,
     0,
+    // VertStride 1, Width 3
     24,
     24,
     24,
@@ -386,6 +398,7 @@ pub(crate) const ENTRIES: [u8; 4096] = [
     0,
     0,
     0,
+    // VertStride 1, Width 4
     16,
     16,
     16,
@@ -418,6 +431,7 @@ pub(crate) const ENTRIES: [u8; 4096] = [
     0,
     0,
     0,
+    // VertStride 1, Width 5
     0,
     0,
     0,
@@ -450,6 +464,7 @@ pub(crate) const ENTRIES: [u8; 4096] = [
     0,
     0,
     0,
+    // VertStride 1, Width 6
     0,
     0,
     0,
@@ -482,6 +497,7 @@ pub(crate) const ENTRIES: [u8; 4096] = [
     0,
     0,
     0,
+    // VertStride 1, Width 7
     0,
     0,
     0,
@@ -514,6 +530,7 @@ pub(crate) const ENTRIES: [u8; 4096] = [
     0,
     0,
     0,
+    // VertStride 2, Width 0
     30,
     30,
     30,
@@ -546,6 +563,7 @@ pub(crate) const ENTRIES: [u8; 4096] = [
     0,
     0,
     0,
+    // VertStride 2, Width 1
     30,
     30,
     30,
@@ -578,6 +596,7 @@ pub(crate) const ENTRIES: [u8; 4096] = [
     0,
     0,
     0,
+    // VertStride 2, Width 2
     28,
     28,
     28,
@@ -610,6 +629,7 @@ pub(crate) const ENTRIES: [u8; 4096] = [
     0,
     0,
     0,
+    // VertStride 2, Width 3
     24,
     24,
     24,
@@ -642,6 +662,7 @@ pub(crate) const ENTRIES: [u8; 4096] = [
     0,
     0,
     0,
+    // VertStride 2, Width 4
     16,
     16,
     16,
@@ -674,6 +695,7 @@ pub(crate) const ENTRIES: [u8; 4096] = [
     0,
     0,
     0,
+    // VertStride 2, Width 5
     0,
     0,
     0,
@@ -706,6 +728,7 @@ pub(crate) const ENTRIES: [u8; 4096] = [
     0,
     0,
     0,
+    // VertStride 2, Width 6
     0,
     0,
     0,
@@ -738,6 +761,7 @@ pub(crate) const ENTRIES: [u8; 4096] = [
     0,
     0,
     0,
+    // VertStride 2, Width 7
     0,
     0,
     0,
@@ -770,6 +794,7 @@ pub(crate) const ENTRIES: [u8; 4096] = [
     0,
     0,
     0,
+    // VertStride 3, Width 0
     30,
     30,
     30,
@@ -802,6 +827,7 @@ pub(crate) const ENTRIES: [u8; 4096] = [
     0,
     0,
     0,
+    // VertStride 3, Width 1
     30,
     30,
     30,
@@ -834,6 +860,7 @@ pub(crate) const ENTRIES: [u8; 4096] = [
     0,
     0,
     0,
+    // VertStride 3, Width 2
     28,
     28,
     28,
@@ -866,6 +893,7 @@ pub(crate) const ENTRIES: [u8; 4096] = [
     0,
     0,
     0,
+    // VertStride 3, Width 3
     24,
     24,
     24,
@@ -898,6 +926,7 @@ pub(crate) const ENTRIES: [u8; 4096] = [
     0,
     0,
     0,
+    // VertStride 3, Width 4
     16,
     16,
     16,
@@ -930,6 +959,7 @@ pub(crate) const ENTRIES: [u8; 4096] = [
     0,
     0,
     0,
+    // VertStride 3, Width 5
     0,
     0,
     0,
@@ -962,6 +992,7 @@ pub(crate) const ENTRIES: [u8; 4096] = [
     0,
     0,
     0,
+    // VertStride 3, Width 6
     0,
     0,
     0,
@@ -994,6 +1025,7 @@ pub(crate) const ENTRIES: [u8; 4096] = [
     0,
     0,
     0,
+    // VertStride 3, Width 7
     0,
     0,
     0,
@@ -1026,6 +1058,7 @@ pub(crate) const ENTRIES: [u8; 4096] = [
     0,
     0,
     0,
+    // VertStride 4, Width 0
     30,
     30,
     30,
@@ -1058,6 +1091,7 @@ pub(crate) const ENTRIES: [u8; 4096] = [
     0,
     0,
     0,
+    // VertStride 4, Width 1
     30,
     30,
     30,
@@ -1090,6 +1124,7 @@ pub(crate) const ENTRIES: [u8; 4096] = [
     0,
     0,
     0,
+    // VertStride 4, Width 2
     28,
     28,
     28,
@@ -1122,6 +1157,7 @@ pub(crate) const ENTRIES: [u8; 4096] = [
     0,
     0,
     0,
+    // VertStride 4, Width 3
     24,
     24,
     24,
@@ -1154,6 +1190,7 @@ pub(crate) const ENTRIES: [u8; 4096] = [
     0,
     0,
     0,
+    // VertStride 4, Width 4
     16,
     16,
     16,
@@ -1186,6 +1223,7 @@ pub(crate) const ENTRIES: [u8; 4096] = [
     0,
     0,
     0,
+    // VertStride 4, Width 5
     0,
     0,
     0,
@@ -1218,6 +1256,7 @@ pub(crate) const ENTRIES: [u8; 4096] = [
     0,
     0,
     0,
+    // VertStride 4, Width 6
     0,
     0,
     0,
@@ -1250,6 +1289,7 @@ pub(crate) const ENTRIES: [u8; 4096] = [
     0,
     0,
     0,
+    // VertStride 4, Width 7
     0,
     0,
     0,
@@ -1282,6 +1322,7 @@ pub(crate) const ENTRIES: [u8; 4096] = [
     0,
     0,
     0,
+    // VertStride 5, Width 0
     30,
     30,
     30,
@@ -1314,6 +1355,7 @@ pub(crate) const ENTRIES: [u8; 4096] = [
     0,
     0,
     0,
+    // VertStride 5, Width 1
     30,
     30,
     30,
@@ -1346,6 +1388,7 @@ pub(crate) const ENTRIES: [u8; 4096] = [
     0,
     0,
     0,
+    // VertStride 5, Width 2
     28,
     28,
     28,
@@ -1378,6 +1421,7 @@ pub(crate) const ENTRIES: [u8; 4096] = [
     0,
     0,
     0,
+    // VertStride 5, Width 3
     24,
     24,
     24,
@@ -1410,6 +1454,7 @@ pub(crate) const ENTRIES: [u8; 4096] = [
     0,
     0,
     0,
+    // VertStride 5, Width 4
     16,
     16,
     16,
@@ -1442,6 +1487,7 @@ pub(crate) const ENTRIES: [u8; 4096] = [
     0,
     0,
     0,
+    // VertStride 5, Width 5
     0,
     0,
     0,
@@ -1474,6 +1520,7 @@ pub(crate) const ENTRIES: [u8; 4096] = [
     0,
     0,
     0,
+    // VertStride 5, Width 6
     0,
     0,
     0,
@@ -1506,6 +1553,7 @@ pub(crate) const ENTRIES: [u8; 4096] = [
     0,
     0,
     0,
+    // VertStride 5, Width 7
     0,
     0,
     0,
@@ -1538,6 +1586,7 @@ pub(crate) const ENTRIES: [u8; 4096] = [
     0,
     0,
     0,
+    // VertStride 6, Width 0
     30,
     30,
     30,
@@ -1570,6 +1619,7 @@ pub(crate) const ENTRIES: [u8; 4096] = [
     0,
     0,
     0,
+    // VertStride 6, Width 1
     30,
     30,
     30,
@@ -1602,6 +1652,7 @@ pub(crate) const ENTRIES: [u8; 4096] = [
     0,
     0,
     0,
+    // VertStride 6, Width 2
     28,
     28,
     28,
@@ -1634,6 +1685,7 @@ pub(crate) const ENTRIES: [u8; 4096] = [
     0,
     0,
     0,
+    // VertStride 6, Width 3
     24,
     24,
     24,
@@ -1666,6 +1718,7 @@ pub(crate) const ENTRIES: [u8; 4096] = [
     0,
     0,
     0,
+    // VertStride 6, Width 4
     16,
     16,
     16,
@@ -1698,6 +1751,7 @@ pub(crate) const ENTRIES: [u8; 4096] = [
     0,
     0,
     0,
+    // VertStride 6, Width 5
     0,
     0,
     0,
@@ -1730,6 +1784,7 @@ pub(crate) const ENTRIES: [u8; 4096] = [
     0,
     0,
     0,
+    // VertStride 6, Width 6
     0,
     0,
     0,
@@ -1762,6 +1817,7 @@ pub(crate) const ENTRIES: [u8; 4096] = [
     0,
     0,
     0,
+    // VertStride 6, Width 7
     0,
     0,
     0,
@@ -1794,6 +1850,7 @@ pub(crate) const ENTRIES: [u8; 4096] = [
     0,
     0,
     0,
+    // VertStride 7, Width 0
     0,
     0,
     0,
@@ -1826,6 +1883,7 @@ pub(crate) const ENTRIES: [u8; 4096] = [
     0,
     0,
     0,
+    // VertStride 7, Width 1
     0,
     0,
     0,
@@ -1858,6 +1916,7 @@ pub(crate) const ENTRIES: [u8; 4096] = [
     0,
     0,
     0,
+    // VertStride 7, Width 2
     0,
     0,
     0,
@@ -1890,6 +1949,7 @@ pub(crate) const ENTRIES: [u8; 4096] = [
     0,
     0,
     0,
+    // VertStride 7, Width 3
     0,
     0,
     0,
@@ -1922,6 +1982,7 @@ pub(crate) const ENTRIES: [u8; 4096] = [
     0,
     0,
     0,
+    // VertStride 7, Width 4
     0,
     0,
     0,
@@ -1954,6 +2015,7 @@ pub(crate) const ENTRIES: [u8; 4096] = [
     0,
     0,
     0,
+    // VertStride 7, Width 5
     0,
     0,
     0,
@@ -1986,6 +2048,7 @@ pub(crate) const ENTRIES: [u8; 4096] = [
     0,
     0,
     0,
+    // VertStride 7, Width 6
     0,
     0,
     0,
@@ -2018,6 +2081,7 @@ pub(crate) const ENTRIES: [u8; 4096] = [
     0,
     0,
     0,
+    // VertStride 7, Width 7
     0,
     0,
     0,
@@ -2050,6 +2114,7 @@ pub(crate) const ENTRIES: [u8; 4096] = [
     0,
     0,
     0,
+    // VertStride 8, Width 0
     0,
     0,
     0,
@@ -2082,6 +2147,7 @@ pub(crate) const ENTRIES: [u8; 4096] = [
     0,
     0,
     0,
+    // VertStride 8, Width 1
     0,
     0,
     0,
@@ -2114,6 +2180,7 @@ pub(crate) const ENTRIES: [u8; 4096] = [
     0,
     0,
     0,
+    // VertStride 8, Width 2
     0,
     0,
     0,
@@ -2146,6 +2213,7 @@ pub(crate) const ENTRIES: [u8; 4096] = [
     0,
     0,
     0,
+    // VertStride 8, Width 3
     0,
     0,
     0,
@@ -2178,6 +2246,7 @@ pub(crate) const ENTRIES: [u8; 4096] = [
     0,
     0,
     0,
+    // VertStride 8, Width 4
     0,
     0,
     0,
@@ -2210,6 +2279,7 @@ pub(crate) const ENTRIES: [u8; 4096] = [
     0,
     0,
     0,
+    // VertStride 8, Width 5
     0,
     0,
     0,
@@ -2242,6 +2312,7 @@ pub(crate) const ENTRIES: [u8; 4096] = [
     0,
     0,
     0,
+    // VertStride 8, Width 6
     0,
     0,
     0,
@@ -2274,6 +2345,7 @@ pub(crate) const ENTRIES: [u8; 4096] = [
     0,
     0,
     0,
+    // VertStride 8, Width 7
     0,
     0,
     0,
@@ -2306,6 +2378,7 @@ pub(crate) const ENTRIES: [u8; 4096] = [
     0,
     0,
     0,
+    // VertStride 9, Width 0
     0,
     0,
     0,
@@ -2338,6 +2411,7 @@ pub(crate) const ENTRIES: [u8; 4096] = [
     0,
     0,
     0,
+    // VertStride 9, Width 1
     0,
     0,
     0,
@@ -2370,6 +2444,7 @@ pub(crate) const ENTRIES: [u8; 4096] = [
     0,
     0,
     0,
+    // VertStride 9, Width 2
     0,
     0,
     0,
@@ -2402,6 +2477,7 @@ pub(crate) const ENTRIES: [u8; 4096] = [
     0,
     0,
     0,
+    // VertStride 9, Width 3
     0,
     0,
     0,
@@ -2434,6 +2510,7 @@ pub(crate) const ENTRIES: [u8; 4096] = [
     0,
     0,
     0,
+    // VertStride 9, Width 4
     0,
     0,
     0,
@@ -2466,6 +2543,7 @@ pub(crate) const ENTRIES: [u8; 4096] = [
     0,
     0,
     0,
+    // VertStride 9, Width 5
     0,
     0,
     0,
@@ -2498,6 +2576,7 @@ pub(crate) const ENTRIES: [u8; 4096] = [
     0,
     0,
     0,
+    // VertStride 9, Width 6
     0,
     0,
     0,
@@ -2530,6 +2609,7 @@ pub(crate) const ENTRIES: [u8; 4096] = [
     0,
     0,
     0,
+    // VertStride 9, Width 7
     0,
     0,
     0,
@@ -2562,6 +2642,7 @@ pub(crate) const ENTRIES: [u8; 4096] = [
     0,
     0,
     0,
+    // VertStride 10, Width 0
     0,
     0,
     0,
@@ -2594,6 +2675,7 @@ pub(crate) const ENTRIES: [u8; 4096] = [
     0,
     0,
     0,
+    // VertStride 10, Width 1
     0,
     0,
     0,
@@ -2626,6 +2708,7 @@ pub(crate) const ENTRIES: [u8; 4096] = [
     0,
     0,
     0,
+    // VertStride 10, Width 2
     0,
     0,
     0,
@@ -2658,6 +2741,7 @@ pub(crate) const ENTRIES: [u8; 4096] = [
     0,
     0,
     0,
+    // VertStride 10, Width 3
     0,
     0,
     0,
@@ -2690,6 +2774,7 @@ pub(crate) const ENTRIES: [u8; 4096] = [
     0,
     0,
     0,
+    // VertStride 10, Width 4
     0,
     0,
     0,
@@ -2722,6 +2807,7 @@ pub(crate) const ENTRIES: [u8; 4096] = [
     0,
     0,
     0,
+    // VertStride 10, Width 5
     0,
     0,
     0,
@@ -2754,6 +2840,7 @@ pub(crate) const ENTRIES: [u8; 4096] = [
     0,
     0,
     0,
+    // VertStride 10, Width 6
     0,
     0,
     0,
@@ -2786,6 +2873,7 @@ pub(crate) const ENTRIES: [u8; 4096] = [
     0,
     0,
     0,
+    // VertStride 10, Width 7
     0,
     0,
     0,
@@ -2818,6 +2906,7 @@ pub(crate) const ENTRIES: [u8; 4096] = [
     0,
     0,
     0,
+    // VertStride 11, Width 0
     0,
     0,
     0,
@@ -2850,6 +2939,7 @@ pub(crate) const ENTRIES: [u8; 4096] = [
     0,
     0,
     0,
+    // VertStride 11, Width 1
     0,
     0,
     0,
@@ -2882,6 +2972,7 @@ pub(crate) const ENTRIES: [u8; 4096] = [
     0,
     0,
     0,
+    // VertStride 11, Width 2
     0,
     0,
     0,
@@ -2914,6 +3005,7 @@ pub(crate) const ENTRIES: [u8; 4096] = [
     0,
     0,
     0,
+    // VertStride 11, Width 3
     0,
     0,
     0,
@@ -2946,6 +3038,7 @@ pub(crate) const ENTRIES: [u8; 4096] = [
     0,
     0,
     0,
+    // VertStride 11, Width 4
     0,
     0,
     0,
@@ -2978,6 +3071,7 @@ pub(crate) const ENTRIES: [u8; 4096] = [
     0,
     0,
     0,
+    // VertStride 11, Width 5
     0,
     0,
     0,
@@ -3010,6 +3104,7 @@ pub(crate) const ENTRIES: [u8; 4096] = [
     0,
     0,
     0,
+    // VertStride 11, Width 6
     0,
     0,
     0,
@@ -3042,6 +3137,7 @@ pub(crate) const ENTRIES: [u8; 4096] = [
     0,
     0,
     0,
+    // VertStride 11, Width 7
     0,
     0,
     0,
@@ -3074,6 +3170,7 @@ pub(crate) const ENTRIES: [u8; 4096] = [
     0,
     0,
     0,
+    // VertStride 12, Width 0
     0,
     0,
     0,
@@ -3106,6 +3203,7 @@ pub(crate) const ENTRIES: [u8; 4096] = [
     0,
     0,
     0,
+    // VertStride 12, Width 1
     0,
     0,
     0,
@@ -3138,6 +3236,7 @@ pub(crate) const ENTRIES: [u8; 4096] = [
     0,
     0,
     0,
+    // VertStride 12, Width 2
     0,
     0,
     0,
@@ -3170,6 +3269,7 @@ pub(crate) const ENTRIES: [u8; 4096] = [
     0,
     0,
     0,
+    // VertStride 12, Width 3
     0,
     0,
     0,
@@ -3202,6 +3302,7 @@ pub(crate) const ENTRIES: [u8; 4096] = [
     0,
     0,
     0,
+    // VertStride 12, Width 4
     0,
     0,
     0,
@@ -3234,6 +3335,7 @@ pub(crate) const ENTRIES: [u8; 4096] = [
     0,
     0,
     0,
+    // VertStride 12, Width 5
     0,
     0,
     0,
@@ -3266,6 +3368,7 @@ pub(crate) const ENTRIES: [u8; 4096] = [
     0,
     0,
     0,
+    // VertStride 12, Width 6
     0,
     0,
     0,
@@ -3298,6 +3401,7 @@ pub(crate) const ENTRIES: [u8; 4096] = [
     0,
     0,
     0,
+    // VertStride 12, Width 7
     0,
     0,
     0,
@@ -3330,6 +3434,7 @@ pub(crate) const ENTRIES: [u8; 4096] = [
     0,
     0,
     0,
+    // VertStride 13, Width 0
     0,
     0,
     0,
@@ -3362,6 +3467,7 @@ pub(crate) const ENTRIES: [u8; 4096] = [
     0,
     0,
     0,
+    // VertStride 13, Width 1
     0,
     0,
     0,
@@ -3394,6 +3500,7 @@ pub(crate) const ENTRIES: [u8; 4096] = [
     0,
     0,
     0,
+    // VertStride 13, Width 2
     0,
     0,
     0,
@@ -3426,6 +3533,7 @@ pub(crate) const ENTRIES: [u8; 4096] = [
     0,
     0,
     0,
+    // VertStride 13, Width 3
     0,
     0,
     0,
@@ -3458,6 +3566,7 @@ pub(crate) const ENTRIES: [u8; 4096] = [
     0,
     0,
     0,
+    // VertStride 13, Width 4
     0,
     0,
     0,
@@ -3490,6 +3599,7 @@ pub(crate) const ENTRIES: [u8; 4096] = [
     0,
     0,
     0,
+    // VertStride 13, Width 5
     0,
     0,
     0,
@@ -3522,6 +3632,7 @@ pub(crate) const ENTRIES: [u8; 4096] = [
     0,
     0,
     0,
+    // VertStride 13, Width 6
     0,
     0,
     0,
@@ -3554,6 +3665,7 @@ pub(crate) const ENTRIES: [u8; 4096] = [
     0,
     0,
     0,
+    // VertStride 13, Width 7
     0,
     0,
     0,
@@ -3586,6 +3698,7 @@ pub(crate) const ENTRIES: [u8; 4096] = [
     0,
     0,
     0,
+    // VertStride 14, Width 0
     0,
     0,
     0,
@@ -3618,6 +3731,7 @@ pub(crate) const ENTRIES: [u8; 4096] = [
     0,
     0,
     0,
+    // VertStride 14, Width 1
     0,
     0,
     0,
@@ -3650,6 +3764,7 @@ pub(crate) const ENTRIES: [u8; 4096] = [
     0,
     0,
     0,
+    // VertStride 14, Width 2
     0,
     0,
     0,
@@ -3682,6 +3797,7 @@ pub(crate) const ENTRIES: [u8; 4096] = [
     0,
     0,
     0,
+    // VertStride 14, Width 3
     0,
     0,
     0,
@@ -3714,6 +3830,7 @@ pub(crate) const ENTRIES: [u8; 4096] = [
     0,
     0,
     0,
+    // VertStride 14, Width 4
     0,
     0,
     0,
@@ -3746,6 +3863,7 @@ pub(crate) const ENTRIES: [u8; 4096] = [
     0,
     0,
     0,
+    // VertStride 14, Width 5
     0,
     0,
     0,
@@ -3778,6 +3896,7 @@ pub(crate) const ENTRIES: [u8; 4096] = [
     0,
     0,
     0,
+    // VertStride 14, Width 6
     0,
     0,
     0,
@@ -3810,6 +3929,7 @@ pub(crate) const ENTRIES: [u8; 4096] = [
     0,
     0,
     0,
+    // VertStride 14, Width 7
     0,
     0,
     0,
@@ -3842,6 +3962,7 @@ pub(crate) const ENTRIES: [u8; 4096] = [
     0,
     0,
     0,
+    // VertStride 15, Width 0
     0,
     0,
     0,
@@ -3874,6 +3995,7 @@ pub(crate) const ENTRIES: [u8; 4096] = [
     0,
     0,
     0,
+    // VertStride 15, Width 1
     0,
     0,
     0,
@@ -3906,6 +4028,7 @@ pub(crate) const ENTRIES: [u8; 4096] = [
     0,
     0,
     0,
+    // VertStride 15, Width 2
     0,
     0,
     0,
@@ -3938,6 +4061,7 @@ pub(crate) const ENTRIES: [u8; 4096] = [
     0,
     0,
     0,
+    // VertStride 15, Width 3
     0,
     0,
     0,
@@ -3970,6 +4094,7 @@ pub(crate) const ENTRIES: [u8; 4096] = [
     0,
     0,
     0,
+    // VertStride 15, Width 4
     0,
     0,
     0,
@@ -4002,6 +4127,7 @@ pub(crate) const ENTRIES: [u8; 4096] = [
     0,
     0,
     0,
+    // VertStride 15, Width 5
     0,
     0,
     0,
@@ -4034,6 +4160,7 @@ pub(crate) const ENTRIES: [u8; 4096] = [
     0,
     0,
     0,
+    // VertStride 15, Width 6
     0,
     0,
     0,
@@ -4066,6 +4193,7 @@ pub(crate) const ENTRIES: [u8; 4096] = [
     0,
     0,
     0,
+    // VertStride 15, Width 7
     0,
     0,
     0,
