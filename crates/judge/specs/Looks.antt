@@ -1,19 +1,19 @@
 -- 9 by the table: where 7 has passed, one look at a source's bits tells 9 of it. Assumes nothing.
-use mathlib.Core.Bool.{Bool, true, false, not, _&&_, _||_, false≢true}
+use mathlib.Core.Bool.{Bool, true, false, not, _&&_, _||_, false≢true, Bool·not-not}
 use mathlib.Core.Path.{_≡_, refl, sym, ap, ap₂, _∙_}
-use Prim.Native.Nat.{ℕ, _+_, _≤_, _<_}
+use Prim.Native.Nat.{ℕ, _+_, _<_}
 use native.Mathlib.Omega.{arith}
 use lib.Dec.{eqb, leb}
 use borrow.Author.Tests.{leb-true}
-use Rattle.paper.specs.Bits.{bits, bit}
-use Rattle.paper.specs.Word.{accessMode, accWrCtrl, execSize, predCtrl, condModifier, saturate}
+use Rattle.paper.specs.Bits.{bits}
+use Rattle.paper.specs.Word.{accessMode, accWrCtrl, execSize}
 use Rattle.paper.specs.Word.{Source, src0, src1, shiftOf, dstStride, srcFile, srcType, srcAddrMode, srcField, grf, isNull, isImmediate}
 use Rattle.paper.specs.Operation.{Plain, traits}
-use Rattle.paper.specs.Legal.{quarterServed, conditionServed, controlServed, dstServed, srcServed, plainServed, shapeRefused, srcShapeBroken, shapeBroken}
+use Rattle.paper.specs.Legal.{controlServed, dstServed, srcServed, plainServed, shapeRefused, srcShapeBroken, shapeBroken}
 use Rattle.laws.specs.Bits.{bits-inner}
 use Rattle.laws.specs.Truth.{both-true}
 use Rattle.words.specs.Traits.{readsTwo}
-use Rattle.table.specs.Entries.{entryOf, passesAt, entry-bit}
+use Rattle.table.specs.Entries.{entry-bit}
 use Rattle.judge.specs.Sources.{anySource}
 use Rattle.judge.specs.Rules.{plain-served, operandTest, shape-rule, lookRefuses}
 
@@ -23,11 +23,9 @@ use Rattle.judge.specs.Rules.{plain-served, operandTest, shape-rule, loo
 control-size : (compares saturates : Bool) (w : ℕ) → controlServed compares saturates w ≡ true → execSize w < 5
 unfolding controlServed
 control-size compares saturates w e =
-    let r = quarterServed w && (leb (predCtrl w) 1 && (conditionServed compares (condModifier w) && (eqb (saturate w) 0 || saturates))) in
-    let a = both-true (eqb (accessMode w) 0) (eqb (accWrCtrl w) 0 && (leb (execSize w) 4 && r)) e .1 in
-    let b = both-true (eqb (accWrCtrl w) 0) (leb (execSize w) 4 && r) a .1 in
-    let h : execSize w ≤ 4 = leb-true (execSize w) 4 (both-true (leb (execSize w) 4) r b .0) in
-    omega arith
+    let a = both-true (eqb (accessMode w) 0) _ e in
+    let b = both-true (eqb (accWrCtrl w) 0) _ (a .1) in
+    omega (arith, leb-true (execSize w) 4 (both-true (leb (execSize w) 4) _ (b .1) .0))
 
 -- A source that is no immediate is addressed directly.
 served-direct : (x : Source) (w : ℕ) → isImmediate x w ≡ false → srcServed w x ≡ true → eqb (srcAddrMode x w) 0 ≡ true
@@ -44,17 +42,13 @@ field-mode x w =
     let e : 77 + shiftOf x + 2 ≡ 79 + shiftOf x = omega arith in
     bits-inner w (77 + shiftOf x) 2 1 9 ∙ ap (λ (k : ℕ). bits w k 1) e
 
-not-not : (b : Bool) → not (not b) ≡ b
-not-not true = refl
-not-not false = refl
-
 -- The look at bits that are addressed directly is 9.
 look-direct : (x : Source) (w : ℕ) → execSize w < 5 → eqb (srcAddrMode x w) 0 ≡ true → lookRefuses x w ≡ srcShapeBroken w x
 look-direct x w h d =
     ap not
     (entry-bit (srcField x w) (execSize w) h
     ∙ ap (λ (b : Bool). b && not (shapeRefused (execSize w) (srcField x w))) (ap (λ (n : ℕ). eqb n 0) (field-mode x w) ∙ d))
-    ∙ not-not (shapeRefused (execSize w) (srcField x w))
+    ∙ Bool·not-not (shapeRefused (execSize w) (srcField x w))
 
 -- Of a served source the look tells what 9 asks: an immediate is passed over by both.
 look-served : (x : Source) (w : ℕ) → execSize w < 5 → srcServed w x ≡ true
@@ -73,7 +67,7 @@ first-passes true b e = (refl, e)
 first-passes false b e = absurd (false≢true e)
 
 second-passes : (a : Bool) → not (true && not a) ≡ true → a ≡ true
-second-passes a e = sym (not-not a) ∙ e
+second-passes a e = sym (Bool·not-not a) ∙ e
 
 pub look-rule : (p : Plain) (w : ℕ) → plainServed p w ≡ true
     → shapeBroken p w ≡ operandTest p w (eqb (dstStride w) 0) (lookRefuses src0 w) (lookRefuses src1 w)

@@ -1,14 +1,14 @@
 -- The rules over an operation's sources, by the first and the second source. Assumes nothing.
 use mathlib.Core.Bool.{Bool, true, false, not, cond, _&&_, _||_}
-use mathlib.Core.Path.{_≡_, refl, sym, ap, ap₂, _∙_}
-use Prim.Native.Nat.{ℕ, _+_, _-_, _*_, _/_, _%_}
-use lib.Dec.{eqb, ltb, leb}
+use mathlib.Core.Path.{_≡_, ap, ap₂}
+use Prim.Native.Nat.{ℕ}
+use lib.Dec.{eqb}
 use Rattle.paper.specs.Bits.{bit}
 use Rattle.paper.specs.Word.{Source, src0, src1, execSize, dstSubregister, dstStride, srcField, srcSubregister, isNull, isImmediate}
-use Rattle.paper.specs.Operation.{Plain, Branch, Operation, plain, nop, branch, unlisted, operation, traits, sources}
+use Rattle.paper.specs.Operation.{Plain, Branch, Operation, plain, branch, operation, traits}
 use Rattle.paper.specs.Region.{srcRegion, dstSize, dstOrigin, dstElement}
-use Rattle.paper.specs.Legal.{anyOf, controlServed, dstServed, srcServed, plainServed}
-use Rattle.paper.specs.Legal.{misplaced, unequalHalves, badModifier, ownRuleBroken, operandRuleBroken}
+use Rattle.paper.specs.Legal.{controlServed, dstServed, srcServed, plainServed}
+use Rattle.paper.specs.Legal.{unequalHalves, badModifier, ownRuleBroken, operandRuleBroken}
 use Rattle.paper.specs.Legal.{someOperand, srcShapeBroken, shapeBroken, unaligned, alignmentBroken, tooFar, regionTooFar, lastChannel, reachBroken}
 use Rattle.paper.specs.Legal.{reservedSet, branchServed, later, refusalOf}
 use Rattle.laws.specs.Regions.{dstRegion, destination-element}

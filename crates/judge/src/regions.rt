@@ -55,6 +55,7 @@ fn look_refuses(regions: &[u8; FIELDS], x: Source, w: Word) -> bool
     negated(field_passes(regions, src_field(x, w), exec_size(w)))
 }
 
+// 9, where 7 has passed: the destination's stride is 0, or a source's region is refused.
 pub(crate) fn shape_broken(regions: &[u8; FIELDS], p: Plain, w: Word) -> bool
     requires { ⌜ (now regions ≡ regionTable) × (plainServed (plainIs p) (toWord w) ≡ true) ⌝ }
     ensures { λ r. ⌜ r ≡ shapeBroken (plainIs p) (toWord w) ⌝ }

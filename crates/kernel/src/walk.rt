@@ -17,6 +17,7 @@ ghost use Rattle.kernel.specs.Marks.{Says};
 
 // The kernel's instructions, judged one after the other: 0 and how many there are, or the refusal of the first that is refused. In the marks that are
 // lent it sets a mark, 1, for each place at which one starts and for the end, and none elsewhere. The marks that a refused kernel leaves are working storage.
+// The table of what source fields allow is lent, for the judge to look in.
 pub(crate) fn walk(
     regions: &[u8; FIELDS],
     long: bool,
