@@ -2,7 +2,7 @@
 
 // Bit k is 1 exactly when the field is addressed directly and its region passes 9 at ExecSize 2 to the power k, k from 0 to 4; other bits are 0.
 pub(crate) const ENTRIES: [u8; 4096] = [
-    // VertStride 0, Width 0
+    // VertStride code 0, Width code 0
     31,
     31,
     31,
@@ -35,7 +35,7 @@ pub(crate) const ENTRIES: [u8; 4096] = [
     0,
     0,
     0,
-    // VertStride 0, Width 1
+    // VertStride code 0, Width code 1
     0,
     0,
     0,
@@ -68,7 +68,7 @@ pub(crate) const ENTRIES: [u8; 4096] = [
     0,
     0,
     0,
-    // VertStride 0, Width 2
+    // VertStride code 0, Width code 2
     0,
     0,
     0,
@@ -101,7 +101,7 @@ pub(crate) const ENTRIES: [u8; 4096] = [
     0,
     0,
     0,
-    // VertStride 0, Width 3
+    // VertStride code 0, Width code 3
     0,
     0,
     0,
@@ -134,7 +134,7 @@ pub(crate) const ENTRIES: [u8; 4096] = [
     0,
     0,
     0,
-    // VertStride 0, Width 4
+    // VertStride code 0, Width code 4
     0,
     0,
     0,
@@ -167,7 +167,7 @@ pub(crate) const ENTRIES: [u8; 4096] = [
     0,
     0,
     0,
-    // VertStride 0, Width 5
+    // VertStride code 0, Width code 5
     0,
     0,
     0,
@@ -200,7 +200,7 @@ pub(crate) const ENTRIES: [u8; 4096] = [
     0,
     0,
     0,
-    // VertStride 0, Width 6
+    // VertStride code 0, Width code 6
     0,
     0,
     0,
@@ -233,7 +233,7 @@ pub(crate) const ENTRIES: [u8; 4096] = [
     0,
     0,
     0,
-    // VertStride 0, Width 7
+    // VertStride code 0, Width code 7
     0,
     0,
     0,
@@ -266,7 +266,7 @@ pub(crate) const ENTRIES: [u8; 4096] = [
     0,
     0,
     0,
-    // VertStride 1, Width 0
+    // VertStride code 1, Width code 0
     30,
     30,
     30,
@@ -299,7 +299,7 @@ pub(crate) const ENTRIES: [u8; 4096] = [
     0,
     0,
     0,
-    // VertStride 1, Width 1
+    // VertStride code 1, Width code 1
     30,
     30,
     30,
@@ -332,7 +332,7 @@ pub(crate) const ENTRIES: [u8; 4096] = [
     0,
     0,
     0,
-    // VertStride 1, Width 2
+    // VertStride code 1, Width code 2
     28,
     28,
     28,
@@ -365,7 +365,7 @@ pub(crate) const ENTRIES: [u8; 4096] = [
     0,
     0,
     0,
-    // VertStride 1, Width 3
+    // VertStride code 1, Width code 3
     24,
     24,
     24,
@@ -398,7 +398,7 @@ pub(crate) const ENTRIES: [u8; 4096] = [
     0,
     0,
     0,
-    // VertStride 1, Width 4
+    // VertStride code 1, Width code 4
     16,
     16,
     16,
@@ -431,7 +431,7 @@ pub(crate) const ENTRIES: [u8; 4096] = [
     0,
     0,
     0,
-    // VertStride 1, Width 5
+    // VertStride code 1, Width code 5
     0,
     0,
     0,
@@ -464,7 +464,7 @@ pub(crate) const ENTRIES: [u8; 4096] = [
     0,
     0,
     0,
-    // VertStride 1, Width 6
+    // VertStride code 1, Width code 6
     0,
     0,
     0,
@@ -497,7 +497,7 @@ pub(crate) const ENTRIES: [u8; 4096] = [
     0,
     0,
     0,
-    // VertStride 1, Width 7
+    // VertStride code 1, Width code 7
     0,
     0,
     0,
@@ -530,7 +530,7 @@ pub(crate) const ENTRIES: [u8; 4096] = [
     0,
     0,
     0,
-    // VertStride 2, Width 0
+    // VertStride code 2, Width code 0
     30,
     30,
     30,
@@ -563,7 +563,7 @@ pub(crate) const ENTRIES: [u8; 4096] = [
     0,
     0,
     0,
-    // VertStride 2, Width 1
+    // VertStride code 2, Width code 1
     30,
     30,
     30,
@@ -596,7 +596,7 @@ pub(crate) const ENTRIES: [u8; 4096] = [
     0,
     0,
     0,
-    // VertStride 2, Width 2
+    // VertStride code 2, Width code 2
     28,
     28,
     28,
@@ -629,7 +629,7 @@ pub(crate) const ENTRIES: [u8; 4096] = [
     0,
     0,
     0,
-    // VertStride 2, Width 3
+    // VertStride code 2, Width code 3
     24,
     24,
     24,
@@ -662,7 +662,7 @@ pub(crate) const ENTRIES: [u8; 4096] = [
     0,
     0,
     0,
-    // VertStride 2, Width 4
+    // VertStride code 2, Width code 4
     16,
     16,
     16,
@@ -695,7 +695,7 @@ pub(crate) const ENTRIES: [u8; 4096] = [
     0,
     0,
     0,
-    // VertStride 2, Width 5
+    // VertStride code 2, Width code 5
     0,
     0,
     0,
@@ -728,7 +728,7 @@ pub(crate) const ENTRIES: [u8; 4096] = [
     0,
     0,
     0,
-    // VertStride 2, Width 6
+    // VertStride code 2, Width code 6
     0,
     0,
     0,
@@ -761,7 +761,7 @@ pub(crate) const ENTRIES: [u8; 4096] = [
     0,
     0,
     0,
-    // VertStride 2, Width 7
+    // VertStride code 2, Width code 7
     0,
     0,
     0,
@@ -794,7 +794,7 @@ pub(crate) const ENTRIES: [u8; 4096] = [
     0,
     0,
     0,
-    // VertStride 3, Width 0
+    // VertStride code 3, Width code 0
     30,
     30,
     30,
@@ -827,7 +827,7 @@ pub(crate) const ENTRIES: [u8; 4096] = [
     0,
     0,
     0,
-    // VertStride 3, Width 1
+    // VertStride code 3, Width code 1
     30,
     30,
     30,
@@ -860,7 +860,7 @@ pub(crate) const ENTRIES: [u8; 4096] = [
     0,
     0,
     0,
-    // VertStride 3, Width 2
+    // VertStride code 3, Width code 2
     28,
     28,
     28,
@@ -893,7 +893,7 @@ pub(crate) const ENTRIES: [u8; 4096] = [
     0,
     0,
     0,
-    // VertStride 3, Width 3
+    // VertStride code 3, Width code 3
     24,
     24,
     24,
@@ -926,7 +926,7 @@ pub(crate) const ENTRIES: [u8; 4096] = [
     0,
     0,
     0,
-    // VertStride 3, Width 4
+    // VertStride code 3, Width code 4
     16,
     16,
     16,
@@ -959,7 +959,7 @@ pub(crate) const ENTRIES: [u8; 4096] = [
     0,
     0,
     0,
-    // VertStride 3, Width 5
+    // VertStride code 3, Width code 5
     0,
     0,
     0,
@@ -992,7 +992,7 @@ pub(crate) const ENTRIES: [u8; 4096] = [
     0,
     0,
     0,
-    // VertStride 3, Width 6
+    // VertStride code 3, Width code 6
     0,
     0,
     0,
@@ -1025,7 +1025,7 @@ pub(crate) const ENTRIES: [u8; 4096] = [
     0,
     0,
     0,
-    // VertStride 3, Width 7
+    // VertStride code 3, Width code 7
     0,
     0,
     0,
@@ -1058,7 +1058,7 @@ pub(crate) const ENTRIES: [u8; 4096] = [
     0,
     0,
     0,
-    // VertStride 4, Width 0
+    // VertStride code 4, Width code 0
     30,
     30,
     30,
@@ -1091,7 +1091,7 @@ pub(crate) const ENTRIES: [u8; 4096] = [
     0,
     0,
     0,
-    // VertStride 4, Width 1
+    // VertStride code 4, Width code 1
     30,
     30,
     30,
@@ -1124,7 +1124,7 @@ pub(crate) const ENTRIES: [u8; 4096] = [
     0,
     0,
     0,
-    // VertStride 4, Width 2
+    // VertStride code 4, Width code 2
     28,
     28,
     28,
@@ -1157,7 +1157,7 @@ pub(crate) const ENTRIES: [u8; 4096] = [
     0,
     0,
     0,
-    // VertStride 4, Width 3
+    // VertStride code 4, Width code 3
     24,
     24,
     24,
@@ -1190,7 +1190,7 @@ pub(crate) const ENTRIES: [u8; 4096] = [
     0,
     0,
     0,
-    // VertStride 4, Width 4
+    // VertStride code 4, Width code 4
     16,
     16,
     16,
@@ -1223,7 +1223,7 @@ pub(crate) const ENTRIES: [u8; 4096] = [
     0,
     0,
     0,
-    // VertStride 4, Width 5
+    // VertStride code 4, Width code 5
     0,
     0,
     0,
@@ -1256,7 +1256,7 @@ pub(crate) const ENTRIES: [u8; 4096] = [
     0,
     0,
     0,
-    // VertStride 4, Width 6
+    // VertStride code 4, Width code 6
     0,
     0,
     0,
@@ -1289,7 +1289,7 @@ pub(crate) const ENTRIES: [u8; 4096] = [
     0,
     0,
     0,
-    // VertStride 4, Width 7
+    // VertStride code 4, Width code 7
     0,
     0,
     0,
@@ -1322,7 +1322,7 @@ pub(crate) const ENTRIES: [u8; 4096] = [
     0,
     0,
     0,
-    // VertStride 5, Width 0
+    // VertStride code 5, Width code 0
     30,
     30,
     30,
@@ -1355,7 +1355,7 @@ pub(crate) const ENTRIES: [u8; 4096] = [
     0,
     0,
     0,
-    // VertStride 5, Width 1
+    // VertStride code 5, Width code 1
     30,
     30,
     30,
@@ -1388,7 +1388,7 @@ pub(crate) const ENTRIES: [u8; 4096] = [
     0,
     0,
     0,
-    // VertStride 5, Width 2
+    // VertStride code 5, Width code 2
     28,
     28,
     28,
@@ -1421,7 +1421,7 @@ pub(crate) const ENTRIES: [u8; 4096] = [
     0,
     0,
     0,
-    // VertStride 5, Width 3
+    // VertStride code 5, Width code 3
     24,
     24,
     24,
@@ -1454,7 +1454,7 @@ pub(crate) const ENTRIES: [u8; 4096] = [
     0,
     0,
     0,
-    // VertStride 5, Width 4
+    // VertStride code 5, Width code 4
     16,
     16,
     16,
@@ -1487,7 +1487,7 @@ pub(crate) const ENTRIES: [u8; 4096] = [
     0,
     0,
     0,
-    // VertStride 5, Width 5
+    // VertStride code 5, Width code 5
     0,
     0,
     0,
@@ -1520,7 +1520,7 @@ pub(crate) const ENTRIES: [u8; 4096] = [
     0,
     0,
     0,
-    // VertStride 5, Width 6
+    // VertStride code 5, Width code 6
     0,
     0,
     0,
@@ -1553,7 +1553,7 @@ pub(crate) const ENTRIES: [u8; 4096] = [
     0,
     0,
     0,
-    // VertStride 5, Width 7
+    // VertStride code 5, Width code 7
     0,
     0,
     0,
@@ -1586,7 +1586,7 @@ pub(crate) const ENTRIES: [u8; 4096] = [
     0,
     0,
     0,
-    // VertStride 6, Width 0
+    // VertStride code 6, Width code 0
     30,
     30,
     30,
@@ -1619,7 +1619,7 @@ pub(crate) const ENTRIES: [u8; 4096] = [
     0,
     0,
     0,
-    // VertStride 6, Width 1
+    // VertStride code 6, Width code 1
     30,
     30,
     30,
@@ -1652,7 +1652,7 @@ pub(crate) const ENTRIES: [u8; 4096] = [
     0,
     0,
     0,
-    // VertStride 6, Width 2
+    // VertStride code 6, Width code 2
     28,
     28,
     28,
@@ -1685,7 +1685,7 @@ pub(crate) const ENTRIES: [u8; 4096] = [
     0,
     0,
     0,
-    // VertStride 6, Width 3
+    // VertStride code 6, Width code 3
     24,
     24,
     24,
@@ -1718,7 +1718,7 @@ pub(crate) const ENTRIES: [u8; 4096] = [
     0,
     0,
     0,
-    // VertStride 6, Width 4
+    // VertStride code 6, Width code 4
     16,
     16,
     16,
@@ -1751,7 +1751,7 @@ pub(crate) const ENTRIES: [u8; 4096] = [
     0,
     0,
     0,
-    // VertStride 6, Width 5
+    // VertStride code 6, Width code 5
     0,
     0,
     0,
@@ -1784,7 +1784,7 @@ pub(crate) const ENTRIES: [u8; 4096] = [
     0,
     0,
     0,
-    // VertStride 6, Width 6
+    // VertStride code 6, Width code 6
     0,
     0,
     0,
@@ -1817,7 +1817,7 @@ pub(crate) const ENTRIES: [u8; 4096] = [
     0,
     0,
     0,
-    // VertStride 6, Width 7
+    // VertStride code 6, Width code 7
     0,
     0,
     0,
@@ -1850,7 +1850,7 @@ pub(crate) const ENTRIES: [u8; 4096] = [
     0,
     0,
     0,
-    // VertStride 7, Width 0
+    // VertStride code 7, Width code 0
     0,
     0,
     0,
@@ -1883,7 +1883,7 @@ pub(crate) const ENTRIES: [u8; 4096] = [
     0,
     0,
     0,
-    // VertStride 7, Width 1
+    // VertStride code 7, Width code 1
     0,
     0,
     0,
@@ -1916,7 +1916,7 @@ pub(crate) const ENTRIES: [u8; 4096] = [
     0,
     0,
     0,
-    // VertStride 7, Width 2
+    // VertStride code 7, Width code 2
     0,
     0,
     0,
@@ -1949,7 +1949,7 @@ pub(crate) const ENTRIES: [u8; 4096] = [
     0,
     0,
     0,
-    // VertStride 7, Width 3
+    // VertStride code 7, Width code 3
     0,
     0,
     0,
@@ -1982,7 +1982,7 @@ pub(crate) const ENTRIES: [u8; 4096] = [
     0,
     0,
     0,
-    // VertStride 7, Width 4
+    // VertStride code 7, Width code 4
     0,
     0,
     0,
@@ -2015,7 +2015,7 @@ pub(crate) const ENTRIES: [u8; 4096] = [
     0,
     0,
     0,
-    // VertStride 7, Width 5
+    // VertStride code 7, Width code 5
     0,
     0,
     0,
@@ -2048,7 +2048,7 @@ pub(crate) const ENTRIES: [u8; 4096] = [
     0,
     0,
     0,
-    // VertStride 7, Width 6
+    // VertStride code 7, Width code 6
     0,
     0,
     0,
@@ -2081,7 +2081,7 @@ pub(crate) const ENTRIES: [u8; 4096] = [
     0,
     0,
     0,
-    // VertStride 7, Width 7
+    // VertStride code 7, Width code 7
     0,
     0,
     0,
@@ -2114,7 +2114,7 @@ pub(crate) const ENTRIES: [u8; 4096] = [
     0,
     0,
     0,
-    // VertStride 8, Width 0
+    // VertStride code 8, Width code 0
     0,
     0,
     0,
@@ -2147,7 +2147,7 @@ pub(crate) const ENTRIES: [u8; 4096] = [
     0,
     0,
     0,
-    // VertStride 8, Width 1
+    // VertStride code 8, Width code 1
     0,
     0,
     0,
@@ -2180,7 +2180,7 @@ pub(crate) const ENTRIES: [u8; 4096] = [
     0,
     0,
     0,
-    // VertStride 8, Width 2
+    // VertStride code 8, Width code 2
     0,
     0,
     0,
@@ -2213,7 +2213,7 @@ pub(crate) const ENTRIES: [u8; 4096] = [
     0,
     0,
     0,
-    // VertStride 8, Width 3
+    // VertStride code 8, Width code 3
     0,
     0,
     0,
@@ -2246,7 +2246,7 @@ pub(crate) const ENTRIES: [u8; 4096] = [
     0,
     0,
     0,
-    // VertStride 8, Width 4
+    // VertStride code 8, Width code 4
     0,
     0,
     0,
@@ -2279,7 +2279,7 @@ pub(crate) const ENTRIES: [u8; 4096] = [
     0,
     0,
     0,
-    // VertStride 8, Width 5
+    // VertStride code 8, Width code 5
     0,
     0,
     0,
@@ -2312,7 +2312,7 @@ pub(crate) const ENTRIES: [u8; 4096] = [
     0,
     0,
     0,
-    // VertStride 8, Width 6
+    // VertStride code 8, Width code 6
     0,
     0,
     0,
@@ -2345,7 +2345,7 @@ pub(crate) const ENTRIES: [u8; 4096] = [
     0,
     0,
     0,
-    // VertStride 8, Width 7
+    // VertStride code 8, Width code 7
     0,
     0,
     0,
@@ -2378,7 +2378,7 @@ pub(crate) const ENTRIES: [u8; 4096] = [
     0,
     0,
     0,
-    // VertStride 9, Width 0
+    // VertStride code 9, Width code 0
     0,
     0,
     0,
@@ -2411,7 +2411,7 @@ pub(crate) const ENTRIES: [u8; 4096] = [
     0,
     0,
     0,
-    // VertStride 9, Width 1
+    // VertStride code 9, Width code 1
     0,
     0,
     0,
@@ -2444,7 +2444,7 @@ pub(crate) const ENTRIES: [u8; 4096] = [
     0,
     0,
     0,
-    // VertStride 9, Width 2
+    // VertStride code 9, Width code 2
     0,
     0,
     0,
@@ -2477,7 +2477,7 @@ pub(crate) const ENTRIES: [u8; 4096] = [
     0,
     0,
     0,
-    // VertStride 9, Width 3
+    // VertStride code 9, Width code 3
     0,
     0,
     0,
@@ -2510,7 +2510,7 @@ pub(crate) const ENTRIES: [u8; 4096] = [
     0,
     0,
     0,
-    // VertStride 9, Width 4
+    // VertStride code 9, Width code 4
     0,
     0,
     0,
@@ -2543,7 +2543,7 @@ pub(crate) const ENTRIES: [u8; 4096] = [
     0,
     0,
     0,
-    // VertStride 9, Width 5
+    // VertStride code 9, Width code 5
     0,
     0,
     0,
@@ -2576,7 +2576,7 @@ pub(crate) const ENTRIES: [u8; 4096] = [
     0,
     0,
     0,
-    // VertStride 9, Width 6
+    // VertStride code 9, Width code 6
     0,
     0,
     0,
@@ -2609,7 +2609,7 @@ pub(crate) const ENTRIES: [u8; 4096] = [
     0,
     0,
     0,
-    // VertStride 9, Width 7
+    // VertStride code 9, Width code 7
     0,
     0,
     0,
@@ -2642,7 +2642,7 @@ pub(crate) const ENTRIES: [u8; 4096] = [
     0,
     0,
     0,
-    // VertStride 10, Width 0
+    // VertStride code 10, Width code 0
     0,
     0,
     0,
@@ -2675,7 +2675,7 @@ pub(crate) const ENTRIES: [u8; 4096] = [
     0,
     0,
     0,
-    // VertStride 10, Width 1
+    // VertStride code 10, Width code 1
     0,
     0,
     0,
@@ -2708,7 +2708,7 @@ pub(crate) const ENTRIES: [u8; 4096] = [
     0,
     0,
     0,
-    // VertStride 10, Width 2
+    // VertStride code 10, Width code 2
     0,
     0,
     0,
@@ -2741,7 +2741,7 @@ pub(crate) const ENTRIES: [u8; 4096] = [
     0,
     0,
     0,
-    // VertStride 10, Width 3
+    // VertStride code 10, Width code 3
     0,
     0,
     0,
@@ -2774,7 +2774,7 @@ pub(crate) const ENTRIES: [u8; 4096] = [
     0,
     0,
     0,
-    // VertStride 10, Width 4
+    // VertStride code 10, Width code 4
     0,
     0,
     0,
@@ -2807,7 +2807,7 @@ pub(crate) const ENTRIES: [u8; 4096] = [
     0,
     0,
     0,
-    // VertStride 10, Width 5
+    // VertStride code 10, Width code 5
     0,
     0,
     0,
@@ -2840,7 +2840,7 @@ pub(crate) const ENTRIES: [u8; 4096] = [
     0,
     0,
     0,
-    // VertStride 10, Width 6
+    // VertStride code 10, Width code 6
     0,
     0,
     0,
@@ -2873,7 +2873,7 @@ pub(crate) const ENTRIES: [u8; 4096] = [
     0,
     0,
     0,
-    // VertStride 10, Width 7
+    // VertStride code 10, Width code 7
     0,
     0,
     0,
@@ -2906,7 +2906,7 @@ pub(crate) const ENTRIES: [u8; 4096] = [
     0,
     0,
     0,
-    // VertStride 11, Width 0
+    // VertStride code 11, Width code 0
     0,
     0,
     0,
@@ -2939,7 +2939,7 @@ pub(crate) const ENTRIES: [u8; 4096] = [
     0,
     0,
     0,
-    // VertStride 11, Width 1
+    // VertStride code 11, Width code 1
     0,
     0,
     0,
@@ -2972,7 +2972,7 @@ pub(crate) const ENTRIES: [u8; 4096] = [
     0,
     0,
     0,
-    // VertStride 11, Width 2
+    // VertStride code 11, Width code 2
     0,
     0,
     0,
@@ -3005,7 +3005,7 @@ pub(crate) const ENTRIES: [u8; 4096] = [
     0,
     0,
     0,
-    // VertStride 11, Width 3
+    // VertStride code 11, Width code 3
     0,
     0,
     0,
@@ -3038,7 +3038,7 @@ pub(crate) const ENTRIES: [u8; 4096] = [
     0,
     0,
     0,
-    // VertStride 11, Width 4
+    // VertStride code 11, Width code 4
     0,
     0,
     0,
@@ -3071,7 +3071,7 @@ pub(crate) const ENTRIES: [u8; 4096] = [
     0,
     0,
     0,
-    // VertStride 11, Width 5
+    // VertStride code 11, Width code 5
     0,
     0,
     0,
@@ -3104,7 +3104,7 @@ pub(crate) const ENTRIES: [u8; 4096] = [
     0,
     0,
     0,
-    // VertStride 11, Width 6
+    // VertStride code 11, Width code 6
     0,
     0,
     0,
@@ -3137,7 +3137,7 @@ pub(crate) const ENTRIES: [u8; 4096] = [
     0,
     0,
     0,
-    // VertStride 11, Width 7
+    // VertStride code 11, Width code 7
     0,
     0,
     0,
@@ -3170,7 +3170,7 @@ pub(crate) const ENTRIES: [u8; 4096] = [
     0,
     0,
     0,
-    // VertStride 12, Width 0
+    // VertStride code 12, Width code 0
     0,
     0,
     0,
@@ -3203,7 +3203,7 @@ pub(crate) const ENTRIES: [u8; 4096] = [
     0,
     0,
     0,
-    // VertStride 12, Width 1
+    // VertStride code 12, Width code 1
     0,
     0,
     0,
@@ -3236,7 +3236,7 @@ pub(crate) const ENTRIES: [u8; 4096] = [
     0,
     0,
     0,
-    // VertStride 12, Width 2
+    // VertStride code 12, Width code 2
     0,
     0,
     0,
@@ -3269,7 +3269,7 @@ pub(crate) const ENTRIES: [u8; 4096] = [
     0,
     0,
     0,
-    // VertStride 12, Width 3
+    // VertStride code 12, Width code 3
     0,
     0,
     0,
@@ -3302,7 +3302,7 @@ pub(crate) const ENTRIES: [u8; 4096] = [
     0,
     0,
     0,
-    // VertStride 12, Width 4
+    // VertStride code 12, Width code 4
     0,
     0,
     0,
@@ -3335,7 +3335,7 @@ pub(crate) const ENTRIES: [u8; 4096] = [
     0,
     0,
     0,
-    // VertStride 12, Width 5
+    // VertStride code 12, Width code 5
     0,
     0,
     0,
@@ -3368,7 +3368,7 @@ pub(crate) const ENTRIES: [u8; 4096] = [
     0,
     0,
     0,
-    // VertStride 12, Width 6
+    // VertStride code 12, Width code 6
     0,
     0,
     0,
@@ -3401,7 +3401,7 @@ pub(crate) const ENTRIES: [u8; 4096] = [
     0,
     0,
     0,
-    // VertStride 12, Width 7
+    // VertStride code 12, Width code 7
     0,
     0,
     0,
@@ -3434,7 +3434,7 @@ pub(crate) const ENTRIES: [u8; 4096] = [
     0,
     0,
     0,
-    // VertStride 13, Width 0
+    // VertStride code 13, Width code 0
     0,
     0,
     0,
@@ -3467,7 +3467,7 @@ pub(crate) const ENTRIES: [u8; 4096] = [
     0,
     0,
     0,
-    // VertStride 13, Width 1
+    // VertStride code 13, Width code 1
     0,
     0,
     0,
@@ -3500,7 +3500,7 @@ pub(crate) const ENTRIES: [u8; 4096] = [
     0,
     0,
     0,
-    // VertStride 13, Width 2
+    // VertStride code 13, Width code 2
     0,
     0,
     0,
@@ -3533,7 +3533,7 @@ pub(crate) const ENTRIES: [u8; 4096] = [
     0,
     0,
     0,
-    // VertStride 13, Width 3
+    // VertStride code 13, Width code 3
     0,
     0,
     0,
@@ -3566,7 +3566,7 @@ pub(crate) const ENTRIES: [u8; 4096] = [
     0,
     0,
     0,
-    // VertStride 13, Width 4
+    // VertStride code 13, Width code 4
     0,
     0,
     0,
@@ -3599,7 +3599,7 @@ pub(crate) const ENTRIES: [u8; 4096] = [
     0,
     0,
     0,
-    // VertStride 13, Width 5
+    // VertStride code 13, Width code 5
     0,
     0,
     0,
@@ -3632,7 +3632,7 @@ pub(crate) const ENTRIES: [u8; 4096] = [
     0,
     0,
     0,
-    // VertStride 13, Width 6
+    // VertStride code 13, Width code 6
     0,
     0,
     0,
@@ -3665,7 +3665,7 @@ pub(crate) const ENTRIES: [u8; 4096] = [
     0,
     0,
     0,
-    // VertStride 13, Width 7
+    // VertStride code 13, Width code 7
     0,
     0,
     0,
@@ -3698,7 +3698,7 @@ pub(crate) const ENTRIES: [u8; 4096] = [
     0,
     0,
     0,
-    // VertStride 14, Width 0
+    // VertStride code 14, Width code 0
     0,
     0,
     0,
@@ -3731,7 +3731,7 @@ pub(crate) const ENTRIES: [u8; 4096] = [
     0,
     0,
     0,
-    // VertStride 14, Width 1
+    // VertStride code 14, Width code 1
     0,
     0,
     0,
@@ -3764,7 +3764,7 @@ pub(crate) const ENTRIES: [u8; 4096] = [
     0,
     0,
     0,
-    // VertStride 14, Width 2
+    // VertStride code 14, Width code 2
     0,
     0,
     0,
@@ -3797,7 +3797,7 @@ pub(crate) const ENTRIES: [u8; 4096] = [
     0,
     0,
     0,
-    // VertStride 14, Width 3
+    // VertStride code 14, Width code 3
     0,
     0,
     0,
@@ -3830,7 +3830,7 @@ pub(crate) const ENTRIES: [u8; 4096] = [
     0,
     0,
     0,
-    // VertStride 14, Width 4
+    // VertStride code 14, Width code 4
     0,
     0,
     0,
@@ -3863,7 +3863,7 @@ pub(crate) const ENTRIES: [u8; 4096] = [
     0,
     0,
     0,
-    // VertStride 14, Width 5
+    // VertStride code 14, Width code 5
     0,
     0,
     0,
@@ -3896,7 +3896,7 @@ pub(crate) const ENTRIES: [u8; 4096] = [
     0,
     0,
     0,
-    // VertStride 14, Width 6
+    // VertStride code 14, Width code 6
     0,
     0,
     0,
@@ -3929,7 +3929,7 @@ pub(crate) const ENTRIES: [u8; 4096] = [
     0,
     0,
     0,
-    // VertStride 14, Width 7
+    // VertStride code 14, Width code 7
     0,
     0,
     0,
@@ -3962,7 +3962,7 @@ pub(crate) const ENTRIES: [u8; 4096] = [
     0,
     0,
     0,
-    // VertStride 15, Width 0
+    // VertStride code 15, Width code 0
     0,
     0,
     0,
@@ -3995,7 +3995,7 @@ pub(crate) const ENTRIES: [u8; 4096] = [
     0,
     0,
     0,
-    // VertStride 15, Width 1
+    // VertStride code 15, Width code 1
     0,
     0,
     0,
@@ -4028,7 +4028,7 @@ pub(crate) const ENTRIES: [u8; 4096] = [
     0,
     0,
     0,
-    // VertStride 15, Width 2
+    // VertStride code 15, Width code 2
     0,
     0,
     0,
@@ -4061,7 +4061,7 @@ pub(crate) const ENTRIES: [u8; 4096] = [
     0,
     0,
     0,
-    // VertStride 15, Width 3
+    // VertStride code 15, Width code 3
     0,
     0,
     0,
@@ -4094,7 +4094,7 @@ pub(crate) const ENTRIES: [u8; 4096] = [
     0,
     0,
     0,
-    // VertStride 15, Width 4
+    // VertStride code 15, Width code 4
     0,
     0,
     0,
@@ -4127,7 +4127,7 @@ pub(crate) const ENTRIES: [u8; 4096] = [
     0,
     0,
     0,
-    // VertStride 15, Width 5
+    // VertStride code 15, Width code 5
     0,
     0,
     0,
@@ -4160,7 +4160,7 @@ pub(crate) const ENTRIES: [u8; 4096] = [
     0,
     0,
     0,
-    // VertStride 15, Width 6
+    // VertStride code 15, Width code 6
     0,
     0,
     0,
@@ -4193,7 +4193,7 @@ pub(crate) const ENTRIES: [u8; 4096] = [
     0,
     0,
     0,
-    // VertStride 15, Width 7
+    // VertStride code 15, Width code 7
     0,
     0,
     0,
