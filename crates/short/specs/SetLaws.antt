@@ -48,10 +48,12 @@ zeros-first f (suc k) i m h = go (f i) refl (zeros-first f k (suc i) (m / 2) res
         let one : m / 2 ^ 0 % 2 ^ 1 ≡ m % 2 = omega arith in
         let here : i + 0 ≡ i = omega arith in
         ap (λ (x : ℕ). eqb x 1) (sym one) ∙ h 0 (omega arith) ∙ ap f here
+
     rest : (j : ℕ) → j < k → bit (m / 2) j ≡ f (suc i + j)
     rest j l =
         let there : i + (1 + j) ≡ suc i + j = omega arith in
         ap (λ (x : ℕ). eqb x 1) (bits-above 1 j 1 m) ∙ h (1 + j) (omega arith) ∙ ap f there
+
     go : (b : Bool) → f i ≡ b → suc i + trailingZeros k (m / 2) ≡ firstFrom f k (suc i) → i + trailingZeros (suc k) m ≡ firstFrom f (suc k) i
     go true e further =
         let odd : m % 2 ≡ 1 = eqb-true _ _ (lowest ∙ e) in
@@ -193,18 +195,24 @@ module _ (at : ℕ) (l : List ℕ) (inside : at + tableSets ≤ length l) where
     where
       x : ℕ
       x = entry D base width n
+
       one : List ℕ
       one = mark l (at + x % 64) (2 ^ n)
+
       two : List ℕ
       two = mark one (at + (64 + x / 64 % 64)) (2 ^ n)
+
       three : List ℕ
       three = mark two (at + (128 + x / 4096 % 64)) (2 ^ n)
+
       held : (j : ℕ) → j < 3 → getD l (at + (64 * j + v)) 0 < 2 ^ n
       held j h = rw (g j v h small) (ofBits-less (hasDigit D base width j v) n)
+
       -- Where digit d of number n is told, and the set was l's before.
       told : (j d b : ℕ) → j < 3 → d ≡ bits x (6 * j) 6 → b ≡ getD l (at + (64 * j + v)) 0
           → digit (eqb d v) * 2 ^ n + b ≡ digit (eqb (bits x (6 * j) 6) v) * 2 ^ n + ofBits (hasDigit D base width j v) n
       told j d b h e f = rw (e, f, g j v h small)
+
       go : (j : ℕ) → j < 3 → getD three (at + (64 * j + v)) 0 ≡ digit (eqb (bits x (6 * j) 6) v) * 2 ^ n + ofBits (hasDigit D base width j v) n
       go zero h =
           let first : at + x % 64 ≡ at + (0 + x % 64) = omega arith in

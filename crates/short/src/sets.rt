@@ -15,9 +15,13 @@ const TABLE_SETS: usize = 192;
 
 // Where the sets of each look-up begin. The subregister table has two: by its 15 bits, and by the low ten that immediate form asks for.
 pub(crate) const CONTROL: usize = 0;
+
 pub(crate) const DATATYPE: usize = TABLE_SETS;
+
 pub(crate) const SUBREGISTER: usize = 2 * TABLE_SETS;
+
 pub(crate) const LOW_TEN: usize = 3 * TABLE_SETS;
+
 pub(crate) const SOURCE: usize = 4 * TABLE_SETS;
 
 // All of them.

@@ -127,7 +127,15 @@ fn short_word(lo: u64, hi: u64, c: u64, t: u64, b: u64, x: u64, y: u64, r: u64) 
 // ---- the two forms
 
 // In immediate form: c, t and x are the control, datatype and first source index.
-fn shorten_immediate(dictionary: &[u8], sets: &[u32], lo: u64, hi: u64, c: u64, t: u64, x: u64) -> Shorter
+fn shorten_immediate(
+    dictionary: &[u8],
+    sets: &[u32],
+    lo: u64,
+    hi: u64,
+    c: u64,
+    t: u64,
+    x: u64,
+) -> Shorter
     requires { ⌜ (length (now dictionary) ≡ dictionaryBytes) × Serves (dictionaryOf (now dictionary)) (now sets) ⌝ }
     ensures { λ r. ⌜ shorterIs r ≡ shortenImmediate (dictionaryOf (now (dictionary .entry))) lo hi c t x ⌝ }
 {
@@ -144,7 +152,15 @@ fn shorten_immediate(dictionary: &[u8], sets: &[u32], lo: u64, hi: u64, c: u64, 
 }
 
 // With src1 in a register.
-fn shorten_register(dictionary: &[u8], sets: &[u32], lo: u64, hi: u64, c: u64, t: u64, x: u64) -> Shorter
+fn shorten_register(
+    dictionary: &[u8],
+    sets: &[u32],
+    lo: u64,
+    hi: u64,
+    c: u64,
+    t: u64,
+    x: u64,
+) -> Shorter
     requires { ⌜ (length (now dictionary) ≡ dictionaryBytes) × Serves (dictionaryOf (now dictionary)) (now sets) ⌝ }
     ensures { λ r. ⌜ shorterIs r ≡ shortenRegister (dictionaryOf (now (dictionary .entry))) lo hi c t x ⌝ }
 {
