@@ -9,6 +9,7 @@
 mod archive;
 mod long_runs;
 mod measure;
+mod packs;
 mod short_runs;
 
 use std::process::exit;
@@ -25,7 +26,7 @@ fn main() {
     println!("proved: the archive. Of the reference, first: engine.rs, which looks at a decoded");
     println!("instruction at each step; second: second_engine.rs, which calls a function chosen");
     println!("for it ahead. Medians of {runs} alternating runs; ratios are proved / reference.");
-    let agree = [long_runs::table(runs), short_runs::table(runs)];
+    let agree = [packs::table(runs), long_runs::table(runs), short_runs::table(runs)];
     if agree.contains(&false) {
         exit(1)
     }

@@ -1,14 +1,14 @@
 -- The forms of a kernel's instructions, kept by number from one pass to the next. Assumes nothing.
 use mathlib.Core.Bool.{Bool, true, false}
-use mathlib.Core.List.{List}
+use mathlib.Core.List.{List, [], _∷_}
 use mathlib.Core.Option.{Option, none, some, Option·some-injective}
-use mathlib.Core.Path.{_≡_, refl, sym, ap, _∙_}
+use mathlib.Core.Path.{_≡_, refl, sym, ap, _∙_, subst}
 use Prim.Native.Nat.{ℕ, zero, suc, _+_, _*_, _/_, _^_, _<_, _≤_}
 use native.Mathlib.Omega.{arith}
 use native.Mathlib.Numerals.{add-one}
 use lib.Dec.{eqb}
-use lib.ListN.{length, getD, set, getElem?, replicate}
-use lib.Seq.{getD-set-same, getD-set-other}
+use lib.ListN.{length, getD, set, getElem?, replicate, take}
+use lib.Seq.{getD-set-same, getD-set-other, take-length}
 use borrow.Author.Tests.{eqb-true, eqb-false}
 use Rattle.paper.specs.Limits.{instructionLimit}
 use Rattle.paper.specs.Dictionary.{Dictionary, dictionaryOf}
@@ -20,7 +20,7 @@ use Rattle.paper.specs.Packing.{index, Form, Piece, piece}
 use Rattle.laws.specs.Names.{piecesOf}
 use Rattle.laws.specs.Places.{start-zero, index-le}
 use Rattle.laws.specs.Shorten.{shorten-some}
-use Rattle.short.specs.Sets.{Empty}
+use Rattle.short.specs.Sets.{setCount, Sets, Serves, Empty}
 use Rattle.kernel.specs.Standing.{Fetches}
 use Rattle.kernel.specs.Jumps.{instrOf}
 use Rattle.kernel.specs.Accepting.{AcceptedKernel}
@@ -43,6 +43,15 @@ empty-start n k h = go n k
     go zero k = refl
     go (suc n) zero = refl
     go (suc n) (suc k) = go n k
+
+-- No sets serve any dictionary.
+pub none-serves : (D : Dictionary) (sets : List ℕ) → Serves D (take 0 sets)
+none-serves D [] h = absurd (h refl)
+none-serves D (x ∷ sets) h = absurd (h refl)
+
+-- All of them serve their own.
+pub all-serve : (D : Dictionary) (sets : List ℕ) → Sets D sets → Serves D (take setCount sets)
+all-serve D sets s h = subst (λ (l : List ℕ). Sets D l) (sym (ap (λ (n : ℕ). take n sets) (sym (s .all)) ∙ take-length sets)) s
 
 -- ---- a short word is not 0, so 0 can stand for none
 

@@ -4,7 +4,6 @@ use crate::form::form;
 use crate::form::places_taken;
 use kernel::fetch::word_at;
 use words::limits::PLACES;
-ghost use mathlib.Core.Bool.{true};
 ghost use mathlib.Core.Path.{_≡_};
 ghost use lib.ListN.{length};
 ghost use Rattle.paper.specs.Limits.{instructionLimit};
@@ -25,7 +24,7 @@ pub(crate) fn place_all(
     shorts: &mut [u64; SHORTS],
     places: &mut [u16; PLACES],
 ) -> u64
-    requires { ⌜ Taken packs (now dictionary) (now kernel) × (packs ≡ true → Serves (dictionaryOf (now dictionary)) (now sets)) ⌝ }
+    requires { ⌜ Taken packs (now dictionary) (now kernel) × Serves (dictionaryOf (now dictionary)) (now sets) ⌝ }
     requires { ⌜ (length (now shorts) ≡ instructionLimit) × (length (now places) ≡ placeCount) ⌝ }
     ensures { λ r. ⌜ r ≡ resultEnd packs (now (dictionary .entry)) (now (kernel .entry)) ⌝ }
     ensures { λ r. ⌜ Placed (formOf packs (dictionaryOf (now (dictionary .entry)))) (kernelOf packs (now (dictionary .entry)) (now (kernel .entry)))

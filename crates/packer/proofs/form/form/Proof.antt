@@ -12,7 +12,7 @@ returns : tie.Need-returns
 returns c = rw (not-true (c .before .before .before .args .packs) (c .if1 .taken))
 
 shorten-requires : tie.Need-shorten-requires
-shorten-requires c κs = let s = c .before .before .before in (s .pre .0, s .pre .1 (not-false _ (c .if1 .left)))
+shorten-requires c κs = c .before .before .before .pre
 
 enum-known-a : tie.Need-enum-known-a
 enum-known-a c = search needs
