@@ -26,7 +26,9 @@ const FEW_WORDS: [usize; 3] = [1, 4, 16];
 pub fn table(runs: usize) -> bool {
     println!();
     println!("Checks and packs, in µs a call; each call timed is the mean of {CALLS}");
-    println!("call     words  kernel              proved    first  ratio of medians  ratio of least");
+    println!(
+        "call     words  kernel              proved  reference  ratio of medians  ratio of least"
+    );
     let mut kernels = all();
     kernels.extend(FEW_WORDS.map(all_short));
     let mut agree = true;
@@ -40,14 +42,14 @@ pub fn table(runs: usize) -> bool {
 /// One line of the table.
 fn line(call: &str, kernel: &PackKernel, sides: [Call; 2], runs: usize) -> bool {
     print!("{call:7} {:6}  {:16} ", kernel.kernel.len() / 16, kernel.name);
-    let Some([proved, first]) = in_turn(kernel, sides, runs) else {
+    let Some([proved, reference]) = in_turn(kernel, sides, runs) else {
         println!("the sides differ");
         return false;
     };
-    let medians = proved.median() / first.median();
-    let least = proved.least() / first.least();
-    let (proved, first) = (proved.median() / 1_000.0, first.median() / 1_000.0);
-    println!("{proved:9.2} {first:8.2} {medians:17.2} {least:15.2}");
+    let medians = proved.median() / reference.median();
+    let least = proved.least() / reference.least();
+    let (proved, reference) = (proved.median() / 1_000.0, reference.median() / 1_000.0);
+    println!("{proved:9.2} {reference:10.2} {medians:17.2} {least:15.2}");
     true
 }
 
@@ -57,11 +59,11 @@ fn in_turn(kernel: &PackKernel, sides: [Call; 2], runs: usize) -> Option<[Times;
     let mut times = [const { Vec::new() }; 2];
     let mut agree = true;
     for round in 0..=runs {
-        let [proved, first] = sides.map(|call| timed(call, kernel));
-        agree &= (proved.0, &proved.1) == (first.0, &first.1);
+        let [proved, reference] = sides.map(|call| timed(call, kernel));
+        agree &= (proved.0, &proved.1) == (reference.0, &reference.1);
         if round > 0 {
             times[0].push(proved.2);
-            times[1].push(first.2);
+            times[1].push(reference.2);
         }
     }
     agree.then(|| times.map(Times::of))

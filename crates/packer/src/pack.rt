@@ -19,7 +19,7 @@ ghost use Rattle.kernel.specs.Judging.{formsIs};
 ghost use Rattle.packer.specs.Forms.{formOf, Taken, resultOf};
 
 // A kernel of so many bytes or more is worth gathering sets for; in a shorter one numbers are walked.
-const WORTH_SETS: usize = 64;
+const WORTH_SETS: usize = 128;
 
 // How many sets there are to shorten words by: all, or none where words are few or not shortened.
 fn sets_for(packs: bool, dictionary: &[u8], kernel: &[u8], sets: &mut [u32; SETS]) -> usize
