@@ -1,5 +1,5 @@
 -- The first index that a key's sets have in common is the smallest index at which the table's number is the key. Assumes nothing.
-use mathlib.Core.Bool.{Bool, true, false, cond, _&&_}
+use mathlib.Core.Bool.{Bool, true, false, _&&_}
 use mathlib.Core.List.{List}
 use mathlib.Core.Path.{_≡_, refl, sym, ap, ap₂, _∙_}
 use Prim.Native.Nat.{ℕ, zero, suc, _+_, _*_, _/_, _%_, _^_, _≤_, _<_}
@@ -162,19 +162,13 @@ mark-length l a one = length-set l a _
 
 module _ (at : ℕ) (l : List ℕ) (inside : at + tableSets ≤ length l) where
   -- Sets outside of the table stay.
-  pub joined-before : (x one k : ℕ) → k < at → getD (joined l at x one) k 0 ≡ getD l k 0
+  pub joined-outside : (x one k : ℕ) → ((v : ℕ) → v < tableSets → k ≡ at + v → ⊥) → getD (joined l at x one) k 0 ≡ getD l k 0
   unfolding joined
-  joined-before x one k h =
-      mark-other (mark (mark l (at + x % 64) one) (at + (64 + x / 64 % 64)) one) (at + (128 + x / 4096 % 64)) one k (λ e. omega arith)
-      ∙ mark-other (mark l (at + x % 64) one) (at + (64 + x / 64 % 64)) one k (λ e. omega arith)
-      ∙ mark-other l (at + x % 64) one k (λ e. omega arith)
-
-  pub joined-behind : (x one k : ℕ) → at + tableSets ≤ k → getD (joined l at x one) k 0 ≡ getD l k 0
-  unfolding joined
-  joined-behind x one k h =
-      mark-other (mark (mark l (at + x % 64) one) (at + (64 + x / 64 % 64)) one) (at + (128 + x / 4096 % 64)) one k (λ e. omega arith)
-      ∙ mark-other (mark l (at + x % 64) one) (at + (64 + x / 64 % 64)) one k (λ e. omega arith)
-      ∙ mark-other l (at + x % 64) one k (λ e. omega arith)
+  joined-outside x one k outside =
+      mark-other (mark (mark l (at + x % 64) one) (at + (64 + x / 64 % 64)) one) (at + (128 + x / 4096 % 64)) one k
+      (outside (128 + x / 4096 % 64) (omega arith))
+      ∙ mark-other (mark l (at + x % 64) one) (at + (64 + x / 64 % 64)) one k (outside (64 + x / 64 % 64) (omega arith))
+      ∙ mark-other l (at + x % 64) one k (outside (x % 64) (omega arith))
 
   pub joined-length : (x one : ℕ) → length (joined l at x one) ≡ length l
   unfolding joined
@@ -256,8 +250,8 @@ module _ (D : Dictionary) (base width at : ℕ) (room : at + tableSets ≤ setCo
       record {
         all = joined-length at l inside x one ∙ g .all;
         here = rw (e, f) (gathered-more at l inside D base width n (g .here));
-        below = λ k h. joined-before at l inside x one k h ∙ g .below k h;
-        behind = λ k h. joined-behind at l inside x one k h ∙ g .behind k h;
+        below = λ k h. joined-outside at l inside x one k (λ v few e. omega arith) ∙ g .below k h;
+        behind = λ k h. joined-outside at l inside x one k (λ v few e. omega arith) ∙ g .behind k h;
       }
 
 -- What was gathered further down stays.

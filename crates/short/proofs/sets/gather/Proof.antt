@@ -1,6 +1,6 @@
 -- The loop's invariant: so many numbers are gathered. The measure is how many are left. Assumes nothing.
 use mathlib.Core.Path.{_≡_}
-use Prim.Native.Nat.{_+_, _-_, _≤_}
+use Prim.Native.Nat.{_-_, _≤_}
 use native.Mathlib.Omega.{arith}
 use borrow.Author.Needs.{needs}
 use Rattle.paper.specs.Dictionary.{dictionaryOf}
