@@ -34,3 +34,5 @@ pub mod Calls
 pub mod Lasting
 pub mod KeptFlags
 pub mod Demands
+pub mod Otherwise
+pub mod Votes
