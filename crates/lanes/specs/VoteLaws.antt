@@ -9,6 +9,7 @@ use lib.Bits.{bitAnd, bitOr, or-lt, and-le-l, and-le-r}
 use borrow.Author.Tests.{eqb-true, eqb-false, eq-eqb, ne-eqb, leb-true, leb-false}
 use Rattle.paper.specs.Bits.{bit}
 use Rattle.paper.specs.Enable.{groupOf, anyBit, allBits, groupStart, vote, predicate, ofBits}
+use Rattle.laws.specs.Votes.{vote-alone}
 use Rattle.laws.specs.Masks.{ofBits-less, bit-ofBits, ofBits-same, same-bits, ofBits-mod, ofBits-bit}
 use Rattle.lanes.specs.Masks.{lowerHalves, opposite, joinedMask, anyMask, voteMask, predicateMask}
 use Rattle.lanes.specs.BitLaws.{bit-and, bit-or, bit-shr, bit-shl, bit-shl-below, ones-less, ones-less-mod}
@@ -224,13 +225,9 @@ group-inside control m h = go (ltb control 4) (ltb control 6) (ltb control 8) (l
     go false false false false = omega arith
 
 -- Votes below PredCtrl 4 are the flag's own bits.
-pub vote-alone : (control flag : ℕ) → ltb control 4 ≡ true → flag % 2 ^ 16 ≡ voteMask control flag
-unfolding voteMask vote groupOf anyBit allBits
-vote-alone control flag e = sym (ofBits-mod flag 16) ∙ ofBits-same (bit flag) _ 16 (λ m l. rw e (go m (eqb (control % 2) 0)))
-  where
-    go : (m : ℕ) (t : Bool) → bit flag m ≡ cond t (bit flag (groupStart 1 m + 0)) (bit flag (groupStart 1 m + 0))
-    go m true = ap (bit flag) (sym (alone m))
-    go m false = ap (bit flag) (sym (alone m))
+pub votes-alone : (control flag : ℕ) → control < 4 → flag % 2 ^ 16 ≡ voteMask control flag
+unfolding voteMask
+votes-alone control flag h = sym (ofBits-mod flag 16) ∙ ofBits-same (bit flag) _ 16 (λ m l. sym (vote-alone control flag m h))
 
 module _ (control flag : ℕ) where
   abbrev group : ℕ

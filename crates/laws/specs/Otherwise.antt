@@ -225,9 +225,9 @@ module _ (forms : Forms) (D : Dictionary) (kernel : List ℕ) (from : ℕ) where
       elim at-either [
         | inl x ↦ not-passed (x .0) size w (sym (x .1 rule) ∙ e)
         | inr x ↦
-          let q = word-passed rule (x .0) (x .1) size w (sym (x .2 rule) ∙ e) in
-          let z : rule′ (x .1) ≡ 0 = ap rule′ (q .2) ∙ f (ap rule (sym (q .2)) ∙ q .0) in
-          x .2 rule′ ∙ ap (λ (t : Bool). cond t (passed (x .0) (x .1)) (refused (rule′ (x .1)))) (eq-eqb (rule′ (x .1)) 0 z) ∙ q .1
+            let q = word-passed rule (x .0) (x .1) size w (sym (x .2 rule) ∙ e) in
+            let z : rule′ (x .1) ≡ 0 = ap rule′ (q .2) ∙ f (ap rule (sym (q .2)) ∙ q .0) in
+            x .2 rule′ ∙ ap (λ (t : Bool). cond t (passed (x .0) (x .1)) (refused (rule′ (x .1)))) (eq-eqb (rule′ (x .1)) 0 z) ∙ q .1
       ]
 
 -- ---- a kernel, by two rules
@@ -303,11 +303,11 @@ each-fetched P (j ∷ k) p a i e = go (eqb (j .place) p) (each-fetched P k p (a 
     go true later e = let s : j ≡ i = cc in rw (← s) (a .0)
     go false later e = later e
 
--- What holds of every word holds of each.
-each-all : (P : ℕ → Type 0) → ((w : ℕ) → P w) → (k : List Instr) → Each (λ _ _ w. P w) k
+-- What follows for a word follows for each.
+pub each-map : (P Q : ℕ → Type 0) → ((w : ℕ) → P w → Q w) → (k : List Instr) → Each (λ _ _ w. P w) k → Each (λ _ _ w. Q w) k
 unfolding Each
-each-all P f [] = tt
-each-all P f (i ∷ k) = (f (i .word), each-all P f k)
+each-map P Q f [] a = tt
+each-map P Q f (i ∷ k) a = (f (i .word) (a .0), each-map P Q f k (a .1))
 
 module _ (rule : ℕ → ℕ) (act : ℕ → ℕ → Ways → State → State) (adds : Adds rule act) where
   -- A kernel that these rules accept makes the same steps by the paper's, and the same runs.
@@ -328,7 +328,8 @@ module _ (rule : ℕ → ℕ) (act : ℕ → ℕ → Ways → State → State) (
       → accepted forms dictionary kernel ≡ good k
   unfolding judgeShortBy judgeLongBy judgeAtBy parseBy judgedKernelBy acceptedBy judgeShort judgeLong judgeAt parse judgedKernel accepted
   accepted-stays forms dictionary kernel k e =
-      accepted-carried rule forms dictionary kernel k e refusalOf (each-all (λ w. rule w ≡ 0 → refusalOf w ≡ 0) (adds .accepts) k)
+      accepted-carried rule forms dictionary kernel k e refusalOf
+      (each-map (λ w. rule w ≡ 0) (λ w. rule w ≡ 0 → refusalOf w ≡ 0) (λ w h _. adds .accepts w h) k (accepted-each rule forms dictionary kernel k e))
 
   judged-stays : (forms : Forms) (dictionary kernel : List ℕ) (k : List Instr) → acceptedBy rule forms dictionary kernel ≡ good k
       → judgedKernel forms dictionary kernel ≡ good k

@@ -3,15 +3,15 @@ use mathlib.Core.Path.{_∙_}
 use Prim.Native.Nat.{_%_}
 use native.Mathlib.Omega.{arith}
 use borrow.Author.Needs.{needs}
-use borrow.Author.Tests.{lt-ltb, eq-eqb, ne-eqb}
-use Rattle.lanes.specs.VoteLaws.{vote-alone, vote-any, vote-all}
+use borrow.Author.Tests.{eq-eqb, ne-eqb}
+use Rattle.lanes.specs.VoteLaws.{votes-alone, vote-any, vote-all}
 use Rattle.lanes.proofs.votes.vote_mask.Statement.{statement}
 use Rattle.lanes.proofs.votes.vote_mask.Tie as tie
 
 returns : tie.Need-returns
 returns c =
     let a = c .before .args in
-    (vote-alone (a .control) (a .flag) (lt-ltb (a .control) 4 (c .if1 .taken)), omega arith)
+    (votes-alone (a .control) (a .flag) (c .if1 .taken), omega arith)
 
 any-mask-requires : tie.Need-any-mask-requires
 any-mask-requires c κs = search needs
