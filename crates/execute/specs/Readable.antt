@@ -8,7 +8,7 @@ use lib.Dec.{eqb, ltb, leb}
 use lib.Pow.{pow-mono}
 use borrow.Author.Tests.{leb-true, ltb-false, eqb-true, not-false}
 use Rattle.paper.specs.Limits.{registerBytes}
-use Rattle.paper.specs.Word.{Source, src0, src1, accessMode, accWrCtrl, execSize, saturate, predCtrl, condModifier, isImmediate}
+use Rattle.paper.specs.Word.{Source, src0, src1, accessMode, accWrCtrl, execSize, saturate, condModifier, isImmediate}
 use Rattle.paper.specs.Word.{grf, dstFile, dstType, dstAddrMode, srcFile, srcType, srcAddrMode}
 use Rattle.paper.specs.Operation.{Plain, traits, sources}
 use Rattle.paper.specs.Value.{IsType}

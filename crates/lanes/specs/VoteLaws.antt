@@ -1,11 +1,11 @@
 -- Votes by whole words: neighbouring halves are joined, from pairs on, until a group is whole; all is that not any bit is 0. Assumes nothing.
-use mathlib.Core.Path.{_≡_, refl, sym, ap, ap₂, _∙_, subst}
-use mathlib.Core.Bool.{Bool, true, false, not, cond, _&&_, _||_, or-false, or-comm, or-assoc, and-comm}
+use mathlib.Core.Path.{_≡_, refl, sym, ap, ap₂, _∙_}
+use mathlib.Core.Bool.{Bool, true, false, not, cond, _&&_, _||_, or-false, or-comm, or-assoc}
 use Prim.Native.Nat.{ℕ, zero, suc, _+_, _-_, _*_, _/_, _%_, _^_, _≤_, _<_}
 use native.Mathlib.Omega.{arith}
 use native.Mathlib.Nat.{add-zero, add-suc, add-assoc, add-comm, mul-comm, mul-assoc, add-mul, one-mul, add-right-cancel, div-mul-le-self, add-sub-of-le, add-div-left, div-eq-of-lt, div-div-eq-div-mul, lt-of-le-of-lt, mul-le-mul-right}
 use lib.Dec.{eqb, ltb, leb, lit<}
-use lib.Bits.{bitAnd, bitOr, or-lt, and-le-l, and-le-r}
+use lib.Bits.{bitAnd, bitOr, or-lt, and-le-r}
 use borrow.Author.Tests.{eqb-true, eqb-false, eq-eqb, ne-eqb, leb-true, leb-false}
 use Rattle.paper.specs.Bits.{bit}
 use Rattle.paper.specs.Enable.{groupOf, anyBit, allBits, groupStart, vote, predicate, ofBits}

@@ -35,4 +35,6 @@ pub mod Lasting
 pub mod KeptFlags
 pub mod Demands
 pub mod Otherwise
+pub mod Adding
+pub mod VotesBefore
 pub mod Votes

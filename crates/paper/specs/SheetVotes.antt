@@ -3,10 +3,10 @@ use mathlib.Core.List.{List, [], _∷_, map}
 use Prim.Native.Nat.{ℕ, _+_, _-_, _^_}
 use Rattle.paper.specs.Bits.{_at_}
 use Rattle.paper.specs.Enable.{ofBits, predicate}
-use Rattle.paper.specs.Assembler.{to, from0, immediate0, immediate1, op, structuredTo, jmpiTo, nopWord, clear, ramp, begin}
+use Rattle.paper.specs.Assembler.{to, from0, immediate1, op, structuredTo, jmpiTo, nopWord, clear, ramp, begin}
 use Rattle.paper.specs.Sheet.{Row, _gives_}
 use Rattle.paper.specs.SheetMore.{one, r4, masks, sevens, against, ranOver, stateIs}
-use Rattle.paper.specs.SheetRefusals.{secondWord, movWith}
+use Rattle.paper.specs.SheetRefusals.{secondWord}
 
 -- ---- the predicates of the 16 channels
 

@@ -1,6 +1,6 @@
 -- Kernels that passed before a request that only adds pass, and all calls on them are as they were. Assumes nothing.
 use mathlib.Core.List.{List}
-use mathlib.Core.Path.{_≡_, refl, sym, ap, _∙_, subst}
+use mathlib.Core.Path.{_≡_, refl, ap, _∙_, subst}
 use Prim.Native.Nat.{ℕ}
 use native.Mathlib.Omega.{arith}
 use Rattle.paper.specs.Kernel.{Instr, longAndShort, longOnly, Parsed, bad, good}
@@ -10,8 +10,10 @@ use Rattle.paper.specs.Shorten.{shorten}
 use Rattle.paper.specs.Packing.{Form}
 use Rattle.paper.specs.Calls.{verdict, refusal, asNumber, Written, Changed, checkedAs, relaid, packCall}
 use Rattle.contracts.specs.Contracts.{Wrote, Left}
-use Rattle.laws.specs.Otherwise.{acceptedBy, checkCallBy, packCallBy, Adds, stays, pack-stays}
-use Rattle.laws.specs.Votes.{refusalBefore, stepAtBefore, votes-add}
+use Rattle.laws.specs.Otherwise.{acceptedBy, checkCallBy, packCallBy}
+use Rattle.laws.specs.Adding.{Adds, stays, pack-stays}
+use Rattle.laws.specs.VotesBefore.{refusalBefore, stepAtBefore}
+use Rattle.laws.specs.Votes.{votes-add}
 use Rattle.promises.specs.Promises.{AsBy, PassedBefore}
 
 -- No refusal is a verdict.

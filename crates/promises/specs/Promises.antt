@@ -24,7 +24,7 @@ use Rattle.laws.specs.Names.{renameC, program}
 use Rattle.laws.specs.Items.{Item, allBytes, instrsFrom}
 use Rattle.laws.specs.Packing.{AllShortest}
 use Rattle.laws.specs.Otherwise.{checkCallBy, packCallBy, unpackCallBy, stepCallBy, runCallBy}
-use Rattle.laws.specs.Votes.{refusalBefore, stepAtBefore}
+use Rattle.laws.specs.VotesBefore.{refusalBefore, stepAtBefore}
 use Rattle.contracts.specs.Contracts.{numberIn, offsetIn, countIn, Wrote, Left, CheckPromise, PackPromise, UnpackPromise, ShortenPromise, ExpandPromise}
 use Rattle.contracts.specs.Contracts.{DecodePromise, StartPromise, StepPromise, RunPromise}
 use Rattle.contracts.specs.OneOutcome.{OneOutcome}
@@ -281,7 +281,7 @@ pub record AsBy (rule : ℕ → ℕ) (act : ℕ → ℕ → Ways → State → S
       → RunPromise dictionary kernel budget registers state r registers′ state′
       → Left (runCallBy rule act dictionary kernel budget registers state) r registers′ state′
 
--- 02 §2 only adds: `refusalBefore` and `stepAtBefore` are the rules before groups of channels could vote (Votes of `laws`).
+-- 02 §2 only adds: `refusalBefore` and `stepAtBefore` are the rules before groups of channels could vote (VotesBefore of `laws`).
 pub record PassedBefore : Type 0 where
   -- A kernel that check accepted by them is accepted, and all calls on it are as they were.
   pub votes : (dictionary kernel : List ℕ) (n : ℕ) → checkCallBy refusalBefore dictionary kernel ≡ verdict 0 n

@@ -1,5 +1,4 @@
 -- Each test is one of the definition's. Assumes nothing.
-use native.Mathlib.Omega.{arith}
 use borrow.Author.Tests.{lt-ltb, le-ltb}
 use Rattle.paper.specs.Enable.{groupOf}
 use Rattle.judge.proofs.served.group_of.Statement.{statement}

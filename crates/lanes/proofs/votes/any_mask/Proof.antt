@@ -1,11 +1,9 @@
 -- Each joining makes groups of twice the size; PredCtrl says how many there are. Assumes nothing.
-use mathlib.Core.Path.{_≡_, refl, ap, _∙_}
 use native.Mathlib.Omega.{arith}
-use lib.Dec.{lit<}
 use borrow.Author.Needs.{needs}
-use borrow.Author.Tests.{lt-ltb, le-ltb, eqb-true}
+use borrow.Author.Tests.{lt-ltb, le-ltb}
 use Rattle.paper.specs.Enable.{groupOf, ofBits}
-use Rattle.lanes.specs.Masks.{lowerHalves, joinedMask, anyMask}
+use Rattle.lanes.specs.Masks.{lowerHalves}
 use Rattle.lanes.specs.VoteLaws.{joined-less, twos, fours, eights, sixteen}
 use Rattle.lanes.proofs.votes.any_mask.Statement.{statement}
 use Rattle.lanes.proofs.votes.any_mask.Tie as tie
