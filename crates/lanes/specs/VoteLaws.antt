@@ -70,6 +70,7 @@ module _ (h : ℕ) (some : 0 < h) where
   lower-first : (m : ℕ) → m < h → lower m ≡ true
   lower-first m l = rw (div-eq-of-lt l)
 
+  -- The mask of the lower halves has 16 bits, and they are these.
   low-halves-less : lowerHalves h < 2 ^ 16
   unfolding lowerHalves
   low-halves-less = ofBits-less lower 16
@@ -195,11 +196,12 @@ alone m = omega arith
 
 -- A flag, joined once, twice, three and four times.
 module _ (flag : ℕ) (less : flag < 2 ^ 16) where
-  -- Its bits are votes of groups of one.
+  -- Its bits are votes of groups of one;
   any-one : anyMask 1 flag ≡ flag
   unfolding anyMask anyBit
   any-one = ofBits-same _ (bit flag) 16 (λ m l. ap (bit flag) (alone m)) ∙ ofBits-bit flag 16 less
 
+  -- joined once they are those of groups of two, and so on.
   pub twos : joinedMask 1 flag ≡ anyMask 2 flag
   twos = ap (joinedMask 1) (sym any-one) ∙ joined-any 1 (lit< tt) flag (λ m l e. omega (arith, eqb-true (m / 1 % 2) 0 e))
 

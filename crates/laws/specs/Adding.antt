@@ -1,4 +1,5 @@
--- Where the paper's rules only add to others: what the others accept is accepted, as the same instructions, and every call on it is as it was. Assumes nothing.
+-- Where the paper's rules only add to others: what the others accept is accepted, as the same instructions, and is checked, packed, unpacked and run as it was.
+-- Assumes nothing.
 use mathlib.Core.Bool.{Bool, true, false, not, cond, _||_}
 use mathlib.Core.List.{List, [], _∷_}
 use mathlib.Core.Logic.{_⊎_, inl, inr}
@@ -38,6 +39,7 @@ data Passes (judge : ℕ → Judged) (end : ℕ) : ℕ → ℕ → List Instr �
       → Passes judge end (suc n) from (record { place = from / 8; size = size; word = w } ∷ k)
 
 module _ (judge : ℕ → Judged) (end : ℕ) where
+  -- A walk that accepts is one,
   walk-passes : (n from : ℕ) (k : List Instr) → walk judge end n from ≡ good k → Passes judge end n from k
   unfolding walk
   walk-passes zero from k = go (ltb from end) refl
@@ -56,6 +58,7 @@ module _ (judge : ℕ → Judged) (end : ℕ) where
           let q = prepend-good (record { place = from / 8; size = size; word = w }) (walk judge end n (from + 8 * size)) k e in
           rw (q .2) (passing h j (ih (from + 8 * size) (q .0) (q .1)))
 
+  -- and each such walk accepts.
   walk-ended : (n from : ℕ) → ltb from end ≡ false → walk judge end n from ≡ good []
   unfolding walk
   walk-ended zero from h = rw h
@@ -100,6 +103,7 @@ module _ (forms : Forms) (D : Dictionary) (kernel : List ℕ) (from : ℕ) where
   abbrev Either : ((ℕ → ℕ) → Judged) → Type 0
   Either judged = ((n : ℕ) × ((rule : ℕ → ℕ) → judged rule ≡ refused n)) ⊎ ((n v : ℕ) × ((rule : ℕ → ℕ) → judged rule ≡ judgeWordBy rule n v))
 
+  -- So it is with a long word,
   long-either : (w : ℕ) → Either (λ rule. judgeLongBy rule w)
   unfolding judgeLongBy
   long-either w = go (isListed (operation w)) refl
@@ -108,6 +112,7 @@ module _ (forms : Forms) (D : Dictionary) (kernel : List ℕ) (from : ℕ) where
       go false h = inl (4, λ rule. rw h)
       go true h = inr (2, w, λ rule. rw h)
 
+  -- with a short one,
   short-either : (s : ℕ) → Either (λ rule. judgeShortBy rule forms D s)
   unfolding judgeShortBy
   short-either s = go (isListed (operation s)) refl (isBranch (operation s) || not (takesShort forms)) refl
@@ -118,6 +123,7 @@ module _ (forms : Forms) (D : Dictionary) (kernel : List ℕ) (from : ℕ) where
       go true h true q = inl (5, λ rule. rw (h, q))
       go true h false q = inr (1, expand D s, λ rule. rw (h, q))
 
+  -- and with what stands there.
   at-either : Either (λ rule. judgeAtBy rule forms D kernel from)
   unfolding judgeAtBy
   at-either = go (ltb (length kernel - from) 8) refl (isShort (numberAt kernel from 8)) refl (ltb (length kernel - from) 16) refl
@@ -178,10 +184,12 @@ module _ (rule : ℕ → ℕ) (forms : Forms) (dictionary kernel : List ℕ) (k 
       go true p false q e = not-good 2 0 k e
       go true p true q e = (p, q, e)
 
+  -- Its instructions are those of the kernel's own judgement,
   pub judged-parts : acceptedBy rule forms dictionary kernel ≡ good k → judgedKernelBy rule forms dictionary kernel ≡ good k
   unfolding acceptedBy
   judged-parts e = rw (accepted-parts e .0) at e
 
+  -- and a walk over them accepts.
   parsed-passes : acceptedBy rule forms dictionary kernel ≡ good k → Passes (judgeAtBy rule forms D kernel) (length kernel) instructionLimit 0 k
   unfolding parseBy
   parsed-passes e =
@@ -250,13 +258,14 @@ module _ (rule : ℕ → ℕ) (act : ℕ → ℕ → Ways → State → State) (
       accepted-carried rule forms dictionary kernel k e refusalOf
       (each-map (λ w. rule w ≡ 0) (λ w. rule w ≡ 0 → refusalOf w ≡ 0) (λ w h _. adds .accepts w h) k (accepted-each rule forms dictionary kernel k e))
 
+  -- So it is with the kernel's own judgement, without the sizes.
   judged-stays : (forms : Forms) (dictionary kernel : List ℕ) (k : List Instr) → acceptedBy rule forms dictionary kernel ≡ good k
       → judgedKernel forms dictionary kernel ≡ good k
   unfolding accepted
   judged-stays forms dictionary kernel k e =
       rw (accepted-parts rule forms dictionary kernel k e .0) at (accepted-stays forms dictionary kernel k e)
 
-  -- Every call on a kernel that these rules accept answers, and leaves, what it does by them.
+  -- check, unpack, step and run of a kernel that these rules accept answer, and leave, what they do by them.
   pub record Stays (dictionary kernel : List ℕ) : Type 0 where
     pub check : checkCall dictionary kernel ≡ checkCallBy rule dictionary kernel
     pub unpack : (out : List ℕ) → unpackCall dictionary kernel out ≡ unpackCallBy rule dictionary kernel out
@@ -278,6 +287,7 @@ module _ (rule : ℕ → ℕ) (act : ℕ → ℕ → Ways → State → State) (
         run = λ budget registers bytes. rw (before, after, runs-same k each budget (stateOf registers bytes));
       }
 
+  -- So does pack of a kernel of long words.
   pub pack-stays : (dictionary kernel : List ℕ) (k : List Instr) → acceptedBy rule longOnly dictionary kernel ≡ good k
       → (out : List ℕ) → packCall dictionary kernel out ≡ packCallBy rule dictionary kernel out
   unfolding packCall packCallBy

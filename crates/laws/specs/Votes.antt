@@ -40,6 +40,7 @@ vote-alone control flag m h = rw (lt-ltb control 4 h) (go (eqb (control % 2) 0))
     go true = ap (bit flag) alone
     go false = ap (bit flag) alone
 
+-- What is 0 or 1 is not 1 where it is 0.
 one-of-two : (n : ℕ) → n ≤ 1 → not (eqb n 1) ≡ eqb n 0
 one-of-two zero h = refl
 one-of-two (suc zero) h = refl
@@ -56,6 +57,7 @@ module _ (w : ℕ) (single : predCtrl w ≤ 1) where
   step-before here ways s =
       ap (λ (f : Store → ℕ → Bool). stepAtBy f w here ways s) (λ i st m. holds-before st m i) ∙ step-ours w here ways s
 
+  -- 7, 8 and all that is built on them are as they were.
   control-before : (compares saturates : Bool) → controlServedBefore compares saturates w ≡ controlServed compares saturates w
   unfolding controlServedBefore controlServed
   control-before compares saturates = rw (le-leb (predCtrl w) 1 single)
@@ -148,6 +150,7 @@ unfolding effectBy effect
 idle-store w holding awake st (inl o) = rw (o, effectBy, effect)
 idle-store w holding awake st (inr o) = rw (o, effectBy, effect)
 
+-- So does its step.
 idle-acts : (w here : ℕ) (ways : Ways) (s : State) → Idle w → stepAtBefore w here ways s ≡ stepAt w here ways s
 unfolding stepAtBy performBy perform
 idle-acts w here ways s idle = go idle

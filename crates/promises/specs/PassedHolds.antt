@@ -1,4 +1,4 @@
--- Kernels that passed before a request that only adds pass, and all calls on them are as they were. Assumes nothing.
+-- Kernels that passed before a request that only adds pass, and are packed, unpacked and run as they were. Assumes nothing.
 use mathlib.Core.List.{List}
 use mathlib.Core.Path.{_≡_, refl, ap, _∙_, subst}
 use Prim.Native.Nat.{ℕ}

@@ -270,7 +270,7 @@ pub record Demand3 : Type 0 where
 
 -- ==== kernels that passed before
 
--- The exported calls on a kernel answer, and leave, what the same calls do by other rules for one word: `rule` in the place of refusals 6 to 11, `act` in the
+-- check, unpack, step and run of a kernel answer, and leave, what they do by other rules for one word: `rule` in the place of refusals 6 to 11, `act` in the
 -- place of a step (Otherwise of `laws`).
 pub record AsBy (rule : ℕ → ℕ) (act : ℕ → ℕ → Ways → State → State) (dictionary kernel : List ℕ) : Type 0 where
   pub check : (r : ℕ) → CheckPromise dictionary kernel r → r ≡ asNumber (checkCallBy rule dictionary kernel)
@@ -283,7 +283,7 @@ pub record AsBy (rule : ℕ → ℕ) (act : ℕ → ℕ → Ways → State → S
 
 -- 02 §2 only adds: `refusalBefore` and `stepAtBefore` are the rules before groups of channels could vote (VotesBefore of `laws`).
 pub record PassedBefore : Type 0 where
-  -- A kernel that check accepted by them is accepted, and all calls on it are as they were.
+  -- A kernel that check accepted by them is accepted, and is checked, unpacked, stepped and run as it was.
   pub votes : (dictionary kernel : List ℕ) (n : ℕ) → checkCallBy refusalBefore dictionary kernel ≡ verdict 0 n
       → AsBy refusalBefore stepAtBefore dictionary kernel
   -- One that pack accepted is packed to the same bytes.
