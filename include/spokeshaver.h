@@ -20,7 +20,7 @@
  *   A place is an offset in a kernel in units of 8 bytes.
  *
  * The state's bytes, all numbers 16 bits little-endian
- *    0  flag f0.0, bit n for channel n
+ *    0  flag f0.0, bit n for channel n: what predicates look at, channel by channel or in groups
  *    2  flag f0.1
  *    4  place of the next instruction; at the kernel's end the run is over
  *    6  awake mask, bit n for channel n
@@ -71,7 +71,7 @@ extern "C" {
 #define SPOKESHAVER_UNLISTED 4          /* an opcode that is not listed */
 #define SPOKESHAVER_WRONG_FORM 5        /* a short branch; a short word where a long one is asked, or the reverse */
 #define SPOKESHAVER_RESERVED_BITS 6     /* a bit is set that must be clear */
-#define SPOKESHAVER_NOT_SERVED 7        /* a field has a value that is not served */
+#define SPOKESHAVER_NOT_SERVED 7        /* a field has a value that is not served, or a predicate's group is larger than the size */
 #define SPOKESHAVER_OPERAND_RULE 8      /* an operand rule is broken */
 #define SPOKESHAVER_REGION_SHAPE 9      /* a stride or width is undefined, the size is under the width, a source has a shape on which the machine hangs (README), or the destination's stride is 0 */
 #define SPOKESHAVER_UNALIGNED 10        /* a subregister is no multiple of the element's size */

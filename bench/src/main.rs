@@ -1,14 +1,17 @@
-//! Measures runs of the proved archive against the same runs of the reference's two engines.
+//! Measures the proved archive against the reference: checks and packs, and runs by the
+//! reference's two engines.
 //!
-//! `bench [RUNS]` takes medians of RUNS alternating runs (21 if not told, nine at least), after
-//! one of each side that is not counted. Whole calls are timed: judging, and for the reference
-//! decoding ahead, count. Every run must spend its budget and leave the answer, registers and
-//! state that the first engine leaves: else the exit status is 1. A slow run is no failure.
+//! `bench [RUNS [TABLE]]` takes medians of RUNS alternating runs (21 if not told, nine at least),
+//! after one of each side that is not counted, and prints the tables, or the one named: packs,
+//! long or short. Whole calls are timed: judging, and for the reference decoding ahead, count.
+//! Every side must leave the same answer and the same bytes, and every run must spend its budget:
+//! else the exit status is 1. A slow call is no failure.
 #![deny(unsafe_code)]
 
 mod archive;
 mod long_runs;
 mod measure;
+mod packs;
 mod short_runs;
 
 use std::process::exit;
@@ -17,23 +20,37 @@ use std::process::exit;
 const LEAST_RUNS: usize = 9;
 const RUNS: usize = 21;
 
+/// Prints a table of medians of so many runs and tells whether the sides agree.
+type Table = fn(usize) -> bool;
+
+const TABLES: [(&str, Table); 3] =
+    [("packs", packs::table), ("long", long_runs::table), ("short", short_runs::table)];
+
 fn main() {
-    let Some(runs) = runs_told() else {
-        eprintln!("usage: bench [RUNS], {LEAST_RUNS} at least");
+    let Some((runs, table)) = told() else {
+        eprintln!("usage: bench [RUNS [packs|long|short]], {LEAST_RUNS} runs at least");
         exit(2)
     };
     println!("proved: the archive. Of the reference, first: engine.rs, which looks at a decoded");
     println!("instruction at each step; second: second_engine.rs, which calls a function chosen");
     println!("for it ahead. Medians of {runs} alternating runs; ratios are proved / reference.");
-    let agree = [long_runs::table(runs), short_runs::table(runs)];
-    if agree.contains(&false) {
+    let mut agree = true;
+    for (name, print) in TABLES {
+        if table.as_deref().is_none_or(|told| told == name) {
+            agree &= print(runs);
+        }
+    }
+    if !agree {
         exit(1)
     }
 }
 
-/// The number of runs; none if it cannot be read or is too small.
-fn runs_told() -> Option<usize> {
+/// The number of runs and the table asked for, if one is; none if they cannot be read.
+fn told() -> Option<(usize, Option<String>)> {
     let mut words = std::env::args().skip(1);
     let runs = words.next().map_or(Some(RUNS), |word| word.parse().ok());
-    runs.filter(|&runs| runs >= LEAST_RUNS && words.next().is_none())
+    let table = words.next();
+    let known = |table: &String| TABLES.iter().any(|(name, _)| name == table);
+    let runs = runs.filter(|&runs| runs >= LEAST_RUNS && words.next().is_none())?;
+    table.as_ref().is_none_or(known).then_some((runs, table))
 }

@@ -71,7 +71,7 @@ fn timed(run: Run, job: &Job) -> (Left, f64) {
 }
 
 impl Times {
-    fn of(mut times: Vec<f64>) -> Times {
+    pub fn of(mut times: Vec<f64>) -> Times {
         times.sort_by(f64::total_cmp);
         Times(times)
     }

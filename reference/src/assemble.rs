@@ -119,6 +119,11 @@ impl LongWord {
         self.with_field(19, 16, 1).with_field(20, 20, inverted as u32).with_field(89, 89, flag)
     }
 
+    /// Predicated by a vote: PredCtrl's code in place of 1.
+    pub fn voting(self, control: u32) -> LongWord {
+        self.with_field(19, 16, control)
+    }
+
     pub fn saturated(self) -> LongWord {
         self.with_field(31, 31, 1)
     }

@@ -40,12 +40,20 @@ fn check_outcome(dictionary: &[u8], kernel: &[u8]) -> Outcome {
 
 /// Packs a kernel of long words. The count is the result's bytes.
 pub fn pack(dictionary: &[u8], kernel: &[u8], out: &mut [u8]) -> u64 {
-    answer(pack_outcome(dictionary, kernel, out))
+    answer(pack_outcome(packing::pack, dictionary, kernel, out))
 }
 
-fn pack_outcome(dictionary: &[u8], kernel: &[u8], out: &mut [u8]) -> Outcome {
+/// The same as `pack`, with numbers looked up in sets.
+pub fn pack_by_look_up(dictionary: &[u8], kernel: &[u8], out: &mut [u8]) -> u64 {
+    answer(pack_outcome(packing::pack_by_look_up, dictionary, kernel, out))
+}
+
+/// The bytes of a judged kernel, packed.
+type Packer = fn(&Program, &Dictionary) -> Vec<u8>;
+
+fn pack_outcome(packer: Packer, dictionary: &[u8], kernel: &[u8], out: &mut [u8]) -> Outcome {
     let (dictionary, program) = judged_kernel(dictionary, kernel, Accepts::LongOnly)?;
-    deliver(&packing::pack(&program, &dictionary), out)
+    deliver(&packer(&program, &dictionary), out)
 }
 
 /// Unpacks a kernel. The count is the result's bytes.

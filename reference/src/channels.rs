@@ -15,7 +15,7 @@ pub type Registers = [u8; FILE_BYTES];
 #[inline]
 pub fn predicate_mask(predicate: &Predicate, state: &State) -> u16 {
     if predicate.is_used {
-        state.flags[predicate.flag] ^ predicate.inversion
+        predicate.vote.mask(state.flags[predicate.flag]) ^ predicate.inversion
     } else {
         u16::MAX
     }

@@ -3,7 +3,8 @@
 
 use crate::operations::{ElementType, Operation};
 use crate::regions::{power_of_code, Region};
-use crate::rules::{writes_register, Instruction, Program};
+use crate::rules::{group_size, writes_register, Instruction, Program};
+use crate::state::CHANNELS;
 use crate::words::{LongWord, FILE_IMMEDIATE};
 
 /// A decoded instruction.
@@ -27,8 +28,50 @@ pub struct Decoded {
 pub struct Predicate {
     pub is_used: bool,
     pub flag: usize,
+    pub vote: Vote,
     /// All ones if the flag is inverted.
     pub inversion: u16,
+}
+
+/// How the bits of a flag make predicates, before inversion.
+#[derive(Clone, Copy)]
+pub enum Vote {
+    /// Each channel has its own bit.
+    Each,
+    /// Groups in which some bit is 1; a group has all these ones.
+    Any { ones: u16 },
+    /// Groups in which every bit is 1.
+    All { ones: u16 },
+}
+
+impl Vote {
+    fn of(word: LongWord) -> Vote {
+        let control = word.predicate_control();
+        let size = group_size(control).unwrap_or(1);
+        let ones = u16::MAX >> (CHANNELS - size);
+        match (size, control % 2) {
+            (1, _) => Vote::Each,
+            (_, 0) => Vote::Any { ones },
+            _ => Vote::All { ones },
+        }
+    }
+
+    /// The channels whose group votes for it.
+    #[inline]
+    pub fn mask(&self, flag: u16) -> u16 {
+        match *self {
+            Vote::Each => flag,
+            Vote::Any { ones } => groups(flag, ones, |bits| bits != 0),
+            Vote::All { ones } => groups(flag, ones, |bits| bits == ones),
+        }
+    }
+}
+
+/// The channels of the groups whose bits pass a test.
+fn groups(flag: u16, ones: u16, passes: impl Fn(u16) -> bool) -> u16 {
+    let firsts = (0..CHANNELS as u32).step_by(ones.count_ones() as usize);
+    let passing = firsts.filter(|first| passes((flag >> first) & ones));
+    passing.fold(0, |mask, first| mask | ones << first)
 }
 
 #[derive(Clone, Copy)]
@@ -92,8 +135,9 @@ pub fn decode(instruction: &Instruction, program: &Program) -> Decoded {
     Decoded {
         operation: instruction.operation,
         predicate: Predicate {
-            is_used: word.predicate_control() == 1,
+            is_used: word.predicate_control() != 0,
             flag: word.flag_choice() as usize,
+            vote: Vote::of(word),
             inversion: if word.predicate_inverse() == 1 { u16::MAX } else { 0 },
         },
         ignores_mask: word.write_enable_control() == 1,

@@ -3,7 +3,7 @@
 
 use crate::operations::{ElementType, Operation};
 use crate::regions::{power_of_code, Region};
-use crate::rules::{writes_register, Instruction, Program};
+use crate::rules::{group_size, writes_register, Instruction, Program};
 use crate::state::{State, CHANNELS};
 use crate::words::{LongWord, FILE_IMMEDIATE};
 
@@ -25,13 +25,22 @@ pub fn step(program: &Program, registers: &mut [u8], state: &mut State) -> bool 
     true
 }
 
-/// Whether a channel's predicate holds.
+/// Whether a channel's predicate holds: its group votes by the flag's bits, any with an even
+/// PredCtrl and all with an odd one, and inversion comes after. PredCtrl 1 is a group of one.
 fn predicate_holds(word: LongWord, flags: &[u16; 2], channel: usize) -> bool {
-    if word.predicate_control() == 0 {
+    let control = word.predicate_control();
+    if control == 0 {
         return true;
     }
-    let flag_bit = (flags[word.flag_choice() as usize] >> channel) & 1;
-    flag_bit as u32 ^ word.predicate_inverse() == 1
+    let flag = flags[word.flag_choice() as usize];
+    let size = group_size(control).expect("judged");
+    let first = channel / size * size;
+    let mut bits = (first..first + size).map(|n| (flag >> n) & 1 == 1);
+    let vote = match control % 2 {
+        0 => bits.any(|bit| bit),
+        _ => bits.all(|bit| bit),
+    };
+    vote != (word.predicate_inverse() == 1)
 }
 
 /// The work of a branch: who goes to wait, and the place to go to.

@@ -1,7 +1,7 @@
 //! Operations and element types (paper: "Operations").
 
 /// The operations of the bench.
-#[derive(Clone, Copy, PartialEq, Eq, Debug)]
+#[derive(Clone, Copy, PartialEq, Eq, PartialOrd, Ord, Debug)]
 pub enum Operation {
     Mov,
     Sel,

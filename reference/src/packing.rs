@@ -1,9 +1,10 @@
 //! Packing and unpacking a kernel (paper: after the table of "When the bench says no").
 
 use crate::dictionary::Dictionary;
+use crate::look_up::LookUp;
 use crate::operations::Operation;
 use crate::rules::{Instruction, Program};
-use crate::words::{shorten, LongWord, ShortWord};
+use crate::words::{shorten_by, Finder, LongWord, ShortWord};
 
 /// An instruction as it will be laid down.
 #[derive(Clone, Copy, PartialEq, Eq, Debug)]
@@ -23,8 +24,17 @@ impl Laid {
 
 /// The packed kernel: each word that can be shortened is.
 pub fn pack(program: &Program, dictionary: &Dictionary) -> Vec<u8> {
+    pack_by(dictionary, program, dictionary)
+}
+
+/// The same, with numbers looked up in sets that are made once for the dictionary.
+pub fn pack_by_look_up(program: &Program, dictionary: &Dictionary) -> Vec<u8> {
+    pack_by(&LookUp::of(dictionary), program, dictionary)
+}
+
+fn pack_by(finder: &impl Finder, program: &Program, dictionary: &Dictionary) -> Vec<u8> {
     let laid = program.instructions.iter().map(|instruction| {
-        match shorten(instruction.word, dictionary) {
+        match shorten_by(finder, instruction.word, dictionary) {
             Some(short) => Laid::Short(short),
             None => Laid::Long(instruction.word),
         }

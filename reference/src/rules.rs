@@ -209,9 +209,27 @@ fn control_is_served(word: LongWord, operation: Operation) -> bool {
         && word.accumulator_write_control() == 0
         && power_of_code(word.execution_size_code()).is_some()
         && quarter_is_served
-        && word.predicate_control() <= 1
+        && predicate_is_served(word)
         && condition_is_served
         && (word.saturate() == 0 || operation.may_saturate())
+}
+
+/// How many channels vote together by a code of PredCtrl. None if the code is not served.
+pub fn group_size(predicate_control: u32) -> Option<usize> {
+    match predicate_control {
+        0 | 1 => Some(1),
+        4 | 5 => Some(2),
+        6 | 7 => Some(4),
+        8 | 9 => Some(8),
+        10 | 11 => Some(16),
+        _ => None,
+    }
+}
+
+/// Rule 7, PredCtrl: a code that is served, and no group larger than ExecSize.
+fn predicate_is_served(word: LongWord) -> bool {
+    let size = power_of_code(word.execution_size_code()).unwrap_or(0);
+    group_size(word.predicate_control()).is_some_and(|group| group <= size)
 }
 
 /// Rule 7, what branches need beside. Their quarter is 0 already, since no branch has size 8.
@@ -221,7 +239,7 @@ fn branch_is_served(word: LongWord, operation: Operation) -> bool {
         let distance = word.source(1);
         let is_d_immediate =
             distance.file == FILE_IMMEDIATE && distance.type_code == ElementType::D.code();
-        return size == Some(1) && is_d_immediate;
+        return size == Some(1) && is_d_immediate && word.predicate_control() <= 1;
     }
     size == Some(16) && word.quarter_control() == 0 && word.write_enable_control() == 0
 }
@@ -262,7 +280,7 @@ fn operands_obey(word: LongWord, operation: Operation) -> bool {
     immediates_obey(word, operation)
         && modifiers_obey(word, operation)
         && types_obey(word, operation)
-        && (operation != Operation::Sel || word.predicate_control() == 1)
+        && (operation != Operation::Sel || word.predicate_control() != 0)
 }
 
 /// Rule 8: an immediate only as last source, a word immediate with equal halves.

@@ -9,7 +9,8 @@
 //!
 //! A size in channels stands in parentheses, a subregister counts elements of the operand's
 //! type, a number with a type is an immediate. `.sat` saturates; `-`, `|` and `-|` before a
-//! register are the modifiers. Words are long, so that instruction n starts at place 2n.
+//! register are the modifiers. `(+f0.0.any4h)` asks for any, `.all4h` for all of the flag's
+//! bits in the channel's group of 4; groups are of 2, 4, 8 or 16. Words are long, so that instruction n starts at place 2n.
 //!
 //! A text that no word can hold as it stands is refused. What the bench refuses is not: a
 //! reviewer may write it in order to see the refusal.
@@ -29,6 +30,9 @@ const CONDITIONS: [&str; 6] = ["z", "nz", "g", "ge", "l", "le"];
 
 /// The flags, in the order of their codes.
 const FLAGS: [&str; 2] = ["f0.0", "f0.1"];
+
+/// The votes of a predicate, in the order of PredCtrl's codes from 4 on.
+const VOTES: [&str; 8] = ["any2h", "all2h", "any4h", "all4h", "any8h", "all8h", "any16h", "all16h"];
 
 /// What is wrong with a text. `assemble` puts the line's number, from 1 on, before it.
 pub type Fault = String;
@@ -166,8 +170,8 @@ fn condition(name: &str) -> Result<u32, Fault> {
     Ok(found.ok_or_else(unknown)? as u32 + 1)
 }
 
-/// A flag, and whether the predicate is inverted.
-type Predicate = (u32, bool);
+/// A flag, PredCtrl's code, and whether the predicate is inverted.
+type Predicate = (u32, u32, bool);
 
 /// A condition's code and the flag it writes.
 type Condition = (u32, u32);
@@ -178,7 +182,18 @@ fn predicate(line: &str) -> Result<(Option<Predicate>, &str), Fault> {
     let (inner, rest) = inner.split_once(')').ok_or("the predicate has no closing parenthesis")?;
     let name = inner.strip_prefix(['+', '-']);
     let name = name.ok_or_else(|| format!("predicate ({inner}) does not start with + or -"))?;
-    Ok((Some((flag(name)?, inner.starts_with('-'))), rest.trim_start()))
+    let (name, control) = match name.match_indices('.').nth(1) {
+        Some((dot, _)) => (&name[..dot], vote(&name[dot + 1..])?),
+        None => (name, 1),
+    };
+    Ok((Some((flag(name)?, control, inner.starts_with('-'))), rest.trim_start()))
+}
+
+/// PredCtrl's code for any or all in a group.
+fn vote(name: &str) -> Result<u32, Fault> {
+    let found = VOTES.iter().position(|listed| *listed == name);
+    let unknown = || format!("unknown vote .{name}: there are {}", VOTES.join(", "));
+    Ok(found.ok_or_else(unknown)? as u32 + 4)
 }
 
 /// A condition with its flag, which is the first operand, and the other operands.
@@ -202,13 +217,13 @@ fn with_flags(
     predicate: Option<Predicate>,
     condition: Option<Condition>,
 ) -> Result<LongWord, Fault> {
-    if let (Some((read, _)), Some((_, written))) = (predicate, condition) {
+    if let (Some((read, ..)), Some((_, written))) = (predicate, condition) {
         if read != written {
             return Err(format!("two flags, f0.{read} and f0.{written}: a word has one"));
         }
     }
-    if let Some((flag, inverted)) = predicate {
-        word = word.predicated(flag, inverted);
+    if let Some((flag, control, inverted)) = predicate {
+        word = word.predicated(flag, inverted).voting(control);
     }
     if let Some((code, flag)) = condition {
         word = word.conditioned(code, flag);

@@ -224,56 +224,88 @@ pub fn expand(word: ShortWord, dictionary: &Dictionary) -> LongWord {
     )
 }
 
-/// The least index at which a table's number, looked at through the mask, is the wanted one.
-fn least_index(table: &Table, mask: u32, wanted: u32) -> Option<u64> {
-    let found = table.iter().position(|number| number & mask == wanted);
-    found.map(|index| index as u64)
+/// Which numbers of the dictionary a look-up asks for. In immediate form a subregister entry's
+/// top five bits are overwritten, so the subregister table is then searched by its low ten bits.
+#[derive(Clone, Copy, PartialEq, Eq, Debug)]
+pub enum Search {
+    Control,
+    Datatype,
+    Subregister,
+    LowTen,
+    Source,
+}
+
+/// Finds the least index at which a table's number is the wanted one.
+pub trait Finder {
+    fn least_index(&self, search: Search, wanted: u32) -> Option<u64>;
+}
+
+/// The simple way: one number of the table after the other.
+impl Finder for Dictionary {
+    fn least_index(&self, search: Search, wanted: u32) -> Option<u64> {
+        let (table, mask) = match search {
+            Search::Control => (&self.control, u32::MAX),
+            Search::Datatype => (&self.datatype, u32::MAX),
+            Search::Subregister => (&self.subregister, u32::MAX),
+            Search::LowTen => (&self.subregister, 0x3FF),
+            Search::Source => (&self.source, u32::MAX),
+        };
+        let found = table.iter().position(|number| number & mask == wanted);
+        found.map(|index| index as u64)
+    }
 }
 
 /// The least short word that expands to this long word, if there is one. The five indices
 /// lie in separate bits and each is free of the others, so the least word has the least
-/// index of each table. In immediate form the entry's top five bits are overwritten, so the
-/// subregister table is searched by its low ten bits. Whatever a short word can't carry is
-/// caught by expanding the candidate again. Branches have no short form.
+/// index of each table. Whatever a short word can't carry is caught by expanding the candidate
+/// again. Branches have no short form.
 pub fn shorten(word: LongWord, dictionary: &Dictionary) -> Option<ShortWord> {
+    shorten_by(dictionary, word, dictionary)
+}
+
+/// The same, each index found as the finder does it.
+pub fn shorten_by(
+    finder: &impl Finder,
+    word: LongWord,
+    dictionary: &Dictionary,
+) -> Option<ShortWord> {
     if Operation::from_opcode(word.opcode()).is_some_and(Operation::is_branch) {
         return None;
     }
-    let candidate = candidate(word, dictionary)?;
+    let candidate = candidate(word, finder)?;
     (expand(candidate, dictionary) == word).then_some(candidate)
 }
 
 /// A short word with the least index for each part of the long word.
-fn candidate(word: LongWord, dictionary: &Dictionary) -> Option<ShortWord> {
-    let whole = u32::MAX;
+fn candidate(word: LongWord, finder: &impl Finder) -> Option<ShortWord> {
     let immediate = word.is_immediate_form();
     let control = (word.saturate() << 16) | word.field(23, 8);
     let datatype = (word.field(63, 61) << 15) | word.field(46, 32);
     let low_ten = (word.field(68, 64) << 5) | word.field(52, 48);
     let subregister = match immediate {
-        true => least_index(&dictionary.subregister, 0x3FF, low_ten)?,
+        true => finder.least_index(Search::LowTen, low_ten)?,
         false => {
             let wanted = (word.field(100, 96) << 10) | low_ten;
-            least_index(&dictionary.subregister, whole, wanted)?
+            finder.least_index(Search::Subregister, wanted)?
         }
     };
     let (source1, register1) = match immediate {
         true => (word.field(108, 104) as u64, word.field(103, 96)),
         false => {
-            let index = least_index(&dictionary.source, whole, word.field(120, 109))?;
+            let index = finder.least_index(Search::Source, word.field(120, 109))?;
             (index, word.field(108, 101))
         }
     };
     let number = word.opcode() as u64
         | (word.debug_control() as u64) << 7
-        | least_index(&dictionary.control, whole, control)? << 8
-        | least_index(&dictionary.datatype, whole, datatype)? << 13
+        | finder.least_index(Search::Control, control)? << 8
+        | finder.least_index(Search::Datatype, datatype)? << 13
         | subregister << 18
         | (word.accumulator_write_control() as u64) << 23
         | (word.condition_modifier() as u64) << 24
         | (word.flag_choice() as u64) << 28
         | 1 << SHORT_BIT
-        | least_index(&dictionary.source, whole, word.field(88, 77))? << 30
+        | finder.least_index(Search::Source, word.field(88, 77))? << 30
         | source1 << 35
         | (word.destination().register as u64) << 40
         | (word.source(0).register as u64) << 48

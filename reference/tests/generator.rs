@@ -128,6 +128,103 @@ fn masked_compares_of_set_flags_come_up() {
     assert_eq!(seen.len(), 8);
 }
 
+/// The bytes of a case's kernel, if its call takes one.
+fn kernel_of(case: &Case) -> Option<&[u8]> {
+    match &case.call {
+        Call::Check { kernel } | Call::Decode { kernel, .. } => Some(kernel),
+        Call::Pack { kernel, .. } | Call::Unpack { kernel, .. } => Some(kernel),
+        Call::Step { kernel, .. } | Call::Run { kernel, .. } => Some(kernel),
+        _ => None,
+    }
+}
+
+/// Each vote comes up in kernels that are run: on operations with operands and on sel, in both
+/// quarters where the group fits, on each branch but jmpi, inverted and not.
+#[test]
+fn votes_come_up() {
+    let mut seen: BTreeSet<(u32, Operation, u32, u32)> = BTreeSet::new();
+    for case in (8..SEEDS).step_by(9).map(case) {
+        if Answer::of(outcome(&case).answer).number < 20 {
+            continue;
+        }
+        let kernel = kernel_of(&case).expect("a run has a kernel");
+        let dictionary = Dictionary::read(&case.dictionary).expect("judged");
+        let program = read_kernel(kernel, &dictionary, Accepts::LongAndShort);
+        for made in program.expect("judged").instructions {
+            let word = made.word;
+            let (quarter, inverse) = (word.quarter_control(), word.predicate_inverse());
+            seen.insert((word.predicate_control(), made.operation, quarter, inverse));
+        }
+    }
+    for (control, inverse) in (4..12).flat_map(|control| [(control, 0), (control, 1)]) {
+        for operation in [Operation::Add, Operation::Sel, Operation::Cmp] {
+            assert!(seen.contains(&(control, operation, 0, inverse)), "{control} {operation:?}");
+            let second = seen.contains(&(control, operation, 1, inverse));
+            assert_eq!(second, control < 10, "{control} {operation:?}, second quarter");
+        }
+        for operation in [Operation::If, Operation::Else, Operation::Endif, Operation::While] {
+            assert!(seen.contains(&(control, operation, 0, inverse)), "{control} {operation:?}");
+        }
+    }
+}
+
+/// Each vote is taken in a step on a group of which some bits are 1 and some 0, and on a group
+/// with awake channels that the bit of another channel decides.
+#[test]
+fn groups_that_differ_come_up() {
+    let mut seen: BTreeSet<(u32, bool)> = BTreeSet::new();
+    let cases = (7..SEEDS).step_by(9).filter_map(|seed| stepped(&case(seed)));
+    for (instruction, state) in cases {
+        let word = instruction.word;
+        let control = word.predicate_control();
+        if instruction.operation == Operation::Nop || control < 4 {
+            continue;
+        }
+        let flag = state.flags[word.flag_choice() as usize] as u32;
+        let size = 1 << (control / 2 - 1);
+        let ones = (1u32 << size) - 1;
+        let against = if control % 2 == 0 { 0 } else { ones };
+        for first in (0..16).step_by(size) {
+            let (bits, awake) = ((flag >> first) & ones, (state.awake as u32 >> first) & ones);
+            let deciding = bits ^ against;
+            if deciding != 0 && deciding != ones {
+                seen.insert((control, awake != 0 && deciding & awake == 0));
+            }
+        }
+    }
+    let all = (4..12).flat_map(|control| [(control, false), (control, true)]).collect();
+    assert_eq!(seen, all);
+}
+
+/// Words refused for their PredCtrl come up with every code that is not served, with a group
+/// larger than ExecSize at every size, and on jmpi with a vote.
+#[test]
+fn refused_votes_come_up() {
+    let mut codes: BTreeSet<u32> = BTreeSet::new();
+    let mut sizes: BTreeSet<u32> = BTreeSet::new();
+    let mut jumps = 0;
+    for case in (0..SEEDS).map(case) {
+        let Some(kernel) = kernel_of(&case) else { continue };
+        let answer = Answer::of(outcome(&case).answer);
+        let Some(bytes) = kernel.get(answer.at..answer.at + 16) else { continue };
+        let number = u128::from_le_bytes(bytes.try_into().expect("16 bytes"));
+        if answer.number != 7 || (number >> 29) & 1 == 1 {
+            continue;
+        }
+        let (control, size) = ((number >> 16) as u32 & 15, (number >> 21) as u32 & 7);
+        match control {
+            0 | 1 => {}
+            2 | 3 | 12.. => _ = codes.insert(control),
+            _ if number & 0x7F == 0x20 => jumps += 1,
+            _ if control / 2 - 1 > size => _ = sizes.insert(size),
+            _ => {}
+        }
+    }
+    assert_eq!(codes, BTreeSet::from([2, 3, 12, 13, 14, 15]));
+    assert_eq!(sizes, BTreeSet::from([0, 1, 2, 3]));
+    assert!(jumps > 0);
+}
+
 /// Packing and unpacking again gives the first kernel back.
 #[test]
 fn packing_and_back() {

@@ -207,6 +207,24 @@ fn flags() {
     all_refused(&["(+f0.0) (+f0.0) nop(1)"], &["unknown operation ''"]);
 }
 
+#[test]
+fn votes() {
+    let names = ["any2h", "all2h", "any4h", "all4h", "any8h", "all8h", "any16h", "all16h"];
+    for (control, name) in (4..).zip(names) {
+        let line = |sign, flag| format!("({sign}{flag}.{name}) nop(16)");
+        let places = [(19, 16), (20, 20), (89, 89)];
+        assert_eq!(fields(&line("+", "f0.0"), places), [control, 0, 0]);
+        assert_eq!(fields(&line("-", "f0.1"), places), [control, 1, 1]);
+    }
+    let others = ["any1h", "any3h", "any2", "anyv", "allv", "any32h", "x", "", "any2h.all2h"];
+    for name in others {
+        let line = format!("(+f0.0.{name}) nop(16)");
+        all_refused(&[&line], &["unknown vote", "any2h, all2h"]);
+    }
+    all_refused(&["(+f0.2.any2h) nop(16)", "(+.f0.any2h) nop(16)"], &["is no flag"]);
+    all_refused(&["(f0.0.any2h) nop(1)"], &["does not start with + or -"]);
+}
+
 /// A word has one bit for the flag that it reads and the flag that it writes.
 #[test]
 fn one_flag_to_a_word() {

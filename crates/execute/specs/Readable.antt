@@ -8,13 +8,13 @@ use lib.Dec.{eqb, ltb, leb}
 use lib.Pow.{pow-mono}
 use borrow.Author.Tests.{leb-true, ltb-false, eqb-true, not-false}
 use Rattle.paper.specs.Limits.{registerBytes}
-use Rattle.paper.specs.Word.{Source, src0, src1, accessMode, accWrCtrl, execSize, saturate, predCtrl, condModifier, isImmediate}
+use Rattle.paper.specs.Word.{Source, src0, src1, accessMode, accWrCtrl, execSize, saturate, condModifier, isImmediate}
 use Rattle.paper.specs.Word.{grf, dstFile, dstType, dstAddrMode, srcFile, srcType, srcAddrMode}
 use Rattle.paper.specs.Operation.{Plain, traits, sources}
 use Rattle.paper.specs.Value.{IsType}
 use Rattle.paper.specs.Region.{channels, dstSize, dstElement}
 use Rattle.paper.specs.Word.{isNull}
-use Rattle.paper.specs.Legal.{anyOf, misplaced, unequalHalves, badModifier, quarterServed, conditionServed, controlServed, dstServed, srcServed, plainServed, operandRuleBroken}
+use Rattle.paper.specs.Legal.{anyOf, misplaced, unequalHalves, badModifier, quarterServed, predicateServed, conditionServed, controlServed, dstServed, srcServed, plainServed, operandRuleBroken}
 use Rattle.paper.specs.Enable.{channelOf}
 use Rattle.laws.specs.Truth.{both-true}
 use Rattle.laws.specs.Values.{listed-type}
@@ -122,7 +122,7 @@ control-saturate compares w e =
     let b = both-true (eqb (accWrCtrl w) 0) _ (a .1) in
     let c = both-true (leb (execSize w) 4) _ (b .1) in
     let d = both-true (quarterServed w) _ (c .1) in
-    let f = both-true (leb (predCtrl w) 1) _ (d .1) in
+    let f = both-true (predicateServed w) _ (d .1) in
     let g = both-true (conditionServed compares (condModifier w)) _ (f .1) in
     eqb-true (saturate w) 0 (left (eqb (saturate w) 0) (g .1))
   where

@@ -1,18 +1,19 @@
 -- The rules over an operation's sources, by the first and the second source. Assumes nothing.
 use mathlib.Core.Bool.{Bool, true, false, not, cond, _&&_, _||_}
-use mathlib.Core.Path.{_≡_, refl, sym, ap, ap₂, _∙_}
-use Prim.Native.Nat.{ℕ, _+_, _-_, _*_, _/_, _%_}
-use lib.Dec.{eqb, ltb, leb}
-use Rattle.paper.specs.Word.{Source, src0, src1, dstSubregister, dstStride, srcSubregister, isNull, isImmediate}
-use Rattle.paper.specs.Operation.{Plain, Branch, Operation, plain, nop, branch, unlisted, operation, traits, sources}
+use mathlib.Core.Path.{_≡_, ap, ap₂}
+use Prim.Native.Nat.{ℕ}
+use lib.Dec.{eqb}
+use Rattle.paper.specs.Bits.{bit}
+use Rattle.paper.specs.Word.{Source, src0, src1, execSize, dstSubregister, dstStride, srcField, srcSubregister, isNull, isImmediate}
+use Rattle.paper.specs.Operation.{Plain, Branch, Operation, plain, branch, operation, traits}
 use Rattle.paper.specs.Region.{srcRegion, dstSize, dstOrigin, dstElement}
-use Rattle.paper.specs.Legal.{anyOf, controlServed, dstServed, srcServed, plainServed}
-use Rattle.paper.specs.Legal.{misplaced, unequalHalves, badModifier, ownRuleBroken, operandRuleBroken}
-use Rattle.paper.specs.Legal.{rowEndsElsewhere, columnHasStride, elementHasStride, scalarIsWide, hangs}
+use Rattle.paper.specs.Legal.{controlServed, dstServed, srcServed, plainServed}
+use Rattle.paper.specs.Legal.{unequalHalves, badModifier, ownRuleBroken, operandRuleBroken}
 use Rattle.paper.specs.Legal.{someOperand, srcShapeBroken, shapeBroken, unaligned, alignmentBroken, tooFar, regionTooFar, lastChannel, reachBroken}
 use Rattle.paper.specs.Legal.{reservedSet, branchServed, later, refusalOf}
 use Rattle.laws.specs.Regions.{dstRegion, destination-element}
 use Rattle.words.specs.Traits.{readsTwo, two-counted}
+use Rattle.table.specs.Entries.{entryOf}
 use Rattle.judge.specs.Sources.{anySource, any-source}
 
 -- 7
@@ -46,21 +47,13 @@ some-operand p w dst src = ap (λ (b : Bool). (not (isNull w) && dst) || b) (any
 
 -- 9
 
--- The four shapes, two by two.
-pub two-by-two : (size vert wide horz : ℕ)
-    → hangs size vert wide horz
-    ≡ ((rowEndsElsewhere size vert wide horz || columnHasStride size vert wide horz)
-    || (elementHasStride size vert wide horz || scalarIsWide size vert wide horz))
-unfolding hangs
-two-by-two size vert wide horz = go (rowEndsElsewhere size vert wide horz) (columnHasStride size vert wide horz) (elementHasStride size vert wide horz || scalarIsWide size vert wide horz)
-  where
-    go : (a b d : Bool) → (a || (b || d)) ≡ ((a || b) || d)
-    go true b d = refl
-    go false b d = refl
-
 pub shape-rule : (p : Plain) (w : ℕ) → shapeBroken p w ≡ operandTest p w (eqb (dstStride w) 0) (srcShapeBroken w src0) (srcShapeBroken w src1)
 unfolding shapeBroken
 shape-rule p w = some-operand p w (eqb (dstStride w) 0) (srcShapeBroken w)
+
+-- A source's bits do not pass at ExecSize, by the table.
+abbrev pub lookRefuses : Source → ℕ → Bool
+lookRefuses x w = not (bit (entryOf (srcField x w)) (execSize w))
 
 -- 10
 pub alignment-rule : (p : Plain) (w : ℕ)

@@ -78,7 +78,7 @@ pub fn takes_signed(w: Word) -> bool
 pub fn unpredicated(w: Word) -> bool
     ensures { λ r. ⌜ r ≡ ownRuleBroken sel (toWord w) ⌝ }
 {
-    negated(pred_ctrl(w) == 1)
+    pred_ctrl(w) == 0
 }
 
 // mul takes no dword sources, shr an unsigned and asr a signed src0, sel a predicate.

@@ -6,6 +6,7 @@ use crate::regions::shape_broken;
 use crate::served::branch_served;
 use crate::served::plain_served;
 use crate::served::reserved_set;
+use table::regions::FIELDS;
 use words::bytes::Word;
 use words::fields::operation;
 use words::operation::Branch;
@@ -17,6 +18,7 @@ ghost use Rattle.paper.specs.Operation.{plain, branch};
 ghost use Rattle.paper.specs.Legal.{later, refusalOf};
 ghost use Rattle.words.specs.Operations.{plainIs, branchIs, operationIs};
 ghost use Rattle.words.specs.Words.{toWord};
+ghost use Rattle.table.specs.Entries.{regionTable};
 ghost use Rattle.judge.specs.Verdicts.{numberOf};
 
 // What the judge says of a word: it passes, or the first rule that it breaks.
@@ -31,7 +33,8 @@ pub enum Broken {
 }
 
 // 7 to 11 of an operation with operands.
-pub fn judge_plain(p: Plain, w: Word) -> Broken
+pub(crate) fn judge_plain(regions: &[u8; FIELDS], p: Plain, w: Word) -> Broken
+    requires { ⌜ now regions ≡ regionTable ⌝ }
     ensures { λ r. ⌜ numberOf r ≡ later (plain (plainIs p)) (toWord w) ⌝ }
 {
     if !plain_served(p, w) {
@@ -40,7 +43,7 @@ pub fn judge_plain(p: Plain, w: Word) -> Broken
     if operand_rule_broken(p, w) {
         return Broken::Operand;
     }
-    if shape_broken(p, w) {
+    if shape_broken(regions, p, w) {
         return Broken::Shape;
     }
     if alignment_broken(p, w) {
@@ -64,25 +67,27 @@ pub fn judge_branch(b: Branch, w: Word) -> Broken
 }
 
 // 7 to 11: only nop skips them all. What is not listed never comes this far.
-pub fn judge_operation(o: Operation, w: Word) -> Broken
+pub(crate) fn judge_operation(regions: &[u8; FIELDS], o: Operation, w: Word) -> Broken
+    requires { ⌜ now regions ≡ regionTable ⌝ }
     ensures { λ r. ⌜ numberOf r ≡ later (operationIs o) (toWord w) ⌝ }
 {
     match o {
-        Operation::Makes(p) => judge_plain(p, w),
+        Operation::Makes(p) => judge_plain(regions, p, w),
         Operation::Nop => Broken::Nothing,
         Operation::Jumps(b) => judge_branch(b, w),
         Operation::Unlisted => Broken::Nothing,
     }
 }
 
-// 6 to 11 of an expanded word: the first rule that it breaks.
-pub fn judge(w: Word) -> Broken
+// 6 to 11 of an expanded word: the first rule that it breaks. 9 of a source is looked up in the table that is lent.
+pub fn judge(regions: &[u8; FIELDS], w: Word) -> Broken
+    requires { ⌜ now regions ≡ regionTable ⌝ }
     ensures { λ r. ⌜ numberOf r ≡ refusalOf (toWord w) ⌝ }
 {
     if reserved_set(w) {
         return Broken::Reserved;
     }
-    judge_operation(operation(w), w)
+    judge_operation(regions, operation(w), w)
 }
 
 // The refusal's number, 0 for none.

@@ -3,6 +3,8 @@ use crate::logic::both;
 use crate::logic::either;
 use crate::logic::negated;
 use crate::sources::any_source;
+use table::regions::FIELDS;
+use table::regions::field_passes;
 use words::bytes::Word;
 use words::fields::Source;
 use words::fields::dst_stride;
@@ -11,7 +13,6 @@ use words::fields::dst_type;
 use words::fields::exec_size;
 use words::fields::is_immediate;
 use words::fields::is_null;
-use words::fields::part;
 use words::fields::src_field;
 use words::fields::src_subregister;
 use words::fields::src_type;
@@ -22,19 +23,18 @@ use words::region::count_of;
 use words::region::dst_region;
 use words::region::element_at;
 use words::region::src_region;
-use words::region::stride_of;
 use words::types::size_of;
-ghost use mathlib.Core.Bool.{_||_};
+ghost use mathlib.Core.Bool.{true};
 ghost use mathlib.Core.Path.{_≡_};
 ghost use Prim.Native.Nat.{_-_, _<_, _≤_};
 ghost use Rattle.paper.specs.Word.{dstSubregister, srcSubregister};
 ghost use Rattle.paper.specs.Region.{dstSize, srcRegion};
-ghost use Rattle.paper.specs.Legal.{rowEndsElsewhere, columnHasStride, elementHasStride, scalarIsWide, fieldHangs};
-ghost use Rattle.paper.specs.Legal.{shapeRefused, srcShapeBroken, shapeBroken, unaligned, alignmentBroken, tooFar, regionTooFar, lastChannel, reachBroken};
+ghost use Rattle.paper.specs.Legal.{plainServed, shapeBroken, unaligned, alignmentBroken, tooFar, regionTooFar, lastChannel, reachBroken};
 ghost use Rattle.words.specs.Operations.{plainIs};
 ghost use Rattle.words.specs.Words.{toWord, sourceIs};
 ghost use Rattle.words.specs.Regions.{regionIs, Small};
-ghost use Rattle.judge.specs.Rules.{operandTest, srcFar, dstFar};
+ghost use Rattle.table.specs.Entries.{regionTable};
+ghost use Rattle.judge.specs.Rules.{operandTest, lookRefuses, srcFar, dstFar};
 
 // The destination is not null and breaks a rule; or a source does that is read from registers.
 pub fn some_operand(p: Plain, w: Word, dst: bool, first: bool, second: bool) -> bool
@@ -47,64 +47,21 @@ pub fn some_operand(p: Plain, w: Word, dst: bool, first: bool, second: bool) -> 
 
 // ---- 9
 
-// ExecSize equal to Width with HorzStride not 0 and VertStride not Width×HorzStride; or Width 1 with HorzStride not 0.
-pub(crate) fn row_hangs(size: usize, vert: usize, wide: usize, horz: usize) -> bool
-    requires { ⌜ (wide ≤ 128) × (horz < 32768) ⌝ }
-    ensures { λ r. ⌜ r ≡ (rowEndsElsewhere size vert wide horz || columnHasStride size vert wide horz) ⌝ }
+// A source's twelve bits do not pass at this size, by one look in the table. Where 7 has passed, they are addressed directly, and so 9 refuses them.
+fn look_refuses(regions: &[u8; FIELDS], x: Source, w: Word) -> bool
+    requires { ⌜ now regions ≡ regionTable ⌝ }
+    ensures { λ r. ⌜ r ≡ lookRefuses (sourceIs x) (toWord w) ⌝ }
 {
-    let strides = negated(horz == 0);
-    let elsewhere = both(size == wide, both(strides, negated(vert == wide * horz)));
-    either(elsewhere, both(wide == 1, strides))
+    negated(field_passes(regions, src_field(x, w), exec_size(w)))
 }
 
-// ExecSize and Width both 1 with VertStride not 0; or VertStride and HorzStride both 0 with Width not 1.
-pub fn element_hangs(size: usize, vert: usize, wide: usize, horz: usize) -> bool
-    ensures { λ r. ⌜ r ≡ (elementHasStride size vert wide horz || scalarIsWide size vert wide horz) ⌝ }
-{
-    let strides = both(both(size == 1, wide == 1), negated(vert == 0));
-    either(
-        strides,
-        both(both(vert == 0, horz == 0), negated(wide == 1)),
-    )
-}
-
-// The twelve bits that say a source's region have one of the four shapes on which the machines hang.
-pub(crate) fn field_hangs(size: u64, field: u64) -> bool
-    requires { ⌜ size < 8 ⌝ }
-    ensures { λ r. ⌜ r ≡ fieldHangs size field ⌝ }
-{
-    let channels = count_of(size);
-    let vert = stride_of(part(field, 8, 4));
-    let wide = count_of(part(field, 5, 3));
-    let horz = stride_of(part(field, 3, 2));
-    either(
-        row_hangs(channels, vert, wide, horz),
-        element_hangs(channels, vert, wide, horz),
-    )
-}
-
-// A stride or width code is undefined, or ExecSize lies under Width, or the shape is one of the four.
-pub(crate) fn shape_refused(size: u64, field: u64) -> bool
-    requires { ⌜ size < 8 ⌝ }
-    ensures { λ r. ⌜ r ≡ shapeRefused size field ⌝ }
-{
-    let wide = part(field, 5, 3);
-    let narrow = either(size < wide, field_hangs(size, field));
-    either(6 < part(field, 8, 4), either(4 < wide, narrow))
-}
-
-// A source's shape is refused.
-pub fn src_shape_broken(x: Source, w: Word) -> bool
-    ensures { λ r. ⌜ r ≡ srcShapeBroken (toWord w) (sourceIs x) ⌝ }
-{
-    shape_refused(exec_size(w), src_field(x, w))
-}
-
-pub fn shape_broken(p: Plain, w: Word) -> bool
+// 9, where 7 has passed: the destination's stride is 0, or a source's region is refused.
+pub(crate) fn shape_broken(regions: &[u8; FIELDS], p: Plain, w: Word) -> bool
+    requires { ⌜ (now regions ≡ regionTable) × (plainServed (plainIs p) (toWord w) ≡ true) ⌝ }
     ensures { λ r. ⌜ r ≡ shapeBroken (plainIs p) (toWord w) ⌝ }
 {
-    let first = src_shape_broken(Source::First, w);
-    let second = src_shape_broken(Source::Second, w);
+    let first = look_refuses(regions, Source::First, w);
+    let second = look_refuses(regions, Source::Second, w);
     some_operand(p, w, dst_stride(w) == 0, first, second)
 }
 

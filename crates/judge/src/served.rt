@@ -31,11 +31,13 @@ use words::fields::we_ctrl;
 use words::operation::Branch;
 use words::operation::Plain;
 use words::operation::is_branch;
+use words::region::count_of;
 use words::traits::compares;
 use words::traits::saturates;
 ghost use mathlib.Core.Path.{_≡_};
 ghost use Rattle.paper.specs.Operation.{jmpi};
-ghost use Rattle.paper.specs.Legal.{reservedSet, quarterServed, conditionServed, controlServed, dstServed, srcServed, plainServed, structured, ownNeeds, branchServed};
+ghost use Rattle.paper.specs.Enable.{groupOf};
+ghost use Rattle.paper.specs.Legal.{reservedSet, quarterServed, predicateServed, conditionServed, controlServed, dstServed, srcServed, plainServed, structured, ownNeeds, branchServed};
 ghost use Rattle.words.specs.Operations.{plainIs, branchIs};
 ghost use Rattle.words.specs.Words.{toWord, sourceIs};
 
@@ -59,6 +61,35 @@ pub fn quarter_served(w: Word) -> bool
     either(quarter == 0, both(quarter == 1, exec_size(w) == 3))
 }
 
+// How many channels vote together, by PredCtrl.
+fn group_of(control: u64) -> usize
+    ensures { λ r. ⌜ r ≡ groupOf control ⌝ }
+{
+    if control < 4 {
+        return 1;
+    }
+    if control < 6 {
+        return 2;
+    }
+    if control < 8 {
+        return 4;
+    }
+    if control < 10 {
+        return 8;
+    }
+    16
+}
+
+// PredCtrl 0 or 1; or 4 to 11, with groups that are no larger than ExecSize.
+fn predicate_served(w: Word) -> bool
+    ensures { λ r. ⌜ r ≡ predicateServed (toWord w) ⌝ }
+{
+    let control = pred_ctrl(w);
+    let fits = group_of(control) <= count_of(exec_size(w));
+    let votes = both(both(4 <= control, control <= 11), fits);
+    either(control <= 1, votes)
+}
+
 // Condition codes 1 to 6 on cmp, 0 elsewhere.
 pub fn condition_served(comparing: bool, code: u64) -> bool
     ensures { λ r. ⌜ r ≡ conditionServed comparing code ⌝ }
@@ -76,7 +107,7 @@ pub fn control_served(comparing: bool, saturating: bool, w: Word) -> bool
 {
     let last = either(saturate(w) == 0, saturating);
     let condition = both(condition_served(comparing, cond_modifier(w)), last);
-    let predicate = both(pred_ctrl(w) <= 1, condition);
+    let predicate = both(predicate_served(w), condition);
     let size = both(exec_size(w) <= 4, both(quarter_served(w), predicate));
     both(access_mode(w) == 0, both(acc_wr_ctrl(w) == 0, size))
 }
@@ -122,7 +153,7 @@ pub fn structured(w: Word) -> bool
     both(exec_size(w) == 4, both(qtr_ctrl(w) == 0, we_ctrl(w) == 0))
 }
 
-// Size 1 and a d immediate as src1.
+// Size 1, which leaves PredCtrl 0 and 1, and a d immediate as src1.
 pub fn jumping(w: Word) -> bool
     ensures { λ r. ⌜ r ≡ ownNeeds jmpi (toWord w) ⌝ }
 {

@@ -3,6 +3,7 @@ use crate::jumps::Astray;
 use crate::jumps::first_astray;
 use crate::walk::walk;
 use short::dictionary::in_range;
+use table::regions::region_table;
 use words::answer::Answer;
 use words::limits::DICTIONARY_BYTES;
 use words::limits::KERNEL_BYTES;
@@ -36,7 +37,8 @@ pub fn accept(long: bool, dictionary: &[u8], kernel: &[u8], marks: &mut [u8; PLA
     if !in_range(dictionary) {
         return Answer::Refused(2, 0);
     }
-    let walked = walk(long, dictionary, kernel, marks);
+    let regions = region_table();
+    let walked = walk(&regions, long, dictionary, kernel, marks);
     let Answer::Told(number, count) = walked else {
         return walked;
     };

@@ -3,6 +3,7 @@ use crate::accept::is_sized;
 use crate::instruction::Judged;
 use crate::instruction::judge_at;
 use short::dictionary::in_range;
+use table::regions::region_table;
 use words::answer::Answer;
 use words::bytes::Word;
 use words::limits::PLACES;
@@ -46,7 +47,8 @@ pub fn decode(dictionary: &[u8], kernel: &[u8], place: u64) -> Decoded
         return Decoded::Refused(3, 0);
     }
     let from = 8 * (place as usize);
-    match judge_at(false, dictionary, kernel, from) {
+    let regions = region_table();
+    match judge_at(&regions, false, dictionary, kernel, from) {
         Judged::Refused(number) => Decoded::Refused(number, from as u64),
         Judged::Passed(size, w) => Decoded::Passed(size, w),
     }

@@ -1,6 +1,7 @@
 // The first pass over a kernel: 17 and 3 to 11, instruction by instruction.
 use crate::instruction::Judged;
 use crate::instruction::judge_at;
+use table::regions::FIELDS;
 use words::answer::Answer;
 use words::limits::INSTRUCTION_LIMIT;
 use words::limits::PLACES;
@@ -10,13 +11,21 @@ ghost use lib.ListN.{length};
 ghost use Rattle.paper.specs.Limits.{dictionaryBytes, kernelBytes};
 ghost use Rattle.paper.specs.Dictionary.{dictionaryOf};
 ghost use Rattle.paper.specs.Kernel.{parse};
+ghost use Rattle.table.specs.Entries.{regionTable};
 ghost use Rattle.kernel.specs.Judging.{formsIs};
 ghost use Rattle.kernel.specs.Marks.{Says};
 
 // The kernel's instructions, judged one after the other: 0 and how many there are, or the refusal of the first that is refused. In the marks that are
 // lent it sets a mark, 1, for each place at which one starts and for the end, and none elsewhere. The marks that a refused kernel leaves are working storage.
-pub(crate) fn walk(long: bool, dictionary: &[u8], kernel: &[u8], marks: &mut [u8; PLACES]) -> Answer
-    requires { ⌜ (length (now dictionary) ≡ dictionaryBytes) × (length (now kernel) ≤ kernelBytes) ⌝ }
+// The table of what source fields allow is lent, for the judge to look in.
+pub(crate) fn walk(
+    regions: &[u8; FIELDS],
+    long: bool,
+    dictionary: &[u8],
+    kernel: &[u8],
+    marks: &mut [u8; PLACES],
+) -> Answer
+    requires { ⌜ (now regions ≡ regionTable) × (length (now dictionary) ≡ dictionaryBytes) × (length (now kernel) ≤ kernelBytes) ⌝ }
     ensures { λ r. ⌜ Says (parse (formsIs long) (dictionaryOf (now (dictionary .entry))) (now (kernel .entry))) r (now (marks .exit)) ⌝ }
 {
     *marks = [0u8; PLACES];
@@ -26,7 +35,7 @@ pub(crate) fn walk(long: bool, dictionary: &[u8], kernel: &[u8], marks: &mut [u8
         if count == INSTRUCTION_LIMIT {
             return Answer::Refused(17, from as u64);
         }
-        match judge_at(long, dictionary, kernel, from) {
+        match judge_at(regions, long, dictionary, kernel, from) {
             Judged::Refused(number) => {
                 return Answer::Refused(number, from as u64);
             }

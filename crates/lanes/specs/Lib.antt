@@ -3,6 +3,7 @@ pub mod Masks
 pub mod BitLaws
 pub mod MaskLaws
 pub mod FlagLaws
+pub mod VoteLaws
 pub mod Sizes
 pub mod Values
 pub mod Mapped

@@ -11,13 +11,13 @@ use Rattle.paper.specs.Bits.{bit}
 use Rattle.paper.specs.Word.{weCtrl, qtrCtrl, predCtrl, predInv}
 use Rattle.paper.specs.Operation.{Plain}
 use Rattle.paper.specs.Store.{Store}
-use Rattle.paper.specs.Enable.{chosenFlag, holds, channelOf, enabled}
+use Rattle.paper.specs.Enable.{chosenFlag, predicate, holds, channelOf, enabled}
 use Rattle.paper.specs.Operation.{traits}
 use Rattle.paper.specs.Effect.{isOn}
 use Rattle.paper.specs.Machine.{Channel, off, isAwake}
 use Rattle.paper.specs.State.{maskOf}
 use Rattle.laws.specs.Masks.{ofBits-less, bit-ofBits}
-use Rattle.lanes.specs.Masks.{holdsOf, predicateMask, unmaskedMask, passedMask, enabledOf, enableMask, quarterMask, raisedMask, awakeFrom, awakeList}
+use Rattle.lanes.specs.Masks.{predicateMask, unmaskedMask, passedMask, enabledOf, enableMask, quarterMask, raisedMask, awakeFrom, awakeList}
 use Rattle.lanes.specs.BitLaws.{bit-shr, bit-shl, and-ofBits}
 
 -- ---- masks in general
@@ -25,7 +25,7 @@ use Rattle.lanes.specs.BitLaws.{bit-shr, bit-shl, and-ofBits}
 -- The masks have 16 bits.
 pub predicateMask-less : (predCtrl predInv flag : ℕ) → predicateMask predCtrl predInv flag < 2 ^ 16
 unfolding predicateMask
-predicateMask-less predCtrl predInv flag = ofBits-less (holdsOf predCtrl predInv flag) 16
+predicateMask-less predCtrl predInv flag = ofBits-less (predicate predCtrl predInv flag) 16
 
 pub enableMask-less : (weCtrl : ℕ) (masks : Bool) (awake predicate : ℕ) → enableMask weCtrl masks awake predicate < 2 ^ 16
 unfolding enableMask
@@ -47,19 +47,14 @@ bit-raised mask quarter n = bit-shl mask (8 * quarter) n
 
 -- ---- predicates
 
--- The paper's predicate is that of the word's fields.
-pub holds-fields : (w : ℕ) (st : Store) (m : ℕ) → holds w st m ≡ holdsOf (predCtrl w) (predInv w) (chosenFlag w st) m
-unfolding holds holdsOf
-holds-fields w st m = refl
-
 -- The mask that the predicate's fields make for a word.
 abbrev pub predicateOf : ℕ → Store → ℕ
 predicateOf w st = predicateMask (predCtrl w) (predInv w) (chosenFlag w st)
 
 -- Its bit m is channel m's predicate.
 pub bit-predicate : (w : ℕ) (st : Store) (m : ℕ) → m < 16 → bit (predicateOf w st) m ≡ holds w st m
-unfolding predicateMask
-bit-predicate w st m h = bit-ofBits _ 16 m h ∙ sym (holds-fields w st m)
+unfolding predicateMask holds
+bit-predicate w st m h = bit-ofBits (predicate (predCtrl w) (predInv w) (chosenFlag w st)) 16 m h
 
 -- ---- enabled channels
 

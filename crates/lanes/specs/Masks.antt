@@ -2,20 +2,36 @@
 -- Assumes nothing.
 use mathlib.Core.Bool.{Bool, true, not, cond, _&&_, _||_}
 use mathlib.Core.List.{List, [], _∷_}
-use Prim.Native.Nat.{ℕ, zero, suc, _+_, _*_, _/_, _^_}
+use Prim.Native.Nat.{ℕ, zero, suc, _+_, _-_, _*_, _/_, _%_, _^_}
 use lib.Dec.{eqb}
 use Rattle.paper.specs.Bits.{bit}
-use Rattle.paper.specs.Enable.{digit, ofBits}
+use Rattle.paper.specs.Enable.{anyBit, groupStart, vote, predicate, digit, ofBits}
 
--- ---- predicates
+-- ---- votes
 
--- The predicate of channel m, by PredCtrl, PredInv and the chosen flag.
-unfoldable pub holdsOf : ℕ → ℕ → ℕ → ℕ → Bool
-holdsOf predCtrl predInv flag m = cond (eqb predCtrl 0) true (cond (eqb predInv 1) (not (bit flag m)) (bit flag m))
+-- The channels of the lower half in each pair of neighbouring halves of h channels, from channel 0 on.
+unfoldable pub lowerHalves : ℕ → ℕ
+lowerHalves h = ofBits (λ m. eqb (m / h % 2) 0) 16
 
--- The channels whose predicate holds.
+-- The channel that stands in the other half where channel m stands in its own.
+abbrev pub opposite : ℕ → ℕ → ℕ
+opposite h m = cond (eqb (m / h % 2) 0) (m + h) (m - h)
+
+-- A mask in which each channel has taken in its opposite's bit.
+unfoldable pub joinedMask : ℕ → ℕ → ℕ
+joinedMask h mask = ofBits (λ m. bit mask m || bit mask (opposite h m)) 16
+
+-- The channels in whose group of g some bit of the flag is 1.
+unfoldable pub anyMask : ℕ → ℕ → ℕ
+anyMask g flag = ofBits (λ m. anyBit flag (groupStart g m) g) 16
+
+-- The channels whose group votes for it, by PredCtrl.
+unfoldable pub voteMask : ℕ → ℕ → ℕ
+voteMask predCtrl flag = ofBits (vote predCtrl flag) 16
+
+-- The channels whose predicate holds, by PredCtrl, PredInv and the chosen flag.
 unfoldable pub predicateMask : ℕ → ℕ → ℕ → ℕ
-predicateMask predCtrl predInv flag = ofBits (holdsOf predCtrl predInv flag) 16
+predicateMask predCtrl predInv flag = ofBits (predicate predCtrl predInv flag) 16
 
 -- ---- enabled channels
 

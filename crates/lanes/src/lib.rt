@@ -4,3 +4,4 @@ pub mod load;
 pub mod mask;
 pub mod scatter;
 pub mod store;
+mod votes;

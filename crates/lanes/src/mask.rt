@@ -1,4 +1,5 @@
 // Masks of channels: numbers of 16 bits, bit m being channel m's.
+use crate::votes::vote_mask;
 ghost use mathlib.Core.Path.{_≡_};
 ghost use Prim.Native.Nat.{_*_, _<_};
 ghost use Rattle.paper.specs.Bits.{bit};
@@ -12,17 +13,18 @@ pub fn bit(mask: u64, k: u64) -> bool
     (mask >> k) % 2 == 1
 }
 
-// The channels whose predicate holds, by PredCtrl and PredInv: all if there is no predicate, else those of the flag, or the others if inverted.
+// The channels whose predicate holds, by PredCtrl and PredInv: all if there is no predicate, else those whose group votes for it, or the others if inverted.
 pub fn predicate_mask(flag: u64, control: u64, inversion: u64) -> u64
     ensures { λ r. ⌜ (r ≡ predicateMask control inversion flag) × (r < 65536) ⌝ }
 {
     if control == 0 {
         return 65535;
     }
+    let votes = vote_mask(flag, control);
     if inversion == 1 {
-        return 65535 - flag % 65536;
+        return 65535 - votes;
     }
-    flag % 65536
+    votes
 }
 
 // The channels that may work: the awake ones, or all if WECtrl, here `force`, is 1.

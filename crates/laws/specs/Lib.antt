@@ -34,3 +34,7 @@ pub mod Calls
 pub mod Lasting
 pub mod KeptFlags
 pub mod Demands
+pub mod Otherwise
+pub mod Adding
+pub mod VotesBefore
+pub mod Votes

@@ -12,7 +12,7 @@ use lib.Dec.{eqb}
 use Rattle.paper.specs.Bits.{bits, bit, put}
 use Rattle.paper.specs.Operation.{Branch, jmpi, if, else, endif, while, Operation, plain, nop, branch, unlisted, operationOf, operation}
 use Rattle.paper.specs.Store.{Store}
-use Rattle.paper.specs.Enable.{holds}
+use Rattle.paper.specs.Enable.{predicate, holds}
 use Rattle.paper.specs.Kernel.{Instr}
 use Rattle.paper.specs.Jump.{nextOf, Distance, distancesOf, distances, targetsOf, placeOf, fetch, lands}
 use Rattle.paper.specs.Machine.{Channel, off, awake, waiting, State, Ways, wake, park, isAwake, each, someone, fork, act, perform, stepAt}
@@ -54,16 +54,10 @@ blank-alike (f ∷ fs) (clear-more c a cs) w =
       choice = r .choice ∙ put-choice f w (c .beside);
     }
 
--- The predicate by its three fields.
-predicate : ℕ → ℕ → ℕ → Store → ℕ → Bool
-predicate ctrl inv choice st n =
-    let flag : ℕ = cond (eqb choice 0) (st .flag0) (st .flag1) in
-    cond (eqb ctrl 0) true (cond (eqb inv 1) (not (bit flag n)) (bit flag n))
-
 -- Their predicates are the same.
 alike-holds : (v w : ℕ) (st : Store) → Alike v w → holds v st ≡ holds w st
-unfolding holds predicate
-alike-holds v w st a = λ i n. predicate (a .ctrl i) (a .inv i) (a .choice i) st n
+unfolding holds
+alike-holds v w st a = λ i n. predicate (a .ctrl i) (a .inv i) (cond (eqb (a .choice i) 0) (st .flag0) (st .flag1)) n
 
 -- A branch depends on its word by the predicate alone.
 act-alike : (b : Branch) (v w : ℕ) (ways : Ways) (st : Store) (cs : List Channel) → holds v st ≡ holds w st → act b v ways st cs ≡ act b w ways st cs

@@ -28,7 +28,7 @@ pub record Walked (P : ℕ → ℕ → ℕ → Type 0) (end n from : ℕ) (k : L
 abbrev pub Brings : (ℕ → Judged) → ℕ → (ℕ → ℕ → ℕ → Type 0) → Type 0
 Brings judge end P = (from size w : ℕ) → from < end → judge from ≡ passed size w → (0 < size) × (from + 8 * size ≤ end) × P from size w
 
-prepend-good : (i : Instr) (q : Parsed) (k : List Instr) → prepend i q ≡ good k → (r : List Instr) × (q ≡ good r) × (k ≡ i ∷ r)
+pub prepend-good : (i : Instr) (q : Parsed) (k : List Instr) → prepend i q ≡ good k → (r : List Instr) × (q ≡ good r) × (k ≡ i ∷ r)
 prepend-good i (bad n o) k e = let z : _≡_ {A = ℕ} 0 1 = cc in absurd (omega arith)
 prepend-good i (good r) k e = (r, refl, cc)
 

@@ -1,7 +1,11 @@
 -- Which form each word gets, and which kernels are taken. Assumes nothing.
-use mathlib.Core.Bool.{Bool, true, false}
+use mathlib.Core.Bool.{Bool, true, false, cond}
 use mathlib.Core.List.{List}
+use mathlib.Core.Option.{Option, none, some}
+use mathlib.Core.Path.{_≡_}
 use Prim.Native.Nat.{ℕ}
+use lib.Dec.{eqb}
+use borrow.Author.Tests.{eq-eqb, ne-eqb}
 use Rattle.paper.specs.Dictionary.{Dictionary, dictionaryOf}
 use Rattle.paper.specs.Shorten.{shorten}
 use Rattle.paper.specs.Kernel.{Instr}
@@ -16,6 +20,16 @@ use Rattle.kernel.specs.Accepting.{AcceptedKernel}
 abbrev pub formOf : Bool → Dictionary → Form
 formOf true D = shorten D
 formOf false D = longForm
+
+-- The short word that a number stands for where forms are kept: 0 is none.
+abbrev pub recalled : ℕ → Option ℕ
+recalled short = cond (eqb short 0) none (some short)
+
+pub recalled-none : (short : ℕ) → short ≡ 0 → recalled short ≡ none
+recalled-none short h = rw (eq-eqb short 0 h)
+
+pub recalled-some : (short : ℕ) → (short ≡ 0 → ⊥) → recalled short ≡ some short
+recalled-some short h = rw (ne-eqb short 0 h)
 
 -- The instructions of a kernel, which is packed from long words only; none of one that is refused.
 unfoldable pub kernelOf : Bool → List ℕ → List ℕ → List Instr

@@ -2,6 +2,7 @@
 pub mod Forms
 pub mod Pieces
 pub mod Stages
+pub mod Keeping
 pub mod Rewriting
 pub mod Written
 pub mod Answers

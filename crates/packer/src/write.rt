@@ -1,5 +1,5 @@
 // The second pass: the instructions written where they come to stand.
-use crate::form::form;
+use crate::form::SHORTS;
 use crate::form::places_taken;
 use distances::branch::Distances;
 use distances::branch::distances_in;
@@ -7,7 +7,6 @@ use distances::distance::aim;
 use distances::distance::place_of;
 use distances::distance::reach;
 use kernel::fetch::word_at;
-use short::shorten::Shorter;
 use words::bytes::Word;
 use words::bytes::write8;
 use words::bytes::write16;
@@ -20,27 +19,28 @@ ghost use Rattle.paper.specs.Dictionary.{dictionaryOf};
 ghost use Rattle.paper.specs.Operation.{operation};
 ghost use Rattle.paper.specs.Jump.{distances};
 ghost use Rattle.paper.specs.Packing.{placesTaken, encode, aimed};
-ghost use Rattle.short.specs.Shorter.{shorterIs};
 ghost use Rattle.words.specs.Words.{toWord};
 ghost use Rattle.kernel.specs.Marks.{placeCount};
 ghost use Rattle.kernel.specs.Jumps.{instrOf};
-ghost use Rattle.packer.specs.Forms.{formOf, kernelOf, Taken, resultOf, resultEnd};
+ghost use Rattle.packer.specs.Forms.{formOf, recalled, kernelOf, Taken, resultOf, resultEnd};
 ghost use Rattle.packer.specs.Stages.{Placed, newPlaces, Reaches};
+ghost use Rattle.packer.specs.Keeping.{AllKept};
 
 // Stores a word in its form from byte `from` on.
-fn write_word(a: Shorter, w: Word, out: &mut [u8], from: usize)
-    requires { ⌜ from + 8 * placesTaken (shorterIs a) ≤ length (now out) ⌝ }
+fn write_word(short: u64, w: Word, out: &mut [u8], from: usize)
+    requires { ⌜ from + 8 * placesTaken (recalled short) ≤ length (now out) ⌝ }
     ensures { λ r. ⌜ now (out .exit) ≡ take from (now (out .entry))
-        ++ (encode (shorterIs a) (toWord w) ++ drop (from + 8 * placesTaken (shorterIs a)) (now (out .entry))) ⌝ }
+        ++ (encode (recalled short) (toWord w) ++ drop (from + 8 * placesTaken (recalled short)) (now (out .entry))) ⌝ }
 {
-    match a {
-        Shorter::Short(s) => write8(out, from, s),
-        Shorter::NoShort => write16(out, from, w),
+    if short == 0 {
+        write16(out, from, w);
+    } else {
+        write8(out, from, short);
     }
 }
 
 // The word w of an instruction of `size` places from the old place `here` on, which comes to stand from `to` to `next`, with its distances rewritten.
-fn rewrite(places: &[u64; PLACES], w: Word, here: u64, size: u64, to: u64, next: u64) -> Word
+fn rewrite(places: &[u16; PLACES], w: Word, here: u64, size: u64, to: u64, next: u64) -> Word
     requires { ⌜ (here < placeCount) × (size ≤ 2) × (to < placeCount) × (next < placeCount) × Reaches (now places) (instrOf here size (toWord w)) ⌝ }
     ensures { λ r. ⌜ toWord r ≡ aimed (distances (operation (toWord w))) (toWord w) to next (newPlaces (now (places .entry)) (instrOf here size (toWord w))) ⌝ }
 {
@@ -49,37 +49,41 @@ fn rewrite(places: &[u64; PLACES], w: Word, here: u64, size: u64, to: u64, next:
         Distances::Nothing => w,
         Distances::One(d) => {
             let old = place_of(reach(d, w, here, here + size)) as usize;
-            let new = places[old];
+            let new = places[old] as u64;
             aim(d, w, to, next, new)
         }
     }
 }
 
-// The kernel's instructions as the output's first bytes.
+// The kernel's instructions, in the forms that were kept, as the output's first bytes.
 pub(crate) fn write_all(
     packs: bool,
     dictionary: &[u8],
     kernel: &[u8],
-    places: &[u64; PLACES],
+    shorts: &[u64; SHORTS],
+    places: &[u16; PLACES],
     out: &mut [u8],
 )
     requires { ⌜ Taken packs (now dictionary) (now kernel) ⌝ }
     requires { ⌜ Placed (formOf packs (dictionaryOf (now dictionary))) (kernelOf packs (now dictionary) (now kernel)) (now places) ⌝ }
+    requires { ⌜ AllKept (formOf packs (dictionaryOf (now dictionary))) (kernelOf packs (now dictionary) (now kernel)) (now shorts) ⌝ }
     requires { ⌜ 8 * resultEnd packs (now dictionary) (now kernel) ≤ length (now out) ⌝ }
     ensures { λ r. ⌜ now (out .exit) ≡ resultOf packs (now (dictionary .entry)) (now (kernel .entry))
         ++ drop (8 * resultEnd packs (now (dictionary .entry)) (now (kernel .entry))) (now (out .entry)) ⌝ }
 {
     let mut from: usize = 0;
     let mut to: u64 = 0;
+    let mut n: usize = 0;
     while from < kernel.len() {
         let f = word_at(dictionary, kernel, from);
-        let a = form(packs, dictionary, f.word);
+        let short = shorts[n];
         let here = (from / 8) as u64;
-        let next = to + places_taken(a);
+        let next = to + places_taken(short);
         let w = rewrite(places, f.word, here, f.size, to, next);
         let at = 8 * (to as usize);
-        write_word(a, w, out, at);
+        write_word(short, w, out, at);
         to = next;
+        n += 1;
         from += 8 * (f.size as usize);
     }
 }

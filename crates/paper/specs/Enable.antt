@@ -1,7 +1,7 @@
 -- Which channels an instruction works on: predicates and enabled channels; and what cmp leaves in a flag (the paper, "Operations"). Assumes nothing.
 use mathlib.Core.Bool.{Bool, true, false, not, cond, _&&_, _||_}
 use mathlib.Core.List.{List}
-use Prim.Native.Nat.{ℕ, zero, suc, _+_, _*_, _^_}
+use Prim.Native.Nat.{ℕ, zero, suc, _+_, _*_, _/_, _%_}
 use lib.Dec.{eqb, ltb, leb}
 use lib.ListN.{getD}
 use Rattle.paper.specs.Bits.{bit, _at_}
@@ -14,11 +14,41 @@ use Rattle.paper.specs.Store.{Store}
 abbrev pub chosenFlag : ℕ → Store → ℕ
 chosenFlag w st = cond (eqb (flagChoice w) 0) (st .flag0) (st .flag1)
 
--- The predicate of channel m: with PredCtrl 0 it holds; else it is the channel's bit of the chosen flag, inverted if PredInv is 1.
+-- How many channels vote together, by PredCtrl: 2 with codes 4 and 5, 4 with 6 and 7, 8 with 8 and 9, 16 with 10 and 11. With code 1 each channel is alone, a
+-- group of one. (000, table 7-4; codes 2, 3 and 12 to 15 are not served.)
+unfoldable pub groupOf : ℕ → ℕ
+groupOf control = cond (ltb control 4) 1 (cond (ltb control 6) 2 (cond (ltb control 8) 4 (cond (ltb control 10) 8 16)))
+
+-- Some bit of the n bits of a flag from bit k on is 1.
+unfoldable pub anyBit : ℕ → ℕ → ℕ → Bool
+anyBit flag k zero = false
+anyBit flag k (suc n) = anyBit flag k n || bit flag (k + n)
+
+-- Every bit of the n bits of a flag from bit k on is 1.
+unfoldable pub allBits : ℕ → ℕ → ℕ → Bool
+allBits flag k zero = true
+allBits flag k (suc n) = allBits flag k n && bit flag (k + n)
+
+-- The first channel of channel m's group, the groups being of g channels each from channel 0 on.
+abbrev pub groupStart : ℕ → ℕ → ℕ
+groupStart g m = m / g * g
+
+-- How channel m's group votes by its bits of a flag, whether its channels are enabled or not: any with an even PredCtrl, all with an odd one.
+unfoldable pub vote : ℕ → ℕ → ℕ → Bool
+vote control flag m =
+    let g = groupOf control in
+    cond (eqb (control % 2) 0) (anyBit flag (groupStart g m) g) (allBits flag (groupStart g m) g)
+
+-- The predicate of channel m by PredCtrl, PredInv and the flag: with PredCtrl 0 it holds; else it is the vote of the channel's group, inverted if PredInv
+-- is 1.
+unfoldable pub predicate : ℕ → ℕ → ℕ → ℕ → Bool
+predicate control inversion flag m =
+    let v = vote control flag m in
+    cond (eqb control 0) true (cond (eqb inversion 1) (not v) v)
+
+-- The predicate of channel m in a word.
 unfoldable pub holds : ℕ → Store → ℕ → Bool
-holds w st m =
-    cond (eqb (predCtrl w) 0) true
-    (cond (eqb (predInv w) 1) (not (bit (chosenFlag w st) m)) (bit (chosenFlag w st) m))
+holds w st m = predicate (predCtrl w) (predInv w) (chosenFlag w st) m
 
 -- ---- enabled channels
 

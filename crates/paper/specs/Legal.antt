@@ -12,6 +12,7 @@ use Rattle.paper.specs.Word.{srcFile, srcType, srcSubregister, srcModifi
 use Rattle.paper.specs.Word.{grf, isNull, isImmediate, immediateForm}
 use Rattle.paper.specs.Operation.{Plain, Branch, jmpi, if, else, endif, while, Operation, plain, nop, branch, unlisted, operation, isBranch, traits, sources}
 use Rattle.paper.specs.Value.{isSigned}
+use Rattle.paper.specs.Enable.{groupOf}
 use Rattle.paper.specs.Region.{Region, countOf, strideOf, channels, elementAt, srcRegion, dstOrigin, dstSize, dstElement}
 
 -- Some source of the list passes the test.
@@ -34,6 +35,10 @@ reservedSet w =
 abbrev pub quarterServed : ℕ → Bool
 quarterServed w = eqb (qtrCtrl w) 0 || (eqb (qtrCtrl w) 1 && eqb (execSize w) 3)
 
+-- PredCtrl 0 or 1; or 4 to 11, with groups that are no larger than ExecSize.
+abbrev pub predicateServed : ℕ → Bool
+predicateServed w = leb (predCtrl w) 1 || ((leb 4 (predCtrl w) && leb (predCtrl w) 11) && leb (groupOf (predCtrl w)) (channels w))
+
 -- Condition codes 1 to 6 on cmp, 0 elsewhere.
 abbrev pub conditionServed : Bool → ℕ → Bool
 conditionServed compares c = cond compares (leb 1 c && leb c 6) (eqb c 0)
@@ -45,7 +50,7 @@ controlServed compares saturates w =
     && (eqb (accWrCtrl w) 0
     && (leb (execSize w) 4
     && (quarterServed w
-    && (leb (predCtrl w) 1
+    && (predicateServed w
     && (conditionServed compares (condModifier w)
     && (eqb (saturate w) 0 || saturates))))))
 
@@ -69,7 +74,7 @@ plainServed p w =
 abbrev pub structured : ℕ → Bool
 structured w = eqb (execSize w) 4 && (eqb (qtrCtrl w) 0 && eqb (weCtrl w) 0)
 
--- jmpi needs size 1 and a d immediate as src1.
+-- jmpi needs size 1, which leaves it PredCtrl 0 and 1, and a d immediate as src1.
 abbrev pub ownNeeds : Branch → ℕ → Bool
 ownNeeds jmpi w = eqb (execSize w) 0 && (isImmediate src1 w && eqb (srcType src1 w) 1)
 ownNeeds if w = structured w
@@ -101,7 +106,7 @@ abbrev pub ownRuleBroken : Plain → ℕ → Bool
 ownRuleBroken Plain.mul w = ltb (srcType src0 w) 2 || ltb (srcType src1 w) 2
 ownRuleBroken Plain.shr w = isSigned (srcType src0 w)
 ownRuleBroken Plain.asr w = not (isSigned (srcType src0 w))
-ownRuleBroken Plain.sel w = not (eqb (predCtrl w) 1)
+ownRuleBroken Plain.sel w = eqb (predCtrl w) 0
 ownRuleBroken Plain.mov w = false
 ownRuleBroken Plain.not w = false
 ownRuleBroken Plain.and w = false

@@ -10,10 +10,10 @@ pub mod Shorten
 pub mod Value
 pub mod Element
 pub mod Region
-pub mod Legal
-pub mod Restrictions
 pub mod Store
 pub mod Enable
+pub mod Legal
+pub mod Restrictions
 pub mod Effect
 pub mod Kernel
 pub mod Jump
@@ -25,4 +25,5 @@ pub mod Assembler
 pub mod Sheet
 pub mod SheetMore
 pub mod SheetRefusals
+pub mod SheetVotes
 pub mod SheetHolds

@@ -14,7 +14,7 @@ use Rattle.paper.specs.Value.{value, least, greatest, modZ, floorZ, modi
 use Rattle.paper.specs.Element.{compares, result, made, meets}
 use Rattle.paper.specs.Region.{elementAt}
 use Rattle.paper.specs.Legal.{reservedSet, controlServed, dstServed, srcServed, plainServed, branchServed, operandRuleBroken, hangs, shapeRefused, shapeBroken, alignmentBroken, tooFar, reachBroken, later, refusalOf}
-use Rattle.paper.specs.Enable.{holds, enabled, ofBits, flagBit, flagAfter}
+use Rattle.paper.specs.Enable.{groupOf, anyBit, allBits, vote, predicate, holds, enabled, ofBits, flagBit, flagAfter}
 use Rattle.paper.specs.Effect.{patternAt, operand, channelStores, scattered, registersAfter, finds, comparedFlag, plainEffect, effect}
 use Rattle.paper.specs.Kernel.{judgeShort, judgeLong, judgeAt, walk, parse}
 use Rattle.paper.specs.Jump.{fetch, endFrom, lands, firstAstray, withJumps}
@@ -25,12 +25,13 @@ use Rattle.paper.specs.Calls.{deliver, judgedKernel, accepted, checkCall
 use Rattle.paper.specs.Assembler.{dwords, to, from0, from1, immediate0, immediate1, op, structuredTo, jmpiTo, nopWord, long, copies, numbers, zeros, blankDictionary, dictionaryA, clear, ramp, begin}
 use Rattle.paper.specs.SheetMore.{loads, rowsLoad, stores, rowsStore, rowsOperation, says, rowsCompare, one, r4, masks, sevens, against, rowsEnable, rowsFlag, ranOver, stateIs, rowsBranch}
 use Rattle.paper.specs.SheetRefusals.{second, secondWord, movWith, shortNop, addWith, rowsKernel, rowsWord, movBy, rowsShape}
+use Rattle.paper.specs.SheetVotes.{predicates, rowsVote, rowsVoted, votesAt, branchVotes, selVotes, rowsVoteRefused}
 use Rattle.paper.specs.SheetMore.{repeated, rowsRepeated}
 use Rattle.paper.specs.Sheet.{Row, _gives_, shown, written, whole, count, room, longA, shortA, rowsA, dictionaryB, shortenB, rowsB, storedW, rowsCDEF, rowsG, kernelH, stepsH, rowsH, kernelI, rowsI}
 
 -- All rows of a list hold: what is computed is what is said. To open this definition is to open all that a row computes with.
 unfoldable pub Hold : List Row → Type 0
-unfolding number numberAt bytesOf putAt immediateForm dictionaryOf tableWidth fitBelow expandLow expandHigh expand operationOf firstFrom indexOf shortWord shortenImmediate shortenRegister shortenHalves shorten value least greatest modZ floorZ modified clampTo stored compares result elementAt reservedSet controlServed dstServed srcServed plainServed branchServed operandRuleBroken hangs shapeRefused shapeBroken alignmentBroken tooFar reachBroken later refusalOf holds enabled ofBits flagBit flagAfter made meets patternAt operand channelStores scattered registersAfter finds comparedFlag plainEffect effect judgeShort judgeLong judgeAt walk parse fetch endFrom lands firstAstray withJumps wake park each someone onward act perform stepOn runWith startFrom channelIn oneOfThree channelsIn stateOf allThree waitsLand stateLegal maskOf placesOf stateBytes index startOf aimed layFrom relay deliver judgedKernel accepted checkCall packCall unpackCall oneWord shortenCall expandCall decodeAt decodeCall decodePart startCall stepCall runCall dwords to from0 from1 immediate0 immediate1 op structuredTo jmpiTo nopWord long copies numbers zeros blankDictionary dictionaryA clear ramp begin _gives_ shown written whole count room longA shortA rowsA dictionaryB shortenB rowsB storedW rowsCDEF rowsG kernelH stepsH rowsH kernelI rowsI loads rowsLoad stores rowsStore rowsOperation says rowsCompare one r4 masks sevens against rowsEnable rowsFlag ranOver stateIs rowsBranch second secondWord movWith shortNop addWith rowsKernel rowsWord movBy rowsShape repeated rowsRepeated
+unfolding number numberAt bytesOf putAt immediateForm dictionaryOf tableWidth fitBelow expandLow expandHigh expand operationOf firstFrom indexOf shortWord shortenImmediate shortenRegister shortenHalves shorten value least greatest modZ floorZ modified clampTo stored compares result elementAt reservedSet controlServed dstServed srcServed plainServed branchServed operandRuleBroken hangs shapeRefused shapeBroken alignmentBroken tooFar reachBroken later refusalOf groupOf anyBit allBits vote predicate holds enabled ofBits flagBit flagAfter made meets patternAt operand channelStores scattered registersAfter finds comparedFlag plainEffect effect judgeShort judgeLong judgeAt walk parse fetch endFrom lands firstAstray withJumps wake park each someone onward act perform stepOn runWith startFrom channelIn oneOfThree channelsIn stateOf allThree waitsLand stateLegal maskOf placesOf stateBytes index startOf aimed layFrom relay deliver judgedKernel accepted checkCall packCall unpackCall oneWord shortenCall expandCall decodeAt decodeCall decodePart startCall stepCall runCall dwords to from0 from1 immediate0 immediate1 op structuredTo jmpiTo nopWord long copies numbers zeros blankDictionary dictionaryA clear ramp begin _gives_ shown written whole count room longA shortA rowsA dictionaryB shortenB rowsB storedW rowsCDEF rowsG kernelH stepsH rowsH kernelI rowsI loads rowsLoad stores rowsStore rowsOperation says rowsCompare one r4 masks sevens against rowsEnable rowsFlag ranOver stateIs rowsBranch second secondWord movWith shortNop addWith rowsKernel rowsWord movBy rowsShape predicates rowsVote rowsVoted votesAt branchVotes selVotes rowsVoteRefused repeated rowsRepeated
 Hold rows = map (λ r. r .got) rows ≡ map (λ r. r .want) rows
 
 rowsA-hold : Hold rowsA
@@ -97,6 +98,18 @@ rowsShape-hold : Hold rowsShape
 unfolding Hold
 rowsShape-hold = refl
 
+rowsVote-hold : Hold rowsVote
+unfolding Hold
+rowsVote-hold = refl
+
+rowsVoted-hold : Hold rowsVoted
+unfolding Hold
+rowsVoted-hold = refl
+
+rowsVoteRefused-hold : Hold rowsVoteRefused
+unfolding Hold
+rowsVoteRefused-hold = refl
+
 rowsRepeated-hold : Hold rowsRepeated
 unfolding Hold
 rowsRepeated-hold = refl
@@ -109,7 +122,7 @@ starred = rowsA ++ (rowsB ++ (rowsCDEF ++ (rowsG ++ (rowsH ++ rowsI))))
 abbrev pub ours : List Row
 ours =
     rowsLoad ++ (rowsStore ++ (rowsOperation ++ (rowsCompare ++ (rowsEnable ++ (rowsFlag ++ (rowsBranch ++ (rowsRepeated
-    ++ (rowsKernel ++ (rowsWord ++ rowsShape)))))))))
+    ++ (rowsKernel ++ (rowsWord ++ (rowsShape ++ (rowsVote ++ (rowsVoted ++ rowsVoteRefused))))))))))))
 
 abbrev pub table : List Row
 table = starred ++ ours
@@ -132,7 +145,8 @@ ours-hold : Hold ours
 ours-hold =
     both rowsLoad _ rowsLoad-hold (both rowsStore _ rowsStore-hold (both rowsOperation _ rowsOperation-hold (both rowsCompare _ rowsCompare-hold
     (both rowsEnable _ rowsEnable-hold (both rowsFlag _ rowsFlag-hold (both rowsBranch _ rowsBranch-hold (both rowsRepeated _ rowsRepeated-hold
-    (both rowsKernel _ rowsKernel-hold (both rowsWord _ rowsWord-hold rowsShape-hold)))))))))
+    (both rowsKernel _ rowsKernel-hold (both rowsWord _ rowsWord-hold (both rowsShape _ rowsShape-hold
+    (both rowsVote _ rowsVote-hold (both rowsVoted _ rowsVoted-hold rowsVoteRefused-hold))))))))))))
 
 every : (rows : List Row) → map (λ r. r .got) rows ≡ map (λ r. r .want) rows → (r : Row) → List·Memᴰ r rows → r .got ≡ r .want
 every [] h r m = absurd (List·Memᴰ·not-nil m)

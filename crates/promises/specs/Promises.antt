@@ -1,6 +1,6 @@
 -- The promises of the exported calls, for all that can be lent to them. Read this file first, and after it what it names: the contracts (Contracts and OneOutcome
 -- of the crate `spokeshaver`) and the lists of numbers (Numbers of `answers`). It states them and proves none: `demand-1` of OutcomesHold, `demand-2` of
--- PackingHolds and `demand-3` of RunningHolds are the theorems. A hypothesis such as `PackPromise dictionary kernel out r out′` says: spokeshaver_pack, lent
+-- PackingHolds, `demand-3` of RunningHolds and `passed-before` of PassedHolds are the theorems. A hypothesis such as `PackPromise dictionary kernel out r out′` says: spokeshaver_pack, lent
 -- these, answered r and left out′ in its output; that is the contract of the call, proved with its code. `numberIn`, `offsetIn` and `countIn` take an answer
 -- apart as the header's macros do. Demands 2 and 3 ask besides that what is lent is bytes (`areBytes`) and 16-bit numbers, as the types in C say.
 use mathlib.Core.Bool.{Bool, true}
@@ -16,13 +16,16 @@ use Rattle.paper.specs.Dictionary.{dictionaryOf}
 use Rattle.paper.specs.Expand.{expand}
 use Rattle.paper.specs.Shorten.{Shortens, Least}
 use Rattle.paper.specs.Kernel.{Instr, longAndShort, longOnly, good}
+use Rattle.paper.specs.Machine.{Ways, State}
 use Rattle.paper.specs.State.{half, channelsIn, stateLegal}
 use Rattle.paper.specs.Packing.{index}
-use Rattle.paper.specs.Calls.{Answer, accepted, checkCall, packCall, unpackCall, shortenCall, expandCall, decodeCall, decodePart, startCall, stepCall, runCall, numberOf, offsetOf, countOf}
+use Rattle.paper.specs.Calls.{Answer, verdict, asNumber, accepted, checkCall, packCall, unpackCall, shortenCall, expandCall, decodeCall, decodePart, startCall, stepCall, runCall, numberOf, offsetOf, countOf}
 use Rattle.laws.specs.Names.{renameC, program}
 use Rattle.laws.specs.Items.{Item, allBytes, instrsFrom}
 use Rattle.laws.specs.Packing.{AllShortest}
-use Rattle.contracts.specs.Contracts.{numberIn, offsetIn, countIn, CheckPromise, PackPromise, UnpackPromise, ShortenPromise, ExpandPromise}
+use Rattle.laws.specs.Otherwise.{checkCallBy, packCallBy, unpackCallBy, stepCallBy, runCallBy}
+use Rattle.laws.specs.VotesBefore.{refusalBefore, stepAtBefore}
+use Rattle.contracts.specs.Contracts.{numberIn, offsetIn, countIn, Wrote, Left, CheckPromise, PackPromise, UnpackPromise, ShortenPromise, ExpandPromise}
 use Rattle.contracts.specs.Contracts.{DecodePromise, StartPromise, StepPromise, RunPromise}
 use Rattle.contracts.specs.OneOutcome.{OneOutcome}
 use Rattle.answers.specs.Numbers.{checkNumbers, packNumbers, unpackNumbers, shortenNumbers, expandNumbers, decodeNumbers, startNumbers, stepNumbers, runNumbers}
@@ -264,3 +267,25 @@ pub record Demand3 : Type 0 where
   -- So do a kernel that unpack answered with 0, and the bytes that it wrote.
   pub alikeUnpacked : (dictionary kernel out : List ℕ) → areBytes kernel ≡ true → (p : ℕ) (out′ : List ℕ) → UnpackPromise dictionary kernel out p out′
       → numberIn p ≡ 0 → Alike dictionary kernel (result p out′)
+
+-- ==== kernels that passed before
+
+-- check, unpack, step and run of a kernel answer, and leave, what they do by other rules for one word: `rule` in the place of refusals 6 to 11, `act` in the
+-- place of a step (Otherwise of `laws`).
+pub record AsBy (rule : ℕ → ℕ) (act : ℕ → ℕ → Ways → State → State) (dictionary kernel : List ℕ) : Type 0 where
+  pub check : (r : ℕ) → CheckPromise dictionary kernel r → r ≡ asNumber (checkCallBy rule dictionary kernel)
+  pub unpack : (out : List ℕ) (r : ℕ) (out′ : List ℕ) → UnpackPromise dictionary kernel out r out′ → Wrote (unpackCallBy rule dictionary kernel out) r out′
+  pub step : (registers state : List ℕ) (r : ℕ) (registers′ state′ : List ℕ) → StepPromise dictionary kernel registers state r registers′ state′
+      → Left (stepCallBy rule act dictionary kernel registers state) r registers′ state′
+  pub run : (budget : ℕ) (registers state : List ℕ) (r : ℕ) (registers′ state′ : List ℕ)
+      → RunPromise dictionary kernel budget registers state r registers′ state′
+      → Left (runCallBy rule act dictionary kernel budget registers state) r registers′ state′
+
+-- 02 §2 only adds: `refusalBefore` and `stepAtBefore` are the rules before groups of channels could vote (VotesBefore of `laws`).
+pub record PassedBefore : Type 0 where
+  -- A kernel that check accepted by them is accepted, and is checked, unpacked, stepped and run as it was.
+  pub votes : (dictionary kernel : List ℕ) (n : ℕ) → checkCallBy refusalBefore dictionary kernel ≡ verdict 0 n
+      → AsBy refusalBefore stepAtBefore dictionary kernel
+  -- One that pack accepted is packed to the same bytes.
+  pub votesPacked : (dictionary kernel out : List ℕ) (n : ℕ) → packCallBy refusalBefore dictionary kernel out .answer ≡ verdict 0 n
+      → (r : ℕ) (out′ : List ℕ) → PackPromise dictionary kernel out r out′ → Wrote (packCallBy refusalBefore dictionary kernel out) r out′

@@ -74,7 +74,8 @@ pub fn shorten_word(dictionary: &[u8], word: &[u8], out: &mut [u8]) -> Answer
     if cmpt_ctrl(w) == 1 {
         return Answer::Refused(5, 0);
     }
-    let a = shorten(dictionary, w);
+    let none = [0u32; 0];
+    let a = shorten(dictionary, &none, w);
     deliver_shorter(out, a)
 }
 

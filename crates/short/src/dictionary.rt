@@ -1,10 +1,11 @@
 // The dictionary, lent as bytes: its 128 numbers, and rule 2.
 use words::bytes::read4;
 ghost use mathlib.Core.Path.{_≡_};
-ghost use Prim.Native.Nat.{_<_, _^_};
+ghost use Prim.Native.Nat.{_<_, _≤_, _^_};
 ghost use lib.ListN.{length};
 ghost use Rattle.paper.specs.Limits.{dictionaryBytes};
-ghost use Rattle.paper.specs.Dictionary.{dictionaryOf, tableWidth, inRange};
+ghost use Rattle.paper.specs.Dictionary.{dictionaryOf, inRange};
+ghost use Rattle.short.specs.Ranges.{tableFits};
 
 // Number i of the dictionary.
 pub(crate) fn number(dictionary: &[u8], i: usize) -> u64
@@ -15,20 +16,18 @@ pub(crate) fn number(dictionary: &[u8], i: usize) -> u64
     read4(dictionary, from)
 }
 
-// The least number that is too wide for the table in which number i stands.
-fn limit(i: usize) -> u64
-    ensures { λ r. ⌜ r ≡ 2 ^ tableWidth i ⌝ }
+// The 32 numbers from `base` on are below `most`. No number is asked for before the next, so that several are looked at at a time.
+fn table_fits(dictionary: &[u8], base: usize, most: u64) -> bool
+    requires { ⌜ (length (now dictionary) ≡ dictionaryBytes) × (base ≤ 96) ⌝ }
+    ensures { λ r. ⌜ r ≡ tableFits (dictionaryOf (now (dictionary .entry))) base most 32 ⌝ }
 {
-    if i < 32 {
-        return 0x2_0000;
+    let mut fits = true;
+    let mut i: usize = 0;
+    while i < 32 {
+        fits = fits & (number(dictionary, base + i) < most);
+        i += 1;
     }
-    if i < 64 {
-        return 0x4_0000;
-    }
-    if i < 96 {
-        return 0x8000;
-    }
-    0x1000
+    fits
 }
 
 // Each number fits its table.
@@ -36,13 +35,9 @@ pub fn in_range(dictionary: &[u8]) -> bool
     requires { ⌜ length (now dictionary) ≡ dictionaryBytes ⌝ }
     ensures { λ r. ⌜ r ≡ inRange (dictionaryOf (now (dictionary .entry))) ⌝ }
 {
-    let mut i: usize = 0;
-    while i < 128 {
-        let most = limit(i);
-        if most <= number(dictionary, i) {
-            return false;
-        }
-        i += 1;
-    }
-    true
+    let control = table_fits(dictionary, 0, 0x2_0000);
+    let datatype = table_fits(dictionary, 32, 0x4_0000);
+    let subregister = table_fits(dictionary, 64, 0x8000);
+    let source = table_fits(dictionary, 96, 0x1000);
+    control & datatype & subregister & source
 }

@@ -2,4 +2,5 @@
 pub mod calls;
 pub mod dictionary;
 pub mod expand;
+pub mod sets;
 pub mod shorten;

@@ -1,5 +1,12 @@
 // The smallest short word that expands to a word.
 use crate::dictionary::number;
+use crate::sets::CONTROL;
+use crate::sets::DATATYPE;
+use crate::sets::LOW_TEN;
+use crate::sets::SOURCE;
+use crate::sets::SUBREGISTER;
+use crate::sets::first_common;
+use crate::sets::power;
 use words::bytes::Word;
 use words::fields::form_of;
 use words::fields::operation_in;
@@ -15,6 +22,7 @@ ghost use Rattle.paper.specs.Dictionary.{dictionaryOf};
 ghost use Rattle.paper.specs.Shorten.{controlKey, datatypeKey, subregisterKey, indexOf, headRows, tailRows, shortWord};
 ghost use Rattle.paper.specs.Shorten.{shortenImmediate, shortenRegister, shortenHalves, shorten};
 ghost use Rattle.words.specs.Words.{toWord};
+ghost use Rattle.short.specs.Sets.{setCount, tableSets, Finds, Serves};
 ghost use Rattle.short.specs.Shorter.{shorterIs, allowed};
 
 // A short word, or none.
@@ -23,13 +31,14 @@ pub enum Shorter {
     NoShort,
 }
 
-// ---- the tables
+// ---- the tables, with the sets of a dictionary or without
 
-// The smallest index into the table from number `base` on at which the number is `key` modulo `modulus`, or 32 where none is.
-fn index_of(dictionary: &[u8], base: usize, modulus: u64, key: u64) -> u64
-    requires { ⌜ (length (now dictionary) ≡ dictionaryBytes) × (base ≤ 96) × (0 < modulus) ⌝ }
-    ensures { λ r. ⌜ r ≡ indexOf (λ (i : ℕ). dictionaryOf (now (dictionary .entry)) (base + i)) modulus key ⌝ }
+// The smallest index into the table from number `base` on, of `width` bits, at which the number is the key, or 32 where none is: number by number.
+fn walked_index(dictionary: &[u8], base: usize, width: u64, key: u64) -> u64
+    requires { ⌜ (length (now dictionary) ≡ dictionaryBytes) × (base ≤ 96) × (width ≤ 18) ⌝ }
+    ensures { λ r. ⌜ r ≡ indexOf (λ (i : ℕ). dictionaryOf (now (dictionary .entry)) (base + i)) (2 ^ width) key ⌝ }
 {
+    let modulus = power(width);
     let mut i: usize = 0;
     while i < 32 {
         if number(dictionary, base + i) % modulus == key {
@@ -40,30 +49,42 @@ fn index_of(dictionary: &[u8], base: usize, modulus: u64, key: u64) -> u64
     32
 }
 
+// The same index: by the table's sets, which begin at `at`, or number by number where no sets are lent.
+fn index_of(dictionary: &[u8], sets: &[u32], at: usize, base: usize, width: u64, key: u64) -> u64
+    requires { ⌜ (length (now dictionary) ≡ dictionaryBytes) × (base ≤ 96) × (width ≤ 18) × (key < 2 ^ width) ⌝ }
+    requires { ⌜ (at + tableSets ≤ setCount) × Finds (dictionaryOf (now dictionary)) base width at (now sets) ⌝ }
+    ensures { λ r. ⌜ r ≡ indexOf (λ (i : ℕ). dictionaryOf (now (dictionary .entry)) (base + i)) (2 ^ width) key ⌝ }
+{
+    if sets.len() == 0 {
+        return walked_index(dictionary, base, width, key);
+    }
+    first_common(sets, at, key)
+}
+
 // The number that a word asks of the control table.
 fn control_key(lo: u64) -> u64
-    ensures { λ r. ⌜ r ≡ assemble (controlKey lo) ⌝ }
+    ensures { λ r. ⌜ (r ≡ assemble (controlKey lo)) × (r < 2 ^ 17) ⌝ }
 {
     lo / 0x100 % 0x1_0000 + lo / 0x8000_0000 % 2 * 0x1_0000
 }
 
 // The number that it asks of the datatype table.
 fn datatype_key(lo: u64) -> u64
-    ensures { λ r. ⌜ r ≡ assemble (datatypeKey lo) ⌝ }
+    ensures { λ r. ⌜ (r ≡ assemble (datatypeKey lo)) × (r < 2 ^ 18) ⌝ }
 {
     lo / 0x1_0000_0000 % 0x8000 + lo / 0x2000_0000_0000_0000 % 8 * 0x8000
 }
 
 // The low ten bits that it asks of the subregister table in immediate form.
 fn narrow_key(lo: u64, hi: u64) -> u64
-    ensures { λ r. ⌜ r ≡ assemble (subregisterKey true lo hi) ⌝ }
+    ensures { λ r. ⌜ (r ≡ assemble (subregisterKey true lo hi)) × (r < 2 ^ 10) ⌝ }
 {
     lo / 0x1_0000_0000_0000 % 32 + hi % 32 * 32
 }
 
 // The number that it asks of the subregister table otherwise.
 fn wide_key(lo: u64, hi: u64) -> u64
-    ensures { λ r. ⌜ r ≡ assemble (subregisterKey false lo hi) ⌝ }
+    ensures { λ r. ⌜ (r ≡ assemble (subregisterKey false lo hi)) × (r < 2 ^ 15) ⌝ }
 {
     lo / 0x1_0000_0000_0000 % 32 + hi % 32 * 32 + hi / 0x1_0000_0000 % 32 * 1024
 }
@@ -106,8 +127,16 @@ fn short_word(lo: u64, hi: u64, c: u64, t: u64, b: u64, x: u64, y: u64, r: u64) 
 // ---- the two forms
 
 // In immediate form: c, t and x are the control, datatype and first source index.
-fn shorten_immediate(dictionary: &[u8], lo: u64, hi: u64, c: u64, t: u64, x: u64) -> Shorter
-    requires { ⌜ length (now dictionary) ≡ dictionaryBytes ⌝ }
+fn shorten_immediate(
+    dictionary: &[u8],
+    sets: &[u32],
+    lo: u64,
+    hi: u64,
+    c: u64,
+    t: u64,
+    x: u64,
+) -> Shorter
+    requires { ⌜ (length (now dictionary) ≡ dictionaryBytes) × Serves (dictionaryOf (now dictionary)) (now sets) ⌝ }
     ensures { λ r. ⌜ shorterIs r ≡ shortenImmediate (dictionaryOf (now (dictionary .entry))) lo hi c t x ⌝ }
 {
     let top = hi / 0x1_0000_0000;
@@ -115,7 +144,7 @@ fn shorten_immediate(dictionary: &[u8], lo: u64, hi: u64, c: u64, t: u64, x: u64
         return Shorter::NoShort;
     }
     let key = narrow_key(lo, hi);
-    let b = index_of(dictionary, 64, 0x400, key);
+    let b = index_of(dictionary, sets, LOW_TEN, 64, 10, key);
     if 32 <= b {
         return Shorter::NoShort;
     }
@@ -123,20 +152,28 @@ fn shorten_immediate(dictionary: &[u8], lo: u64, hi: u64, c: u64, t: u64, x: u64
 }
 
 // With src1 in a register.
-fn shorten_register(dictionary: &[u8], lo: u64, hi: u64, c: u64, t: u64, x: u64) -> Shorter
-    requires { ⌜ length (now dictionary) ≡ dictionaryBytes ⌝ }
+fn shorten_register(
+    dictionary: &[u8],
+    sets: &[u32],
+    lo: u64,
+    hi: u64,
+    c: u64,
+    t: u64,
+    x: u64,
+) -> Shorter
+    requires { ⌜ (length (now dictionary) ≡ dictionaryBytes) × Serves (dictionaryOf (now dictionary)) (now sets) ⌝ }
     ensures { λ r. ⌜ shorterIs r ≡ shortenRegister (dictionaryOf (now (dictionary .entry))) lo hi c t x ⌝ }
 {
     if part(hi, 57, 7) != 0 {
         return Shorter::NoShort;
     }
     let key = wide_key(lo, hi);
-    let b = index_of(dictionary, 64, 0x8000, key);
+    let b = index_of(dictionary, sets, SUBREGISTER, 64, 15, key);
     if 32 <= b {
         return Shorter::NoShort;
     }
     let source = part(hi, 45, 12);
-    let y = index_of(dictionary, 96, 0x1000, source);
+    let y = index_of(dictionary, sets, SOURCE, 96, 12, source);
     if 32 <= y {
         return Shorter::NoShort;
     }
@@ -165,35 +202,35 @@ fn may_shorten(lo: u64, hi: u64) -> bool
 }
 
 // From the low and the high 64 bits of a word.
-fn shorten_halves(dictionary: &[u8], lo: u64, hi: u64) -> Shorter
-    requires { ⌜ length (now dictionary) ≡ dictionaryBytes ⌝ }
+fn shorten_halves(dictionary: &[u8], sets: &[u32], lo: u64, hi: u64) -> Shorter
+    requires { ⌜ (length (now dictionary) ≡ dictionaryBytes) × Serves (dictionaryOf (now dictionary)) (now sets) ⌝ }
     ensures { λ r. ⌜ shorterIs r ≡ shortenHalves (dictionaryOf (now (dictionary .entry))) lo hi ⌝ }
 {
     if !may_shorten(lo, hi) {
         return Shorter::NoShort;
     }
-    let c = index_of(dictionary, 0, 0x2_0000, control_key(lo));
+    let c = index_of(dictionary, sets, CONTROL, 0, 17, control_key(lo));
     if 32 <= c {
         return Shorter::NoShort;
     }
-    let t = index_of(dictionary, 32, 0x4_0000, datatype_key(lo));
+    let t = index_of(dictionary, sets, DATATYPE, 32, 18, datatype_key(lo));
     if 32 <= t {
         return Shorter::NoShort;
     }
-    let x = index_of(dictionary, 96, 0x1000, part(hi, 13, 12));
+    let x = index_of(dictionary, sets, SOURCE, 96, 12, part(hi, 13, 12));
     if 32 <= x {
         return Shorter::NoShort;
     }
     if form_of(lo) {
-        return shorten_immediate(dictionary, lo, hi, c, t, x);
+        return shorten_immediate(dictionary, sets, lo, hi, c, t, x);
     }
-    shorten_register(dictionary, lo, hi, c, t, x)
+    shorten_register(dictionary, sets, lo, hi, c, t, x)
 }
 
-// The smallest short word that expands to w, or none.
-pub fn shorten(dictionary: &[u8], w: Word) -> Shorter
-    requires { ⌜ length (now dictionary) ≡ dictionaryBytes ⌝ }
+// The smallest short word that expands to w, or none. The sets are the dictionary's, for many words; for one word lend none (an empty slice).
+pub fn shorten(dictionary: &[u8], sets: &[u32], w: Word) -> Shorter
+    requires { ⌜ (length (now dictionary) ≡ dictionaryBytes) × Serves (dictionaryOf (now dictionary)) (now sets) ⌝ }
     ensures { λ r. ⌜ shorterIs r ≡ shorten (dictionaryOf (now (dictionary .entry))) (toWord w) ⌝ }
 {
-    shorten_halves(dictionary, w.lo, w.hi)
+    shorten_halves(dictionary, sets, w.lo, w.hi)
 }

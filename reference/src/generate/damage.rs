@@ -212,7 +212,7 @@ fn reserved_bit(random: &mut Random, word: LongWord) -> LongWord {
 
 /// Rule 7: a field gets a value that it may not have.
 fn unserved(random: &mut Random, word: LongWord) -> LongWord {
-    match random.below(17) {
+    match random.below(19) {
         0 => word.with_field(8, 8, 1),
         1 => word.with_field(28, 28, 1),
         2 => word.with_field(23, 21, random.between(5, 7) as u32),
@@ -229,6 +229,8 @@ fn unserved(random: &mut Random, word: LongWord) -> LongWord {
         13 => word.with_field(111, 111, 1),
         14 => word.with_field(36, 34, random.between(6, 7) as u32),
         15 => word.with_field(41, 39, random.between(4, 7) as u32),
+        16 => word.with_field(19, 16, random.pick(&[2, 3, 12, 13, 14, 15])),
+        17 => large_group(random, word),
         _ => match random.below(4) {
             0 => word.with_field(46, 44, random.bits(3)),
             1 => word.with_field(9, 9, 1),
@@ -236,6 +238,13 @@ fn unserved(random: &mut Random, word: LongWord) -> LongWord {
             _ => word.with_field(46, 44, random.between(4, 7) as u32),
         },
     }
+}
+
+/// Rule 7: a vote in a group larger than ExecSize.
+fn large_group(random: &mut Random, word: LongWord) -> LongWord {
+    let size = random.below(4);
+    let control = random.between(4 + 2 * size, 11);
+    word.with_field(23, 21, size as u32).with_field(19, 16, control as u32)
 }
 
 /// Rule 8: an operand that its operation doesn't take.

@@ -101,6 +101,9 @@ fn controls(random: &mut Random, operation: Operation, size: u32) -> LongWord {
     if operation == Operation::Sel || random.once_in(seldom) {
         let inverted = random.once_in(2);
         made = made.predicated(random.bits(1), inverted);
+        if size > 0 && random.once_in(2) {
+            made = made.voting(vote(random, size));
+        }
     }
     if operation == Operation::Cmp {
         made = made.with_field(27, 24, random.between(1, 6) as u32);
@@ -109,6 +112,11 @@ fn controls(random: &mut Random, operation: Operation, size: u32) -> LongWord {
         made = made.saturated();
     }
     made
+}
+
+/// A PredCtrl for any or all in groups no larger than ExecSize, whose code this is.
+pub fn vote(random: &mut Random, size: u32) -> u32 {
+    4 + random.below(2 * size as usize) as u32
 }
 
 fn destination(random: &mut Random, made: LongWord, channels: usize) -> LongWord {

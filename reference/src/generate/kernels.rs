@@ -3,7 +3,7 @@
 
 use super::damage;
 use super::dictionaries::dictionary_for;
-use super::instructions::{legal_word, legal_word_of, with_other_registers};
+use super::instructions::{legal_word, legal_word_of, vote, with_other_registers};
 use crate::assemble::{branch, jmpi};
 use crate::dictionary::Dictionary;
 use crate::operations::{Operation, BRANCHES};
@@ -154,6 +154,9 @@ pub fn branch_word(random: &mut Random, operation: Operation) -> LongWord {
     if !random.once_in(4) {
         let inverted = random.once_in(2);
         word = word.predicated(random.bits(1), inverted);
+        if operation != Operation::Jmpi && random.once_in(2) {
+            word = word.voting(vote(random, 4));
+        }
     }
     if random.once_in(6) {
         word = word.with_field(95, 64, random.bits(32)).with_field(47, 47, random.bits(1));

@@ -1,7 +1,7 @@
 //! What a run works on: registers, flags and channels, the waiting ones by where they wait.
 
 use crate::channels::Registers;
-use crate::decoded::{number_of, Predicate};
+use crate::decoded::{number_of, Predicate, Vote};
 use crate::rules::Program;
 use crate::state::{State, CHANNELS};
 
@@ -63,10 +63,11 @@ impl Machine<'_> {
     }
 }
 
-/// A predicate made ready: its flag, inverted or not, or all ones where none is used.
+/// A predicate made ready: its flag's votes, inverted or not, or all ones where none is used.
 #[derive(Clone, Copy)]
 pub struct Holding {
     flag: usize,
+    vote: Vote,
     inversion: u16,
     always: u16,
 }
@@ -74,12 +75,13 @@ pub struct Holding {
 impl Holding {
     pub fn of(predicate: &Predicate) -> Holding {
         let always = if predicate.is_used { 0 } else { u16::MAX };
-        Holding { flag: predicate.flag, inversion: predicate.inversion, always }
+        let Predicate { flag, vote, inversion, .. } = *predicate;
+        Holding { flag, vote, inversion, always }
     }
 
     /// The channels whose predicate holds, whether awake or not.
     #[inline]
     pub fn mask(&self, machine: &Machine) -> u16 {
-        (machine.flags[self.flag] ^ self.inversion) | self.always
+        (self.vote.mask(machine.flags[self.flag]) ^ self.inversion) | self.always
     }
 }

@@ -6,11 +6,8 @@ use Rattle.judge.proofs.operands.unpredicated.Tie as tie
 pred-ctrl-requires : tie.Need-pred-ctrl-requires
 pred-ctrl-requires c κs = search needs
 
-negated-requires : tie.Need-negated-requires
-negated-requires c κs = search needs
-
 returns : tie.Need-returns
 returns c = cc
 
 pub unpredicated-spec : {M : Type 1} → statement M
-unpredicated-spec = tie.close (tie.spec pred-ctrl-requires negated-requires returns)
+unpredicated-spec = tie.close (tie.spec pred-ctrl-requires returns)

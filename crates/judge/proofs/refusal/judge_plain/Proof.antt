@@ -19,7 +19,7 @@ returns-2 : tie.Need-returns-2
 returns-2 c = sym (later-operand _ _ (sym (c .before .before .before .plain-served .ensures) ∙ not-false _ (c .before .before .if1 .left)) (sym (c .before .operand-rule-broken .ensures) ∙ (c .if2 .taken)))
 
 shape-broken-requires : tie.Need-shape-broken-requires
-shape-broken-requires c κs = search needs
+shape-broken-requires c κs = (c .before .before .before .before .pre, sym (c .before .before .before .plain-served .ensures) ∙ not-false _ (c .before .before .if1 .left))
 
 returns-3 : tie.Need-returns-3
 returns-3 c = sym (later-shape _ _ (sym (c .before .before .before .before .before .plain-served .ensures) ∙ not-false _ (c .before .before .before .before .if1 .left)) (sym (c .before .before .before .operand-rule-broken .ensures) ∙ (c .before .before .if2 .left)) (sym (c .before .shape-broken .ensures) ∙ (c .if3 .taken)))

@@ -19,8 +19,8 @@ condition-served-requires c κs = search needs
 both-requires : tie.Need-both-requires
 both-requires c κs = search needs
 
-pred-ctrl-requires : tie.Need-pred-ctrl-requires
-pred-ctrl-requires c κs = search needs
+predicate-served-requires : tie.Need-predicate-served-requires
+predicate-served-requires c κs = search needs
 
 both-requires-2 : tie.Need-both-requires-2
 both-requires-2 c κs = search needs
@@ -51,7 +51,7 @@ both-requires-6 c κs = search needs
 
 returns : tie.Need-returns
 unfolding controlServed
-returns c = rw (c .both6 .ensures, c .before .both5 .ensures, c .before .before .acc-wr-ctrl .ensures .0, c .before .before .before .access-mode .ensures .0, c .before .before .before .before .both4 .ensures, c .before .before .before .before .before .both3 .ensures, c .before .before .before .before .before .before .quarter-served .ensures, c .before .before .before .before .before .before .before .exec-size .ensures .0, c .before .before .before .before .before .before .before .before .both2 .ensures, c .before .before .before .before .before .before .before .before .before .pred-ctrl .ensures .0, c .before .before .before .before .before .before .before .before .before .before .both .ensures, c .before .before .before .before .before .before .before .before .before .before .before .condition-served .ensures, c .before .before .before .before .before .before .before .before .before .before .before .before .cond-modifier .ensures .0, c .before .before .before .before .before .before .before .before .before .before .before .before .before .either .ensures, c .before .before .before .before .before .before .before .before .before .before .before .before .before .before .saturate .ensures .0)
+returns c = rw (c .both6 .ensures, c .before .both5 .ensures, c .before .before .acc-wr-ctrl .ensures .0, c .before .before .before .access-mode .ensures .0, c .before .before .before .before .both4 .ensures, c .before .before .before .before .before .both3 .ensures, c .before .before .before .before .before .before .quarter-served .ensures, c .before .before .before .before .before .before .before .exec-size .ensures .0, c .before .before .before .before .before .before .before .before .both2 .ensures, c .before .before .before .before .before .before .before .before .before .predicate-served .ensures, c .before .before .before .before .before .before .before .before .before .before .both .ensures, c .before .before .before .before .before .before .before .before .before .before .before .condition-served .ensures, c .before .before .before .before .before .before .before .before .before .before .before .before .cond-modifier .ensures .0, c .before .before .before .before .before .before .before .before .before .before .before .before .before .either .ensures, c .before .before .before .before .before .before .before .before .before .before .before .before .before .before .saturate .ensures .0)
 
 pub control-served-spec : {M : Type 1} → statement M
 control-served-spec =
@@ -62,7 +62,7 @@ control-served-spec =
     cond-modifier-requires
     condition-served-requires
     both-requires
-    pred-ctrl-requires
+    predicate-served-requires
     both-requires-2
     exec-size-requires
     quarter-served-requires

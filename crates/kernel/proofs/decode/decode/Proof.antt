@@ -40,12 +40,15 @@ mul-from c =
     let h : 8 * a .place < length (a .kernel .now) = ltb-true _ _ (sym (c .before .lies-inside .ensures) ∙ not-false _ (c .if3 .left)) in
     omega (arith, s .kernel-most)
 
+region-table-requires : tie.Need-region-table-requires
+region-table-requires c κs = search needs
+
 judge-at-requires : tie.Need-judge-at-requires
 judge-at-requires c κs =
-    let a = c .before .before .before .before .before .before .before .before .args in
-    let s = c .before .before .before .before .before .is-sized .ensures .1 (not-false _ (c .before .before .before .before .if1 .left)) in
-    let h : 8 * a .place < length (a .kernel .now) = ltb-true _ _ (sym (c .before .lies-inside .ensures) ∙ not-false _ (c .if3 .left)) in
-    (s .dictionary-is, omega arith)
+    let a = c .before .before .before .before .before .before .before .before .before .before .args in
+    let s = c .before .before .before .before .before .before .before .is-sized .ensures .1 (not-false _ (c .before .before .before .before .before .before .if1 .left)) in
+    let h : 8 * a .place < length (a .kernel .now) = ltb-true _ _ (sym (c .before .before .before .lies-inside .ensures) ∙ not-false _ (c .before .before .if3 .left)) in
+    (c .before .region-table .ensures, s .dictionary-is, omega arith)
 
 enum-known-number : tie.Need-enum-known-number
 enum-known-number c = search needs
@@ -55,17 +58,17 @@ enum-known-size c = search needs
 
 returns-4 : tie.Need-returns-4
 returns-4 c =
-    let z = sym (c .before .before .before .before .before .before .before .before .before .is-sized .ensures .0) ∙ not-false _ (c .before .before .before .before .before .before .before .before .if1 .left) in
-    let d = sym (c .before .before .before .before .before .before .before .in-range .ensures) ∙ not-false _ (c .before .before .before .before .before .before .if2 .left) in
-    let h = sym (c .before .before .before .before .before .lies-inside .ensures) ∙ not-false _ (c .before .before .before .before .if3 .left) in
+    let z = sym (c .before .before .before .before .before .before .before .before .before .before .before .is-sized .ensures .0) ∙ not-false _ (c .before .before .before .before .before .before .before .before .before .before .if1 .left) in
+    let d = sym (c .before .before .before .before .before .before .before .before .before .in-range .ensures) ∙ not-false _ (c .before .before .before .before .before .before .before .before .if2 .left) in
+    let h = sym (c .before .before .before .before .before .before .before .lies-inside .ensures) ∙ not-false _ (c .before .before .before .before .before .before .if3 .left) in
     let j = sym (c .before .before .before .judge-at .ensures) ∙ ap judgedIs (c .before .number .given .1) in
     sym (decode-inside _ _ _ z d _ h j)
 
 returns-5 : tie.Need-returns-5
 returns-5 c =
-    let z = sym (c .before .before .before .before .before .before .before .before .before .is-sized .ensures .0) ∙ not-false _ (c .before .before .before .before .before .before .before .before .if1 .left) in
-    let d = sym (c .before .before .before .before .before .before .before .in-range .ensures) ∙ not-false _ (c .before .before .before .before .before .before .if2 .left) in
-    let h = sym (c .before .before .before .before .before .lies-inside .ensures) ∙ not-false _ (c .before .before .before .before .if3 .left) in
+    let z = sym (c .before .before .before .before .before .before .before .before .before .before .before .is-sized .ensures .0) ∙ not-false _ (c .before .before .before .before .before .before .before .before .before .before .if1 .left) in
+    let d = sym (c .before .before .before .before .before .before .before .before .before .in-range .ensures) ∙ not-false _ (c .before .before .before .before .before .before .before .before .if2 .left) in
+    let h = sym (c .before .before .before .before .before .before .before .lies-inside .ensures) ∙ not-false _ (c .before .before .before .before .before .before .if3 .left) in
     let j = sym (c .before .before .before .judge-at .ensures) ∙ ap judgedIs (c .before .size .given .1) in
     sym (decode-inside _ _ _ z d _ h j)
 
@@ -80,6 +83,7 @@ decode-spec =
     lies-inside-requires
     returns-3
     mul-from
+    region-table-requires
     judge-at-requires
     enum-known-number
     enum-known-size

@@ -16,14 +16,14 @@ use Rattle.kernel.proofs.walk.walk.Statement.{statement}
 use Rattle.kernel.proofs.walk.walk.Tie as tie
 
 abbrev Inv-loop : tie.InvT-loop
-Inv-loop long dictionary kernel marks₀ from₀ count₀ marks from count =
+Inv-loop regions long dictionary kernel marks₀ from₀ count₀ marks from count =
     (from ≤ length kernel)
     × (count ≤ instructionLimit)
     × (length marks ≡ placeCount)
     × Leads (judgeAt (formsIs long) (dictionaryOf dictionary) kernel) (length kernel) from count marks (parse (formsIs long) (dictionaryOf dictionary) kernel)
 
 abbrev μ-loop : tie.MeasureT-loop
-μ-loop long dictionary kernel marks₀ from₀ count₀ marks from count = length kernel - from
+μ-loop regions long dictionary kernel marks₀ from₀ count₀ marks from count = length kernel - from
 
 loop-holds : tie.Need-loop-holds Inv-loop μ-loop
 unfolding parse

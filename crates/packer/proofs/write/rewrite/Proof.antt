@@ -1,10 +1,9 @@
--- The new place of each distance is looked up at its old one. Assumes nothing.
 use mathlib.Core.Path.{sym, ap, _∙_}
 use native.Mathlib.Omega.{arith}
-use borrow.Author.Needs.{needs}
 use Rattle.words.specs.Words.{toWord}
 use Rattle.distances.specs.Distances.{distanceIs, distancesIs}
 use Rattle.packer.specs.Rewriting.{none-rewritten, one-reaches, one-rewritten}
+use borrow.Author.Needs.{needs}
 use Rattle.packer.proofs.write.rewrite.Statement.{statement}
 use Rattle.packer.proofs.write.rewrite.Tie as tie
 
@@ -38,6 +37,12 @@ element-copy-out-new c =
     let r = one-reaches (a .places .now) (toWord (a .w)) (a .here) (a .size) (a .to) (a .next) (distanceIs (c .before .before .before .held .given .0 .0)) (sym (c .before .before .before .before .before .distances-in .ensures) ∙ ap distancesIs (c .before .before .before .held .given .1)) _ (c .before .reach .ensures) (c .before .before .before .before .before .before .pre .4) in
     rw (c .place-of .ensures) (r .0)
 
+cast-new : tie.Need-cast-new
+cast-new c =
+    let a = c .before .before .before .before .before .before .before .args in
+    let r = one-reaches (a .places .now) (toWord (a .w)) (a .here) (a .size) (a .to) (a .next) (distanceIs (c .before .before .before .before .held .given .0 .0)) (sym (c .before .before .before .before .before .before .distances-in .ensures) ∙ ap distancesIs (c .before .before .before .before .held .given .1)) _ (c .before .before .reach .ensures) (c .before .before .before .before .before .before .before .pre .4) in
+    record { fits = rw (c .before .place-of .ensures) (omega (arith, r .1)) }
+
 aim-requires : tie.Need-aim-requires
 aim-requires c κs =
     let a = c .before .before .before .before .before .before .before .args in
@@ -67,6 +72,7 @@ rewrite-spec =
     place-of-requires
     mul-new
     element-copy-out-new
+    cast-new
     aim-requires
     returns
     returns-2)

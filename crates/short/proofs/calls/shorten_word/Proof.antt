@@ -39,6 +39,9 @@ cmpt-ctrl-requires c κs = search needs
 returns-5 : tie.Need-returns-5
 returns-5 c = as-written _ _ _ (shorten-marked _ _ _ (c .before .before .before .before .before .before .before .before .before .if1 .left) (c .before .before .before .before .before .before .before .before .if2 .left) (sym (c .before .before .before .before .before .before .before .in-range .ensures) ∙ not-false _ (c .before .before .before .before .before .before .if3 .left)) _ (c .before .before .before .before .before .read16 .ensures) (sym (c .before .before .before .is-listed .ensures ∙ ap isListed (c .before .before .before .before .operation .ensures)) ∙ not-false _ (c .before .before .if4 .left)) (ap (λ (x : ℕ). eqb x 1) (sym (c .before .cmpt-ctrl .ensures .0)) ∙ eq-eqb _ _ (c .if5 .taken)))
 
+slice-aggregate-shorten : tie.Need-slice-aggregate-shorten
+slice-aggregate-shorten c = search needs
+
 shorten-requires : tie.Need-shorten-requires
 shorten-requires c κs = search needs
 
@@ -49,7 +52,7 @@ same-length : tie.Need-same-length
 same-length c = search needs
 
 returns-6 : tie.Need-returns-6
-returns-6 c = as-called _ _ _ _ (shorten-answer _ _ _ (c .before .before .before .before .before .before .before .before .before .before .before .before .before .before .if1 .left) (c .before .before .before .before .before .before .before .before .before .before .before .before .before .if2 .left) (sym (c .before .before .before .before .before .before .before .before .before .before .before .before .in-range .ensures) ∙ not-false _ (c .before .before .before .before .before .before .before .before .before .before .before .if3 .left)) _ (c .before .before .before .before .before .before .before .before .before .before .read16 .ensures) (sym (c .before .before .before .before .before .before .before .before .is-listed .ensures ∙ ap isListed (c .before .before .before .before .before .before .before .before .before .operation .ensures)) ∙ not-false _ (c .before .before .before .before .before .before .before .if4 .left)) (ap (λ (x : ℕ). eqb x 1) (sym (c .before .before .before .before .before .before .cmpt-ctrl .ensures .0)) ∙ ne-eqb _ _ (c .before .before .before .before .before .if5 .left))) (rw (c .before .before .before .before .shorten .ensures) at (c .before .before .deliver-shorter .ensures))
+returns-6 c = as-called _ _ _ _ (shorten-answer _ _ _ (c .before .before .before .before .before .before .before .before .before .before .before .before .before .before .before .if1 .left) (c .before .before .before .before .before .before .before .before .before .before .before .before .before .before .if2 .left) (sym (c .before .before .before .before .before .before .before .before .before .before .before .before .before .in-range .ensures) ∙ not-false _ (c .before .before .before .before .before .before .before .before .before .before .before .before .if3 .left)) _ (c .before .before .before .before .before .before .before .before .before .before .before .read16 .ensures) (sym (c .before .before .before .before .before .before .before .before .before .is-listed .ensures ∙ ap isListed (c .before .before .before .before .before .before .before .before .before .before .operation .ensures)) ∙ not-false _ (c .before .before .before .before .before .before .before .before .if4 .left)) (ap (λ (x : ℕ). eqb x 1) (sym (c .before .before .before .before .before .before .before .cmpt-ctrl .ensures .0)) ∙ ne-eqb _ _ (c .before .before .before .before .before .before .if5 .left))) (rw (c .before .before .before .before .shorten .ensures) at (c .before .before .deliver-shorter .ensures))
 
 pub shorten-word-spec : {M : Type 1} → statement M
 shorten-word-spec =
@@ -65,6 +68,7 @@ shorten-word-spec =
     returns-4
     cmpt-ctrl-requires
     returns-5
+    slice-aggregate-shorten
     shorten-requires
     deliver-shorter-requires
     same-length

@@ -1,59 +1,25 @@
--- The loop's invariant: at no index passed is the number the key. So what is returned is the first index, of which there is only one. The measure is how many are left. Assumes nothing.
-use mathlib.Core.Path.{_≡_}
-use Prim.Native.Nat.{ℕ, _+_, _≤_, _<_, _-_, _%_}
-use native.Mathlib.Omega.{arith}
-use borrow.Author.Needs.{needs}
-use borrow.Author.Count.{below-more}
+-- Where no sets are lent the table is walked, else the key's sets are looked up. Assumes nothing.
+use mathlib.Core.Path.{_∙_}
+use denote.Ref.{now}
 use Rattle.paper.specs.Dictionary.{dictionaryOf}
-use Rattle.short.proofs.Shortening.{index-is}
+use Rattle.short.specs.SetLaws.{common-index}
 use Rattle.short.proofs.shorten.index_of.Statement.{statement}
 use Rattle.short.proofs.shorten.index_of.Tie as tie
 
-abbrev Inv-loop : tie.InvT-loop
-Inv-loop dictionary base modulus key i₀ i = (i ≤ 32) × ((k : ℕ) → k < i → dictionaryOf dictionary (base + k) % modulus ≡ key → ⊥)
+walked-index-requires : tie.Need-walked-index-requires
+walked-index-requires c κs = let p = c .before .before .before .pre .0 in (p .0, p .1, p .2)
 
-abbrev μ-loop : tie.MeasureT-loop
-μ-loop dictionary base modulus key i₀ i = 32 - i
+returns : tie.Need-returns
+returns c = c .walked-index .ensures
 
-loop-holds : tie.Need-loop-holds Inv-loop μ-loop
-loop-holds c = (omega arith, λ k h e. absurd (omega arith))
+first-common-requires : tie.Need-first-common-requires
+first-common-requires c κs = let p = c .before .before .before .pre .1 in (p .1 (c .if1 .left) .0, p .0)
 
-add-number : tie.Need-add-number Inv-loop μ-loop
-add-number c = search needs
-
-number-requires : tie.Need-number-requires Inv-loop μ-loop
-number-requires c κs = search needs
-
-rem-if1 : tie.Need-rem-if1 Inv-loop μ-loop
-rem-if1 c = search needs
-
-returns : tie.Need-returns Inv-loop μ-loop
-returns c = index-is _ _ _ _ (record { within = search needs; before = c .before .before .before .loop .inv .1; found = λ h. (cc) })
-
-add-i : tie.Need-add-i Inv-loop μ-loop
-add-i c = search needs
-
-loop-less : tie.Need-loop-less Inv-loop μ-loop
-loop-less c = search needs
-
-loop-again : tie.Need-loop-again Inv-loop μ-loop
-loop-again c = (search needs, below-more _ _ (c .before .before .before .loop .inv .1) (λ e. c .if1 .left (cc)))
-
-returns-2 : tie.Need-returns-2 Inv-loop μ-loop
-returns-2 c = index-is _ _ _ _ (record { within = omega arith; before = λ k h. c .before .loop .inv .1 k (omega arith); found = λ h. absurd (omega arith) })
+returns-2 : tie.Need-returns-2
+returns-2 c =
+    let p = c .before .before .before .before .pre in
+    let a = c .before .before .before .before .args in
+    c .first-common .ensures ∙ common-index (dictionaryOf (now (a .dictionary))) (a .base) _ _ (p .0 .2) _ (p .1 .1 (c .before .if1 .left) .1) _ (p .0 .3)
 
 pub index-of-spec : {M : Type 1} → statement M
-index-of-spec =
-    tie.close
-    (tie.spec
-    Inv-loop
-    μ-loop
-    loop-holds
-    add-number
-    number-requires
-    rem-if1
-    returns
-    add-i
-    loop-less
-    loop-again
-    returns-2)
+index-of-spec = tie.close (tie.spec walked-index-requires returns first-common-requires returns-2)

@@ -9,7 +9,7 @@ shorten-halves-requires : tie.Need-shorten-halves-requires
 shorten-halves-requires c κs = search needs
 
 returns : tie.Need-returns
-returns c = c .shorten-halves .ensures ∙ sym (by-halves _ (c .before .before .args .w .lo) (c .before .before .args .w .hi) (search needs))
+returns c = c .shorten-halves .ensures ∙ sym (by-halves _ (c .before .before .before .args .w .lo) (c .before .before .before .args .w .hi) (search needs))
 
 pub shorten-spec : {M : Type 1} → statement M
 shorten-spec = tie.close (tie.spec shorten-halves-requires returns)

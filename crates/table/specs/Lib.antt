@@ -1,0 +1,2 @@
+-- What the table's entries say.
+pub mod Entries
