@@ -34,7 +34,7 @@ use Rattle.run.specs.declared.running.Outcome.{Outcome}
 use Rattle.run.specs.Running.{Running, running-end, running-on}
 use Rattle.run.specs.Kernels.{instructions, Takes, end-is, end-not, runnable}
 use Rattle.run.specs.Opening.{Blank}
-use Rattle.run.specs.Outcomes.{Ends}
+use Rattle.run.specs.Outcomes.{Ends, one-step}
 use Rattle.laws.specs.Truth.{both-true}
 
 -- ---- 1
@@ -209,13 +209,14 @@ module _ (dictionary kernel registers bytes : List ℕ) (sizes : Sizes dictionar
     step-end h =
         rw (sizes .all, law .judged, law .legal, running-end k registers here s (stateOf registers bytes) opened (end-is dictionary kernel taken (s .place) h)) (refl, refl, refl)
 
-    -- a step away from it,
-    pub step-made : (8 * s .place ≡ length kernel → ⊥) → (registers′ here′ bytes′ : List ℕ) (s′ : Stand)
-        → Shows registers′ here′ s′ (step k (stateOf registers bytes)) → bytes′ ≡ stateBytes (step k (stateOf registers bytes))
+    -- a step away from it, which is a run of one,
+    pub step-made : (8 * s .place ≡ length kernel → ⊥) → (registers′ here′ bytes′ : List ℕ) (out : Outcome)
+        → (ends : Ends k 1 (stateOf registers bytes) registers′ here′ out) → bytes′ ≡ stateBytes (ends .0)
         → Left (stepCall dictionary kernel registers bytes) (Told 0 0) registers′ bytes′
-    step-made away registers′ here′ bytes′ s′ shown wrote =
+    step-made away registers′ here′ bytes′ out ends wrote =
         let on : stops k (stateOf registers bytes) ≡ none = running-on k registers here s (stateOf registers bytes) opened (end-not dictionary kernel taken (s .place) away) in
-        rw (step-ready dictionary kernel registers bytes k ready on) (refl, ap (λ (st : Store). st .registers) (shown .store), wrote)
+        let same : ends .0 ≡ step k (stateOf registers bytes) = one-step k (stateOf registers bytes) on (out .verdict) (out .steps) (ends .0) (ends .2) in
+        rw (step-ready dictionary kernel registers bytes k ready on, ← same) (refl, ap (λ (st : Store). st .registers) (ends .1 .shows .store), wrote)
 
     -- a run.
     pub run-made : (budget : ℕ) → budget ≤ budgetLimit → (registers′ here′ bytes′ : List ℕ) (out : Outcome)
@@ -223,3 +224,10 @@ module _ (dictionary kernel registers bytes : List ℕ) (sizes : Sizes dictionar
         → Left (runCall dictionary kernel budget registers bytes) (Told (out .verdict) (out .steps)) registers′ bytes′
     run-made budget h registers′ here′ bytes′ out ends wrote =
         rw (run-ready dictionary kernel registers bytes k ready budget h, ← (ends .2)) (refl, ap (λ (st : Store). st .registers) (ends .1 .shows .store), wrote)
+
+-- ---- one way for both calls
+
+-- A step, or a run.
+abbrev pub callOf : Bool → List ℕ → List ℕ → ℕ → List ℕ → List ℕ → Changed
+callOf true dictionary kernel budget registers bytes = stepCall dictionary kernel registers bytes
+callOf false dictionary kernel budget registers bytes = runCall dictionary kernel budget registers bytes

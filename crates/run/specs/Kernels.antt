@@ -9,15 +9,14 @@ use lib.ListN.{length}
 use Rattle.paper.specs.Dictionary.{dictionaryOf}
 use Rattle.paper.specs.Kernel.{Instr, longAndShort}
 use Rattle.paper.specs.Jump.{fetch, endOf, lands}
-use Rattle.paper.specs.Machine.{State, Ways, waysOf}
+use Rattle.paper.specs.Machine.{waysOf}
 use Rattle.paper.specs.Calls.{accepted}
 use Rattle.kernel.specs.Marks.{instrsOf}
 use Rattle.kernel.specs.Standing.{sizeAt, wordAt, Whole, Fetches, fits}
 use Rattle.kernel.specs.Jumps.{instrOf}
 use Rattle.kernel.specs.Accepting.{AcceptedKernel, Here, Found, found-here, none-past, lands-here}
-use Rattle.machine.specs.declared.step.Stand.{Stand}
 use Rattle.machine.specs.Branches.{Within}
-use Rattle.run.specs.Running.{Passes, Runnable, ways-within, Running, Steps, running-lands, running-steps}
+use Rattle.run.specs.Running.{Passes, Runnable, ways-within}
 
 -- An accepted kernel's instructions; none of a kernel that is refused.
 unfoldable pub instructions : List ℕ → List ℕ → List Instr
@@ -76,14 +75,6 @@ module _ (dictionary kernel : List ℕ) (a : Takes dictionary kernel) where
     -- It leads to places of 16 bits.
     pub bytes-within : (size w : ℕ) → Fetches (dictionaryOf dictionary) kernel (8 * p) size w → Within 65536 (waysOf (instrOf p size w))
     bytes-within size w f = ways-within k runnable 65536 (omega (arith, a .ends, a .sizes .kernel-most)) p (instrOf p size w) (bytes-fetched size w f)
-
-  -- In a run that stands away from the end, what is read makes the step.
-  pub bytes-step : (registers here : List ℕ) (s : Stand) (t : State) → Running k registers here s t → (8 * s .place ≡ length kernel → ⊥)
-      → (size w : ℕ) (ways : Ways) → Fetches (dictionaryOf dictionary) kernel (8 * s .place) size w → ways ≡ waysOf (instrOf (s .place) size w)
-      → Steps k here s t w ways
-  bytes-step registers here s t r away size w ways f e =
-      running-steps k registers here s t r (end-not (s .place) away) (instrOf (s .place) size w)
-      (bytes-fetched (s .place) (running-lands k registers here s t r) away size w f) w ways refl e
 
   -- Where none starts, and the kernel does not end, none is fetched.
   pub none-fetched : (p : ℕ) → lands k p ≡ false → fetch k p ≡ none

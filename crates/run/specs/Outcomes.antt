@@ -1,7 +1,7 @@
 -- A run's outcome as the code has it, and what is left of a run from where its loop stands. Assumes nothing.
 use mathlib.Core.List.{List}
 use mathlib.Core.Option.{Option, none, some}
-use mathlib.Core.Path.{_≡_, sym, ap, _∙_}
+use mathlib.Core.Path.{_≡_, refl, sym, ap, _∙_}
 use Prim.Native.Nat.{ℕ, zero, suc, _+_, _-_, _<_}
 use native.Mathlib.Omega.{arith}
 use Rattle.paper.specs.Kernel.{Instr}
@@ -62,3 +62,9 @@ module _ (k : List Instr) (budget : ℕ) (whole : paper.State) (n : ℕ) (s : pa
         leads ∙ ap (λ (m : ℕ). after n (run k m s)) m ∙ ap (after n) (run-on (stops k) (step k) (budget - (n + 1)) s on)
         ∙ summed rest (n + suc (rest .steps)) (n + 1 + rest .steps) (omega arith)
         ∙ ap (λ (t : paper.State). after (n + 1) (run k (budget - (n + 1)) t)) (sym e)
+
+-- A run of one step, away from the end, comes to the state after that step.
+pub one-step : (k : List Instr) (t : paper.State) → stops k t ≡ none → (v n : ℕ) (u : paper.State) → ended v n u ≡ run k 1 t → u ≡ step k t
+one-step k t on v n u e =
+    ap (λ (o : paper.Outcome). o .state) (e ∙ leads-on k 1 t 0 t (leads-start k 1 t) on (omega arith) (step k t) refl)
+    ∙ ap (λ (o : paper.Outcome). o .state) (run-zero (stops k) (step k) (step k t))

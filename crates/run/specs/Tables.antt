@@ -38,10 +38,11 @@ TabledAt k table p =
 abbrev pub TabledTo : List Instr → List ℕ → ℕ → Type 0
 TabledTo k table q = (p : ℕ) → p < q → TabledAt k table p
 
--- The table has the instructions of a kernel that ends at this place.
-pub record Tabled (k : List Instr) (end : ℕ) (table : List ℕ) : Type 0 where
+-- The table has what a run of so many steps from place `start` reads of a kernel that ends at this place: the row there, and all if it makes more than one.
+pub record Tabled (k : List Instr) (end budget start : ℕ) (table : List ℕ) : Type 0 where
   pub ends : end ≡ endOf k
-  pub rows : TabledTo k table end
+  pub first : start < end → TabledAt k table start
+  pub rest : 1 < budget → TabledTo k table end
   pub long : 3 * end ≤ length table
 
 -- One place more: three numbers are stored, and all others stay.
@@ -67,9 +68,16 @@ tabled-more k table after p to e q h = go (eqb q p) refl
         let c = e .others (3 * q + 2) (λ x y. omega arith) in
         rw (a, b, c) old
 
--- All places of a kernel that has n bytes.
-pub tabled-all : (k : List Instr) (table : List ℕ) (n p : ℕ) → 8 * endOf k ≡ n → p ≡ n / 8 → TabledTo k table p → 3 * (n / 8) ≤ length table → Tabled k (n / 8) table
-tabled-all k table n p ends e rows long = record { ends = omega arith; rows = subst (TabledTo k table) e rows; long = long }
+-- So is a table that has all places of a kernel of n bytes,
+pub tabled-all : (k : List Instr) (table : List ℕ) (n p : ℕ) → 8 * endOf k ≡ n → p ≡ n / 8 → TabledTo k table p → 3 * (n / 8) ≤ length table
+    → (budget start : ℕ) → Tabled k (n / 8) budget start table
+tabled-all k table n p ends e rows long budget start =
+    let all : TabledTo k table (n / 8) = subst (TabledTo k table) e rows in
+    record { ends = omega arith; first = all start; rest = λ h. all; long = long }
+
+-- and for one step one that has its place.
+pub tabled-one : (k : List Instr) (table : List ℕ) (n p : ℕ) → 8 * endOf k ≡ n → TabledAt k table p → 3 * (n / 8) ≤ length table → Tabled k (n / 8) 1 p table
+tabled-one k table n p ends row long = record { ends = omega arith; first = λ h. row; rest = λ h. absurd (omega arith); long = long }
 
 -- Where no instruction starts there is nothing to store.
 pub entered-none : (k : List Instr) (table : List ℕ) (p : ℕ) → fetch k p ≡ none → Entered k table table p
@@ -119,8 +127,8 @@ entered-three k table p lo hi code i room fetched word ways =
 
 -- ---- a run over a table
 
-module _ (k : List Instr) (end : ℕ) (table : List ℕ) (d : Tabled k end table) (registers here : List ℕ) (s : Stand) (t : State) (r : Running k registers here s t)
-    (away : s .place ≡ end → ⊥) where
+module _ (k : List Instr) (end budget start : ℕ) (table : List ℕ) (d : Tabled k end budget start table) (registers here : List ℕ) (s : Stand) (t : State)
+    (r : Running k registers here s t) (away : s .place ≡ end → ⊥) where
   inside : s .place < end
   inside = omega (arith, running-before k registers here s t r, d .ends, away)
 
@@ -131,11 +139,21 @@ module _ (k : List Instr) (end : ℕ) (table : List ℕ) (d : Tabled k end table
   pub row-away : s .place ≡ endOf k → ⊥
   row-away e = away (e ∙ sym (d .ends))
 
+  -- after n steps, of which there are more,
+  row-told : (n : ℕ) → (n ≡ 0 → s .place ≡ start) → n < budget → TabledAt k table (s .place)
+  row-told n begun h = go (eqb n 0) refl
+    where
+      go : (b : Bool) → eqb n 0 ≡ b → TabledAt k table (s .place)
+      go true e =
+          let same : s .place ≡ start = begun (eqb-true n 0 e) in
+          subst (TabledAt k table) (sym same) (d .first (omega (arith, inside, same)))
+      go false e = d .rest (omega (arith, eqb-false n 0 e)) (s .place) inside
+
   -- and makes the step of the instruction there.
-  pub row-steps : (w : ℕ) (ways : Ways) → w ≡ getD table (3 * s .place) 0 + getD table (3 * s .place + 1) 0 * 2 ^ 64
-      → ways ≡ waysFrom (getD table (3 * s .place + 2) 0) → Steps k here s t w ways
-  row-steps w ways ew e =
+  pub row-steps : (n : ℕ) → (n ≡ 0 → s .place ≡ start) → n < budget → (w : ℕ) (ways : Ways)
+      → w ≡ getD table (3 * s .place) 0 + getD table (3 * s .place + 1) 0 * 2 ^ 64 → ways ≡ waysFrom (getD table (3 * s .place + 2) 0) → Steps k here s t w ways
+  row-steps n begun h w ways ew e =
       let i = running-instr k registers here s t r row-away in
       let f = running-fetched k registers here s t r row-away in
-      let row = d .rows (s .place) inside i f in
+      let row = row-told n begun h i f in
       running-steps k registers here s t r row-away i f w ways (ew ∙ row .0) (e ∙ row .1)

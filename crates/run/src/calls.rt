@@ -1,6 +1,5 @@
 // The calls step and run over lent bytes. A refusal changes nothing.
-use crate::lawful::run_lawful;
-use crate::lawful::step_lawful;
+use crate::lawful::made_lawful;
 use crate::legal::is_legal;
 use kernel::accept::accept;
 use kernel::accept::is_sized;
@@ -64,7 +63,7 @@ pub fn step(dictionary: &[u8], kernel: &[u8], registers: &mut [u8], state: &mut 
     let o = admit(dictionary, kernel, state, &mut marks);
     match o {
         Admission::Barred(number, offset) => Answer::Refused(number, offset),
-        Admission::Fine => step_lawful(dictionary, kernel, registers, state),
+        Admission::Fine => made_lawful(true, dictionary, kernel, &marks, 1, registers, state),
     }
 }
 
@@ -88,6 +87,6 @@ pub fn run(
     let o = admit(dictionary, kernel, state, &mut marks);
     match o {
         Admission::Barred(number, offset) => Answer::Refused(number, offset),
-        Admission::Fine => run_lawful(dictionary, kernel, &marks, budget, registers, state),
+        Admission::Fine => made_lawful(false, dictionary, kernel, &marks, budget, registers, state),
     }
 }

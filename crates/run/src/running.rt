@@ -1,17 +1,11 @@
 // Steps of an accepted kernel, which is not judged again.
 use crate::table::row_at;
-use crate::ways::ways_of;
-use kernel::fetch::word_at;
 use machine::step::Stand;
 use machine::step::step_at;
-ghost use mathlib.Core.Path.{_≡_};
 ghost use mathlib.Core.List.{List};
-ghost use Prim.Native.Nat.{_*_};
-ghost use lib.ListN.{length};
 ghost use Rattle.paper.specs.Kernel.{Instr};
-ghost use Rattle.paper.specs.Machine.{State, step};
+ghost use Rattle.paper.specs.Machine.{State};
 ghost use Rattle.run.specs.Running.{Running};
-ghost use Rattle.run.specs.Kernels.{instructions, Takes};
 ghost use Rattle.run.specs.Tables.{Tabled};
 ghost use Rattle.run.specs.Outcomes.{Ends};
 
@@ -20,27 +14,6 @@ pub struct Outcome {
     pub verdict: u8,
     pub steps: u64,
     pub stand: Stand,
-}
-
-// One step, away from the end.
-pub(crate) fn advance(
-    dictionary: &[u8],
-    kernel: &[u8],
-    s: Stand,
-    registers: &mut [u8],
-    here: &mut [u16],
-) -> Stand
-    requires { ⌜ Takes (now dictionary) (now kernel) × (8 * s .place ≡ length (now kernel) → ⊥) ⌝ }
-    requires { ⌜ ((t : State) × Running (instructions (now dictionary) (now kernel)) (now registers) (now here) s t) ⌝ }
-    ensures { λ r. ⌜ ((t : State) → Running (instructions (now (dictionary .entry)) (now (kernel .entry))) (now (registers .entry)) (now (here .entry)) s t
-        → Running (instructions (now (dictionary .entry)) (now (kernel .entry))) (now (registers .exit)) (now (here .exit)) r
-        (step (instructions (now (dictionary .entry)) (now (kernel .entry))) t)) ⌝ }
-{
-    let place = s.place;
-    let f = word_at(dictionary, kernel, 8 * (place as usize));
-    let w = f.word;
-    let ways = ways_of(w, place, f.size);
-    step_at(w, ways, s, registers, here)
 }
 
 // Steps of the instructions in a table, until the end or until the budget is spent.
@@ -52,8 +25,8 @@ pub(crate) fn run_on(
     registers: &mut [u8],
     here: &mut [u16],
 ) -> Outcome
-    requires { ⌜ ((k : List Instr) × (t : State) × Running k (now registers) (now here) start t × Tabled k end (now table)) ⌝ }
-    ensures { λ r. ⌜ ((k : List Instr) (t : State) → Running k (now (registers .entry)) (now (here .entry)) start t → Tabled k end (now (table .entry))
+    requires { ⌜ ((k : List Instr) × (t : State) × Running k (now registers) (now here) start t × Tabled k end budget (start .place) (now table)) ⌝ }
+    ensures { λ r. ⌜ ((k : List Instr) (t : State) → Running k (now (registers .entry)) (now (here .entry)) start t → Tabled k end budget (start .place) (now (table .entry))
         → Ends k budget t (now (registers .exit)) (now (here .exit)) r) ⌝ }
 {
     let mut s = start;

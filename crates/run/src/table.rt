@@ -52,7 +52,7 @@ pub(crate) fn row_at(table: &[u64], place: u64) -> Row
 }
 
 // The row at place p, if an instruction starts there, is stored.
-fn enter(dictionary: &[u8], kernel: &[u8], marks: &[u8; PLACES], p: usize, table: &mut [u64])
+pub(crate) fn put_row(dictionary: &[u8], kernel: &[u8], marks: &[u8; PLACES], p: usize, table: &mut [u64])
     requires { ⌜ Takes (now dictionary) (now kernel)
         × ((q : ℕ) → marked (now marks) q ≡ lands (instructions (now dictionary) (now kernel)) q)
         × (8 * p < length (now kernel)) × (3 * p + 2 < length (now table)) ⌝ }
@@ -74,13 +74,13 @@ pub(crate) fn fill(dictionary: &[u8], kernel: &[u8], marks: &[u8; PLACES], table
     requires { ⌜ Takes (now dictionary) (now kernel)
         × ((q : ℕ) → marked (now marks) q ≡ lands (instructions (now dictionary) (now kernel)) q)
         × (3 * length (now kernel) ≤ 8 * length (now table)) ⌝ }
-    ensures { λ r. ⌜ Tabled (instructions (now (dictionary .entry)) (now (kernel .entry))) r (now (table .exit))
+    ensures { λ r. ⌜ ((budget start : ℕ) → Tabled (instructions (now (dictionary .entry)) (now (kernel .entry))) r budget start (now (table .exit)))
         × (length (now (table .exit)) ≡ length (now (table .entry))) ⌝ }
 {
     let end = kernel.len() / 8;
     let mut p = 0;
     while p < end {
-        enter(dictionary, kernel, marks, p, table);
+        put_row(dictionary, kernel, marks, p, table);
         p += 1;
     }
     end as u64

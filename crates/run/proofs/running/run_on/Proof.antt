@@ -14,14 +14,15 @@ use Rattle.run.proofs.running.run_on.Tie as tie
 
 abbrev Inv-loop : tie.InvT-loop
 Inv-loop table end budget registers₀ here₀ s₀ steps₀ registers here s steps =
-    (steps ≤ budget) × ((k : List Instr) (t : State) → Running k registers₀ here₀ s₀ t → Tabled k end table → (u : State) × Running k registers here s u × Leads k budget t steps u)
+    (steps ≤ budget) × ((k : List Instr) (t : State) → Running k registers₀ here₀ s₀ t → Tabled k end budget (s₀ .place) table → (u : State) × Running k registers here s u × Leads k budget t steps u)
     × (length here ≡ length here₀)
+    × (steps ≡ 0 → s .place ≡ s₀ .place)
 
 abbrev μ-loop : tie.MeasureT-loop
 μ-loop table end budget registers₀ here₀ s₀ steps₀ registers here s steps = budget - steps
 
 loop-holds : tie.Need-loop-holds Inv-loop μ-loop
-loop-holds c = (omega arith, λ k t r d. (t, r, leads-start k _ t), refl)
+loop-holds c = (omega arith, λ k t r d. (t, r, leads-start k _ t), refl, λ e. refl)
 
 same-length : tie.Need-same-length Inv-loop μ-loop
 same-length c =
@@ -36,20 +37,21 @@ returns : tie.Need-returns Inv-loop μ-loop
 returns c =
     λ k t r d.
     let i = c .before .before .before .loop .inv .1 k t r d in
-    (i .0, i .1, leads-spent k _ t _ (i .0) (i .2) (running-on k _ _ _ (i .0) (i .1) (row-away k _ _ d _ _ _ (i .0) (i .1) (c .before .if1 .taken))) (c .if2 .taken))
+    (i .0, i .1, leads-spent k _ t _ (i .0) (i .2) (running-on k _ _ _ (i .0) (i .1) (row-away k _ _ _ _ d _ _ _ (i .0) (i .1) (c .before .if1 .taken))) (c .if2 .taken))
 
 row-at-requires : tie.Need-row-at-requires Inv-loop μ-loop
 row-at-requires c κs =
     let p = c .before .before .before .before .before .before .before .pre in
     let i = c .before .before .before .loop .inv .1 (p .0) (p .1) (p .2) (p .3) in
-    row-there (p .0) _ _ (p .3) _ _ _ (i .0) (i .1) (c .before .if1 .taken)
+    row-there (p .0) _ _ _ _ (p .3) _ _ _ (i .0) (i .1) (c .before .if1 .taken)
 
 step-at-requires : tie.Need-step-at-requires Inv-loop μ-loop
 step-at-requires c κs =
     let p = c .before .before .before .before .before .before .before .before .before .before .before .before .pre in
-    let i = c .before .before .before .before .before .before .before .before .loop .inv .1 (p .0) (p .1) (p .2) (p .3) in
+    let l = c .before .before .before .before .before .before .before .before .loop in
+    let i = l .inv .1 (p .0) (p .1) (p .2) (p .3) in
     let e = c .before .before .before .before .row-at .ensures in
-    let st = row-steps (p .0) _ _ (p .3) _ _ _ (i .0) (i .1) (c .before .before .before .before .before .before .if1 .taken) _ _ (e .0) (e .1) in
+    let st = row-steps (p .0) _ _ _ _ (p .3) _ _ _ (i .0) (i .1) (c .before .before .before .before .before .before .if1 .taken) _ (l .inv .3) (omega (arith, l .inv .0, c .before .before .before .before .before .if2 .left)) _ _ (e .0) (e .1) in
     ((st .legal, running-registers (p .0) _ _ _ (i .0) (i .1), st .within), (running-sound (p .0) _ _ _ (i .0) (i .1), running-place (p .0) _ _ _ (i .0) (i .1)))
 
 add-steps : tie.Need-add-steps Inv-loop μ-loop
@@ -73,8 +75,8 @@ loop-again c =
       omega (arith, l .inv .0, more),
       λ k t r d.
           let i = l .inv .1 k t r d in
-          let st = row-steps k _ _ d _ _ _ (i .0) (i .1) away _ _ (e .0) (e .1) in
-          let on = running-on k _ _ _ (i .0) (i .1) (row-away k _ _ d _ _ _ (i .0) (i .1) away) in
+          let st = row-steps k _ _ _ _ d _ _ _ (i .0) (i .1) away _ (l .inv .3) (omega (arith, l .inv .0, more)) _ _ (e .0) (e .1) in
+          let on = running-on k _ _ _ (i .0) (i .1) (row-away k _ _ _ _ d _ _ _ (i .0) (i .1) away) in
           (step k (i .0), running-made k _ _ _ (i .0) (i .1) _ _ st _ _ _ (m .1 .2) (m .0 (i .0) (i .1 .shows)), leads-on k _ t _ (i .0) (i .2) on (omega (arith, l .inv .0, more)) (step k (i .0)) refl),
       m .1 .2 ∙ l .inv .2,
     )

@@ -20,8 +20,8 @@ loop-holds c =
     let a = c .before .before .before .args in
     (omega arith, tabled-none (instructions (a .dictionary .now) (a .kernel .now)) (a .table .now), refl)
 
-enter-requires : tie.Need-enter-requires Inv-loop μ-loop
-enter-requires c κs =
+put-row-requires : tie.Need-put-row-requires Inv-loop μ-loop
+put-row-requires c κs =
     let p = c .before .before .before .before .before .before .pre in
     let i = c .before .before .loop .inv in
     let t = c .before .loop-test .taken in
@@ -37,7 +37,7 @@ loop-again : tie.Need-loop-again Inv-loop μ-loop
 loop-again c =
     let i = c .before .before .before .before .before .loop .inv in
     let t = c .before .before .before .before .loop-test .taken in
-    let e = c .before .before .enter .ensures in
+    let e = c .before .before .put-row .ensures in
     (omega (arith, t), tabled-more _ _ _ _ (i .1) e, e .long ∙ i .2)
 
 same-length : tie.Need-same-length Inv-loop μ-loop
@@ -54,4 +54,4 @@ returns c =
 pub fill-spec : {M : Type 1} → statement M
 fill-spec =
     tie.close
-    (tie.spec Inv-loop μ-loop loop-holds enter-requires add-p loop-less loop-again same-length returns)
+    (tie.spec Inv-loop μ-loop loop-holds put-row-requires add-p loop-less loop-again same-length returns)

@@ -10,8 +10,8 @@ use Rattle.machine.specs.Branches.{waysIs, Within}
 use Rattle.run.specs.Kernels.{bytes-there, bytes-fetched, bytes-within, none-fetched}
 use Rattle.run.specs.Tables.{ways-from, entered-none, entered-three}
 use borrow.Author.Needs.{needs}
-use Rattle.run.proofs.table.enter.Statement.{statement}
-use Rattle.run.proofs.table.enter.Tie as tie
+use Rattle.run.proofs.table.put_row.Statement.{statement}
+use Rattle.run.proofs.table.put_row.Tie as tie
 
 is-marked-requires : tie.Need-is-marked-requires
 is-marked-requires c κs = search needs
@@ -88,8 +88,8 @@ returns-2 c =
     let p = c .before .before .before .before .before .pre in
     entered-none _ _ _ (none-fetched _ _ (p .0) _ (sym (p .1 _) ∙ sym (c .before .is-marked .ensures) ∙ c .if1 .left))
 
-pub enter-spec : {M : Type 1} → statement M
-enter-spec =
+pub put-row-spec : {M : Type 1} → statement M
+put-row-spec =
     tie.close
     (tie.spec
     is-marked-requires
