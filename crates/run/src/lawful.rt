@@ -16,6 +16,7 @@ ghost use Rattle.run.specs.Opening.{Blank};
 
 // As many places as a tiny and a small kernel have at most, its end among them.
 const TINY: usize = 64;
+
 const SMALL: usize = 512;
 
 // A table of three numbers for each place is lent, and the masks by place are lent blank.
@@ -93,7 +94,14 @@ fn made_over(
         return step_over(dictionary, kernel, marks, registers, state, table, here);
     }
     run_over(
-        dictionary, kernel, marks, budget, registers, state, table, here,
+        dictionary,
+        kernel,
+        marks,
+        budget,
+        registers,
+        state,
+        table,
+        here,
     )
 }
 
@@ -116,19 +124,43 @@ pub(crate) fn made_lawful(
         let mut table = [0u64; 3 * TINY];
         let mut here = [0u16; TINY];
         return made_over(
-            single, dictionary, kernel, marks, budget, registers, state, &mut table[0..], &mut here[0..places],
+            single,
+            dictionary,
+            kernel,
+            marks,
+            budget,
+            registers,
+            state,
+            &mut table[0..],
+            &mut here[0..places],
         );
     }
     if places <= SMALL {
         let mut table = [0u64; 3 * SMALL];
         let mut here = [0u16; SMALL];
         return made_over(
-            single, dictionary, kernel, marks, budget, registers, state, &mut table[0..], &mut here[0..places],
+            single,
+            dictionary,
+            kernel,
+            marks,
+            budget,
+            registers,
+            state,
+            &mut table[0..],
+            &mut here[0..places],
         );
     }
     let mut table = [0u64; 3 * PLACES];
     let mut here = [0u16; PLACES];
     made_over(
-        single, dictionary, kernel, marks, budget, registers, state, &mut table[0..], &mut here[0..places],
+        single,
+        dictionary,
+        kernel,
+        marks,
+        budget,
+        registers,
+        state,
+        &mut table[0..],
+        &mut here[0..places],
     )
 }

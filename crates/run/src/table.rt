@@ -52,7 +52,13 @@ pub(crate) fn row_at(table: &[u64], place: u64) -> Row
 }
 
 // The row at place p, if an instruction starts there, is stored.
-pub(crate) fn put_row(dictionary: &[u8], kernel: &[u8], marks: &[u8; PLACES], p: usize, table: &mut [u64])
+pub(crate) fn put_row(
+    dictionary: &[u8],
+    kernel: &[u8],
+    marks: &[u8; PLACES],
+    p: usize,
+    table: &mut [u64],
+)
     requires { ⌜ Takes (now dictionary) (now kernel)
         × ((q : ℕ) → marked (now marks) q ≡ lands (instructions (now dictionary) (now kernel)) q)
         × (8 * p < length (now kernel)) × (3 * p + 2 < length (now table)) ⌝ }

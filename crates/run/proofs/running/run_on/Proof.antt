@@ -79,6 +79,7 @@ loop-again c =
           let on = running-on k _ _ _ (i .0) (i .1) (row-away k _ _ _ _ d _ _ _ (i .0) (i .1) away) in
           (step k (i .0), running-made k _ _ _ (i .0) (i .1) _ _ st _ _ _ (m .1 .2) (m .0 (i .0) (i .1 .shows)), leads-on k _ t _ (i .0) (i .2) on (omega (arith, l .inv .0, more)) (step k (i .0)) refl),
       m .1 .2 ∙ l .inv .2,
+      λ e. absurd (omega arith),
     )
 
 same-length-3 : tie.Need-same-length-3 Inv-loop μ-loop
