@@ -2,7 +2,7 @@
 use crate::branch::act;
 use crate::posts::rouse;
 use crate::ways::Ways;
-use execute::enable::predicate_of;
+use execute::enable::voted;
 use execute::execute::execute;
 use lanes::flags::Flags;
 use words::bytes::Word;
@@ -62,7 +62,7 @@ fn perform(
             place: ways.next,
         },
         Operation::Jumps(b) => {
-            let forked = act(b, predicate_of(w, flags), ways, up, here);
+            let forked = act(b, voted(w, flags), ways, up, here);
             Stand {
                 flags: flags,
                 awake: forked.awake,

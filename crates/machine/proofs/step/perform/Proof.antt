@@ -26,14 +26,14 @@ enum-told c = search needs
 enum-known-o-2 : tie.Need-enum-known-o-2
 enum-known-o-2 c = search needs
 
-predicate-of-requires : tie.Need-predicate-of-requires
-predicate-of-requires c κs = search needs
+voted-requires : tie.Need-voted-requires
+voted-requires c κs = search needs
 
 act-requires : tie.Need-act-requires
 act-requires c κs =
     let s = c .before .before .before .before .before .before .before in
     let p = s .pre in
-    (p .1 .2, rw (c .before .predicate-of .ensures) (predicate-less (toWord (s .args .w)) (storeOf [] (s .args .flags))), p .1 .4, p .1 .3)
+    (p .1 .2, rw (c .before .voted .ensures) (predicate-less (toWord (s .args .w)) (storeOf [] (s .args .flags))), p .1 .4, p .1 .3)
 
 enum-told-2 : tie.Need-enum-told-2
 enum-told-2 c = search needs
@@ -73,7 +73,7 @@ returns-3 c =
     let a = s .args in
     let st = storeOf (a .registers .now) (a .flags) in
     let e = c .before .before .act .ensures in (
-      λ cs posted. rw (c .before .before .before .before .before .before .o2 .given .1) (branch-shown _ _ _ (a .registers .now) cs (branchIs (c .before .before .before .before .before .before .o2 .given .0 .0)) (toWord (a .w)) (waysIs (a .ways)) st (posted .sixteen) refl refl refl _ (c .before .before .before .before .predicate-of .ensures) (e .0 st cs posted)),
+      λ cs posted. rw (c .before .before .before .before .before .before .o2 .given .1) (branch-shown _ _ _ (a .registers .now) cs (branchIs (c .before .before .before .before .before .before .o2 .given .0 .0)) (toWord (a .w)) (waysIs (a .ways)) st (posted .sixteen) refl refl refl _ (c .before .before .before .before .voted .ensures) (e .0 st cs posted)),
       (s .pre .1 .0, s .pre .1 .1, e .1),
     )
 
@@ -97,7 +97,7 @@ perform-spec =
     execute-requires
     enum-told
     enum-known-o-2
-    predicate-of-requires
+    voted-requires
     act-requires
     enum-told-2
     same-length
