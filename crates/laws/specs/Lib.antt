@@ -33,4 +33,5 @@ pub mod StateBytes
 pub mod Calls
 pub mod Lasting
 pub mod KeptFlags
+pub mod Longer
 pub mod Demands
