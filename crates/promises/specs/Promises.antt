@@ -1,6 +1,6 @@
 -- The promises of the exported calls, for all that can be lent to them. Read this file first, and after it what it names: the contracts (Contracts and OneOutcome
 -- of the crate `spokeshaver`) and the lists of numbers (Numbers of `answers`). It states them and proves none: `demand-1` of OutcomesHold, `demand-2` of
--- PackingHolds and `demand-3` of RunningHolds are the theorems. A hypothesis such as `PackPromise dictionary kernel out r out′` says: spokeshaver_pack, lent
+-- PackingHolds, `demand-3` of RunningHolds and `still-answered` of LongerHolds are the theorems. A hypothesis such as `PackPromise dictionary kernel out r out′` says: spokeshaver_pack, lent
 -- these, answered r and left out′ in its output; that is the contract of the call, proved with its code. `numberIn`, `offsetIn` and `countIn` take an answer
 -- apart as the header's macros do. Demands 2 and 3 ask besides that what is lent is bytes (`areBytes`) and 16-bit numbers, as the types in C say.
 use mathlib.Core.Bool.{Bool, true}
@@ -15,14 +15,15 @@ use Rattle.paper.specs.Bits.{numberAt}
 use Rattle.paper.specs.Dictionary.{dictionaryOf}
 use Rattle.paper.specs.Expand.{expand}
 use Rattle.paper.specs.Shorten.{Shortens, Least}
-use Rattle.paper.specs.Kernel.{Instr, longAndShort, longOnly, good}
+use Rattle.paper.specs.Kernel.{Instr, Forms, longAndShort, longOnly, good}
 use Rattle.paper.specs.State.{half, channelsIn, stateLegal}
 use Rattle.paper.specs.Packing.{index}
-use Rattle.paper.specs.Calls.{Answer, accepted, checkCall, packCall, unpackCall, shortenCall, expandCall, decodeCall, decodePart, startCall, stepCall, runCall, numberOf, offsetOf, countOf}
+use Rattle.paper.specs.Calls.{Answer, asNumber, accepted, checkCall, packCall, unpackCall, shortenCall, expandCall, decodeCall, decodePart, startCall, stepCall, runCall, numberOf, offsetOf, countOf}
 use Rattle.laws.specs.Names.{renameC, program}
 use Rattle.laws.specs.Items.{Item, allBytes, instrsFrom}
 use Rattle.laws.specs.Packing.{AllShortest}
-use Rattle.contracts.specs.Contracts.{numberIn, offsetIn, countIn, CheckPromise, PackPromise, UnpackPromise, ShortenPromise, ExpandPromise}
+use Rattle.laws.specs.Longer.{bytesBefore, instructionsBefore, Settled, acceptedWithin, checkWithin, packWithin, unpackWithin, stepWithin, runWithin}
+use Rattle.contracts.specs.Contracts.{numberIn, offsetIn, countIn, Wrote, Left, CheckPromise, PackPromise, UnpackPromise, ShortenPromise, ExpandPromise}
 use Rattle.contracts.specs.Contracts.{DecodePromise, StartPromise, StepPromise, RunPromise}
 use Rattle.contracts.specs.OneOutcome.{OneOutcome}
 use Rattle.answers.specs.Numbers.{checkNumbers, packNumbers, unpackNumbers, shortenNumbers, expandNumbers, decodeNumbers, startNumbers, stepNumbers, runNumbers}
@@ -264,3 +265,24 @@ pub record Demand3 : Type 0 where
   -- So do a kernel that unpack answered with 0, and the bytes that it wrote.
   pub alikeUnpacked : (dictionary kernel out : List ℕ) → areBytes kernel ≡ true → (p : ℕ) (out′ : List ℕ) → UnpackPromise dictionary kernel out p out′
       → numberIn p ≡ 0 → Alike dictionary kernel (result p out′)
+
+-- ==== longer kernels: what passed under lower limits is answered as it was
+
+-- With at most 16,384 bytes and 1,024 instructions, as the limits were before they were raised, the kernel is accepted, or refused as anything but 1 and 17.
+abbrev pub SettledBefore : Forms → List ℕ → List ℕ → Type 0
+SettledBefore forms dictionary kernel = Settled (acceptedWithin bytesBefore instructionsBefore forms dictionary kernel)
+
+-- Each call's outcome on such a kernel is what it was. `checkWithin` and its like are the paper's calls with 1 and 17 at given limits (Longer of `laws`).
+pub record StillAnswered : Type 0 where
+  pub check : (dictionary kernel : List ℕ) → SettledBefore longAndShort dictionary kernel → (r : ℕ) → CheckPromise dictionary kernel r
+      → r ≡ asNumber (checkWithin bytesBefore instructionsBefore dictionary kernel)
+  pub pack : (dictionary kernel out : List ℕ) → SettledBefore longOnly dictionary kernel → (r : ℕ) (out′ : List ℕ) → PackPromise dictionary kernel out r out′
+      → Wrote (packWithin bytesBefore instructionsBefore dictionary kernel out) r out′
+  pub unpack : (dictionary kernel out : List ℕ) → SettledBefore longAndShort dictionary kernel → (r : ℕ) (out′ : List ℕ)
+      → UnpackPromise dictionary kernel out r out′ → Wrote (unpackWithin bytesBefore instructionsBefore dictionary kernel out) r out′
+  pub step : (dictionary kernel registers state : List ℕ) → SettledBefore longAndShort dictionary kernel → (r : ℕ) (registers′ state′ : List ℕ)
+      → StepPromise dictionary kernel registers state r registers′ state′
+      → Left (stepWithin bytesBefore instructionsBefore dictionary kernel registers state) r registers′ state′
+  pub run : (dictionary kernel : List ℕ) (budget : ℕ) (registers state : List ℕ) → SettledBefore longAndShort dictionary kernel
+      → (r : ℕ) (registers′ state′ : List ℕ) → RunPromise dictionary kernel budget registers state r registers′ state′
+      → Left (runWithin bytesBefore instructionsBefore dictionary kernel budget registers state) r registers′ state′
