@@ -18,7 +18,7 @@ use Rattle.paper.specs.Jump.{targetsOf, withJumps}
 use Rattle.paper.specs.Machine.{step, stops, run}
 use Rattle.paper.specs.Packing.{Piece, Form, newSize, startOf, newTargets}
 use Rattle.paper.specs.Calls.{Answer, Written, Changed, refusal, unchanged, sized, judgedKernel, accepted, checkedAs, checkCall, relaid, packCall, unpackCall}
-use Rattle.paper.specs.Calls.{onState, steppedAs, stepCall, ranAs, runCall}
+use Rattle.paper.specs.Calls.{undecoded, judgedAs, decodeAt, decodedAs, decodeCall, onState, steppedAs, stepCall, ranAs, runCall}
 use Rattle.laws.specs.Names.{movedTo, piecesOf, newEnd}
 use Rattle.laws.specs.Moved.{moved-reaches, first-ends}
 use Rattle.laws.specs.Relay.{newEnd-near}
@@ -37,25 +37,41 @@ judgedWithin instructions forms dictionary kernel =
     cond (inRange D) (withJumps (walk (judgeAt forms D kernel) (length kernel) instructions 0)) (bad 2 0)
 
 module _ (bytes instructions : ℕ) where
-  -- A kernel, and each call on it.
+  -- 1, then the kernel's own refusals.
   abbrev pub acceptedWithin : Forms → List ℕ → List ℕ → Parsed
   acceptedWithin forms dictionary kernel = cond (sizedWithin bytes dictionary kernel) (judgedWithin instructions forms dictionary kernel) (bad 1 0)
 
+  -- Check: how many instructions.
   abbrev pub checkWithin : List ℕ → List ℕ → Answer
   checkWithin dictionary kernel = checkedAs (acceptedWithin longAndShort dictionary kernel)
 
+  -- Packing, which takes long words only.
   abbrev pub packWithin : List ℕ → List ℕ → List ℕ → Written
   packWithin dictionary kernel out = relaid (shorten (dictionaryOf dictionary)) out (acceptedWithin longOnly dictionary kernel)
 
+  -- Unpacking.
   abbrev pub unpackWithin : List ℕ → List ℕ → List ℕ → Written
   unpackWithin dictionary kernel out = relaid (λ _. none) out (acceptedWithin longAndShort dictionary kernel)
 
+  -- Decoding at a place, which counts no instructions.
+  abbrev pub decodeWithin : List ℕ → List ℕ → ℕ → Answer
+  decodeWithin dictionary kernel place =
+      let D = dictionaryOf dictionary in
+      let from = 8 * place in
+      decodedAs
+      (cond (not (sizedWithin bytes dictionary kernel)) (undecoded 1 0)
+      (cond (not (inRange D)) (undecoded 2 0)
+      (cond (leb (length kernel) from) (undecoded 3 0)
+      (judgedAs from (judgeAt longAndShort D kernel from)))))
+
+  -- A step.
   abbrev pub stepWithin : List ℕ → List ℕ → List ℕ → List ℕ → Changed
   stepWithin dictionary kernel registers state =
       cond (sizedWithin bytes dictionary kernel && (eqb (length registers) registerBytes && eqb (length state) stateLength))
       (onState registers state (λ k s. steppedAs (stops k s) registers state (step k s)) (judgedWithin instructions longAndShort dictionary kernel))
       (unchanged (refusal 1 0) registers state)
 
+  -- A run.
   abbrev pub runWithin : List ℕ → List ℕ → ℕ → List ℕ → List ℕ → Changed
   runWithin dictionary kernel budget registers state =
       cond (not (sizedWithin bytes dictionary kernel && (eqb (length registers) registerBytes && eqb (length state) stateLength)))
@@ -63,10 +79,11 @@ module _ (bytes instructions : ℕ) where
       (cond (ltb budgetLimit budget) (unchanged (refusal 16 0) registers state)
       (onState registers state (λ k s. ranAs (run k budget s)) (judgedWithin instructions longAndShort dictionary kernel)))
 
--- The limits before they were raised.
+-- A kernel's bytes, at the most, before the limits were raised.
 abbrev pub bytesBefore : ℕ
 bytesBefore = 16384
 
+-- Its instructions, at the most, before that.
 abbrev pub instructionsBefore : ℕ
 instructionsBefore = 1024
 
@@ -84,6 +101,10 @@ module _ (dictionary kernel : List ℕ) where
   unfolding unpackCall accepted judgedKernel parse
   unpack-now out = refl
 
+  pub decode-now : (place : ℕ) → decodeWithin kernelBytes instructionLimit dictionary kernel place ≡ decodeCall dictionary kernel place
+  unfolding decodeCall decodeAt
+  decode-now place = refl
+
   pub step-now : (registers state : List ℕ) → stepWithin kernelBytes instructionLimit dictionary kernel registers state ≡ stepCall dictionary kernel registers state
   unfolding stepCall judgedKernel parse
   step-now registers state = refl
@@ -100,10 +121,12 @@ abbrev Under : Parsed → Type 0
 Under (bad number offset) = number ≡ 17 → ⊥
 Under (good k) = Unit {0}
 
+-- What follows an instruction is so where the whole is.
 under-rest : (i : Instr) (q : Parsed) → Under (prepend i q) → Under q
 under-rest i (bad number offset) u = u
 under-rest i (good k) u = tt
 
+-- So is what was parsed before its jumps were judged.
 under-jumps : (q : Parsed) → Under (withJumps q) → Under q
 unfolding withJumps
 under-jumps (bad number offset) u = u
@@ -143,22 +166,25 @@ abbrev pub Settled : Parsed → Type 0
 Settled (bad number offset) = (number ≡ 1 → ⊥) × (number ≡ 17 → ⊥)
 Settled (good k) = Unit {0}
 
+-- What is settled did not have an instruction too many.
 settled-under : (q : Parsed) → Settled q → Under q
 settled-under (bad number offset) s = s .1
 settled-under (good k) s = tt
 
+-- What has the right size under a lower limit has it now.
 sizes-more : (a : Bool) (length bytes : ℕ) → bytes ≤ kernelBytes → (a && leb length bytes) ≡ true → (a && leb length kernelBytes) ≡ true
 sizes-more true length bytes h e = let l = leb-true length bytes e in le-leb length kernelBytes (omega arith)
 sizes-more false length bytes h e = e
 
 module _ (bytes instructions : ℕ) (less : bytes ≤ kernelBytes) (few : instructions ≤ instructionLimit) where
   -- What is known of such a kernel: it has the right size under both limits, and what is said of it after that is the same.
-  record Alike (forms : Forms) (dictionary kernel : List ℕ) : Type 0 where
+  record JudgedAlike (forms : Forms) (dictionary kernel : List ℕ) : Type 0 where
     fits : sizedWithin bytes dictionary kernel ≡ true
     fitsNow : sized dictionary kernel ≡ true
     same : judgedKernel forms dictionary kernel ≡ judgedWithin instructions forms dictionary kernel
 
-  alike : (forms : Forms) (dictionary kernel : List ℕ) → Settled (acceptedWithin bytes instructions forms dictionary kernel) → Alike forms dictionary kernel
+  -- All of it holds of a settled kernel.
+  alike : (forms : Forms) (dictionary kernel : List ℕ) → Settled (acceptedWithin bytes instructions forms dictionary kernel) → JudgedAlike forms dictionary kernel
   unfolding judgedKernel parse
   alike forms dictionary kernel settled = go (sizedWithin bytes dictionary kernel) refl settled
     where
@@ -174,7 +200,7 @@ module _ (bytes instructions : ℕ) (less : bytes ≤ kernelBytes) (few : instru
       judged false s = refl
 
       go : (t : Bool) → sizedWithin bytes dictionary kernel ≡ t → Settled (cond t (judgedWithin instructions forms dictionary kernel) (bad 1 0))
-          → Alike forms dictionary kernel
+          → JudgedAlike forms dictionary kernel
       go true e s =
           record {
             fits = e;
@@ -195,7 +221,15 @@ module _ (bytes instructions : ℕ) (less : bytes ≤ kernelBytes) (few : instru
   unfolding packCall
   pack-same dictionary kernel out s = ap (relaid (shorten (dictionaryOf dictionary)) out) (accepted-same longOnly dictionary kernel s)
 
-  -- So do check, unpack, step and run.
+  -- Decoding asks for the right size only.
+  pub decode-same : (dictionary kernel : List ℕ) (place : ℕ) → sizedWithin bytes dictionary kernel ≡ true
+      → decodeCall dictionary kernel place ≡ decodeWithin bytes instructions dictionary kernel place
+  unfolding decodeCall decodeAt
+  decode-same dictionary kernel place e =
+      let now : sized dictionary kernel ≡ true = sizes-more (eqb (length dictionary) dictionaryBytes) (length kernel) bytes less e in
+      rw (now, e)
+
+  -- Check, unpack, step and run answer, and leave, the same too.
   module _ (dictionary kernel : List ℕ) (s : Settled (acceptedWithin bytes instructions longAndShort dictionary kernel)) where
     pub check-same : checkCall dictionary kernel ≡ checkWithin bytes instructions dictionary kernel
     unfolding checkCall
@@ -227,6 +261,7 @@ unfoldable pub AllReach : List Instr → List Piece → ℕ → List Piece → T
 AllReach k ps a [] = Unit {0}
 AllReach k ps a (p ∷ rest) = (targetsOf (movedTo k ps a p) ≡ map pos (newTargets k ps (p .instr))) × AllReach k ps (a + newSize p) rest
 
+-- Where the pieces end below 2^15, so does each of them.
 all-reach : (k : List Instr) (ps : List Piece) → startOf 0 ps (length ps) < 2 ^ 15 → (a : ℕ) (rest : List Piece) → startOf a rest (length rest) < 2 ^ 15
     → AllReach k ps a rest
 unfolding AllReach startOf

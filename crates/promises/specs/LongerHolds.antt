@@ -1,10 +1,10 @@
--- What passed under the limits before they were raised is answered as it was: the calls are those laws, through the contracts. Assumes nothing.
+-- What passed under the limits before they were raised is answered as it was: each law of Longer, through the contract of its call. Assumes nothing.
 use mathlib.Core.List.{List}
 use mathlib.Core.Path.{ap, _∙_, subst}
 use native.Mathlib.Omega.{arith}
 use Rattle.paper.specs.Calls.{asNumber, Written, Changed}
 use Rattle.contracts.specs.Contracts.{Wrote, Left}
-use Rattle.laws.specs.Longer.{bytesBefore, instructionsBefore, check-same, pack-same, unpack-same, step-same, run-same}
+use Rattle.laws.specs.Longer.{bytesBefore, instructionsBefore, check-same, pack-same, unpack-same, decode-same, step-same, run-same}
 use Rattle.promises.specs.Promises.{StillAnswered}
 
 pub still-answered : StillAnswered
@@ -15,6 +15,8 @@ still-answered =
           subst (λ (w : Written). Wrote w r out′) (pack-same bytesBefore instructionsBefore (omega arith) (omega arith) dictionary kernel out s) p;
       unpack = λ dictionary kernel out s r out′ p.
           subst (λ (w : Written). Wrote w r out′) (unpack-same bytesBefore instructionsBefore (omega arith) (omega arith) dictionary kernel s out) p;
+      decode = λ dictionary kernel place s r p.
+          p ∙ ap asNumber (decode-same bytesBefore instructionsBefore (omega arith) (omega arith) dictionary kernel place s);
       step = λ dictionary kernel registers state s r registers′ state′ p.
           subst (λ (c : Changed). Left c r registers′ state′)
           (step-same bytesBefore instructionsBefore (omega arith) (omega arith) dictionary kernel s registers state) p;

@@ -22,7 +22,7 @@ use Rattle.paper.specs.Calls.{Answer, asNumber, accepted, checkCall, packCall, 
 use Rattle.laws.specs.Names.{renameC, program}
 use Rattle.laws.specs.Items.{Item, allBytes, instrsFrom}
 use Rattle.laws.specs.Packing.{AllShortest}
-use Rattle.laws.specs.Longer.{bytesBefore, instructionsBefore, Settled, acceptedWithin, checkWithin, packWithin, unpackWithin, stepWithin, runWithin}
+use Rattle.laws.specs.Longer.{bytesBefore, instructionsBefore, Settled, sizedWithin, acceptedWithin, checkWithin, packWithin, unpackWithin, decodeWithin, stepWithin, runWithin}
 use Rattle.contracts.specs.Contracts.{numberIn, offsetIn, countIn, Wrote, Left, CheckPromise, PackPromise, UnpackPromise, ShortenPromise, ExpandPromise}
 use Rattle.contracts.specs.Contracts.{DecodePromise, StartPromise, StepPromise, RunPromise}
 use Rattle.contracts.specs.OneOutcome.{OneOutcome}
@@ -272,7 +272,8 @@ pub record Demand3 : Type 0 where
 abbrev pub SettledBefore : Forms → List ℕ → List ℕ → Type 0
 SettledBefore forms dictionary kernel = Settled (acceptedWithin bytesBefore instructionsBefore forms dictionary kernel)
 
--- Each call's outcome on such a kernel is what it was. `checkWithin` and its like are the paper's calls with 1 and 17 at given limits (Longer of `laws`).
+-- Each call's outcome on such a kernel is what it was; decode asks for its size only. `checkWithin` and its like are the paper's calls with 1 and 17 at given limits
+-- (Longer of `laws`).
 pub record StillAnswered : Type 0 where
   pub check : (dictionary kernel : List ℕ) → SettledBefore longAndShort dictionary kernel → (r : ℕ) → CheckPromise dictionary kernel r
       → r ≡ asNumber (checkWithin bytesBefore instructionsBefore dictionary kernel)
@@ -280,6 +281,8 @@ pub record StillAnswered : Type 0 where
       → Wrote (packWithin bytesBefore instructionsBefore dictionary kernel out) r out′
   pub unpack : (dictionary kernel out : List ℕ) → SettledBefore longAndShort dictionary kernel → (r : ℕ) (out′ : List ℕ)
       → UnpackPromise dictionary kernel out r out′ → Wrote (unpackWithin bytesBefore instructionsBefore dictionary kernel out) r out′
+  pub decode : (dictionary kernel : List ℕ) (place : ℕ) → sizedWithin bytesBefore dictionary kernel ≡ true → (r : ℕ) → DecodePromise dictionary kernel place r
+      → r ≡ asNumber (decodeWithin bytesBefore instructionsBefore dictionary kernel place)
   pub step : (dictionary kernel registers state : List ℕ) → SettledBefore longAndShort dictionary kernel → (r : ℕ) (registers′ state′ : List ℕ)
       → StepPromise dictionary kernel registers state r registers′ state′
       → Left (stepWithin bytesBefore instructionsBefore dictionary kernel registers state) r registers′ state′
