@@ -14,7 +14,7 @@
  *
  * Sizes
  *   dictionary  512 bytes: 128 little-endian numbers of four bytes, 32 each for control (17 bits), datatype (18), subregister (15), source (12)
- *   kernel      0 to 16,384 bytes, 0 to 1,024 instructions of 8 bytes (short) or 16 bytes (long)
+ *   kernel      0 to 65,536 bytes, 0 to 4,096 instructions of 8 bytes (short) or 16 bytes (long)
  *   registers   4,096 bytes: r0 to r127, 32 bytes each
  *   state       42 bytes, below
  *   A place is an offset in a kernel in units of 8 bytes.
@@ -42,8 +42,8 @@ extern "C" {
 #define SPOKESHAVER_DICTIONARY_BYTES 512
 #define SPOKESHAVER_REGISTER_BYTES 4096
 #define SPOKESHAVER_STATE_BYTES 42
-#define SPOKESHAVER_KERNEL_MOST 16384
-#define SPOKESHAVER_INSTRUCTIONS_MOST 1024
+#define SPOKESHAVER_KERNEL_MOST 65536
+#define SPOKESHAVER_INSTRUCTIONS_MOST 4096
 #define SPOKESHAVER_BUDGET_MOST 1000000
 #define SPOKESHAVER_LONG_WORD_BYTES 16
 #define SPOKESHAVER_SHORT_WORD_BYTES 8
@@ -63,10 +63,10 @@ extern "C" {
 #define SPOKESHAVER_SPENT 21   /* run: the budget is spent short of the end */
 
 /* Refusals. Where more than one would do, the first of this list is given: 3 to 11 and 17 instruction by instruction, 12 after all have passed. */
-#define SPOKESHAVER_WRONG_SIZE 1        /* registers, state or dictionary of another size, a kernel over 16,384 bytes, a word not of 16 (shorten) or 8 (expand) */
+#define SPOKESHAVER_WRONG_SIZE 1        /* registers, state or dictionary of another size, a kernel over 65,536 bytes, a word not of 16 (shorten) or 8 (expand) */
 #define SPOKESHAVER_BUDGET_OVER 16      /* a budget over 1,000,000 */
 #define SPOKESHAVER_WIDE_DICTIONARY 2   /* a dictionary number is wider than its table */
-#define SPOKESHAVER_TOO_MANY 17         /* this would be the 1,025th instruction */
+#define SPOKESHAVER_TOO_MANY 17         /* this would be the 4,097th instruction */
 #define SPOKESHAVER_CUT_SHORT 3         /* under 8 bytes left, or a long word with under 16; decode: a place at or past the end */
 #define SPOKESHAVER_UNLISTED 4          /* an opcode that is not listed */
 #define SPOKESHAVER_WRONG_FORM 5        /* a short branch; a short word where a long one is asked, or the reverse */
@@ -85,7 +85,7 @@ extern "C" {
 uint64_t spokeshaver_check(const uint8_t *dictionary, size_t dictionary_len, const uint8_t *kernel, size_t kernel_len);
 
 /* Packs a kernel of long words: each that can be is shortened, each jump still reaches the same instruction. The result stands at the front of `out`;
- * kernel_len bytes are always enough for it. ACCEPTED with the result's bytes as count; or what check refuses (but 1 for 1,025 long words, which are too many
+ * kernel_len bytes are always enough for it. ACCEPTED with the result's bytes as count; or what check refuses (but 1 for 4,097 long words, which are too many
  * bytes), 5 for a short word, 14. */
 uint64_t spokeshaver_pack(const uint8_t *dictionary, size_t dictionary_len, const uint8_t *kernel, size_t kernel_len, uint8_t *out, size_t out_len);
 

@@ -17,7 +17,7 @@
 
 enum { DICTIONARY, KERNEL, OUT, STATE, BUFFERS };
 enum { CALL, FIRST, SECOND, THIRD, LENGTHS, NUMBERS = LENGTHS + BUFFERS };
-enum { ROOM = 1 << 16, MARGIN = 64, MARK = 0xA5 };
+enum { ROOM = 1 << 17, MARGIN = 64, MARK = 0xA5 };
 
 /* Where each buffer's room ends, and what was lent in it, the margin before it included. */
 static uint8_t *end[BUFFERS];
@@ -75,7 +75,7 @@ static uint64_t call(const uint64_t *number) {
 
 int main(void) {
     uint64_t number[NUMBERS], reply[2];
-    static char input[1 << 17], output[1 << 17];
+    static char input[1 << 18], output[1 << 18];
     setvbuf(stdin, input, _IOFBF, sizeof input);
     setvbuf(stdout, output, _IOFBF, sizeof output);
     if (!make_room()) return 1;

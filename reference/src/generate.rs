@@ -118,8 +118,8 @@ pub fn lent(case: &Case) -> Outcome {
     before
 }
 
-/// The numbers that a call can answer at all, by its name. Packing never answers 17: 1,024 long
-/// words fill the 16,384 bytes, so one more is 1 already.
+/// The numbers that a call can answer at all, by its name. Packing never answers 17: as many
+/// long words as a kernel may have fill its bytes, so one more is 1 already.
 pub fn possible(name: &str) -> BTreeSet<u8> {
     let kernel = [1, 2, 3, 4, 5, 6, 7, 8, 9, 10, 11, 12];
     let with = |more: &[u8]| kernel.iter().chain(more).copied().collect();

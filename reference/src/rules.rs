@@ -9,9 +9,9 @@ use crate::words::{
 };
 
 /// A kernel holds at most this many bytes.
-pub const KERNEL_BYTES: usize = 16_384;
+pub const KERNEL_BYTES: usize = 65_536;
 /// A kernel holds at most this many instructions.
-pub const KERNEL_INSTRUCTIONS: usize = 1_024;
+pub const KERNEL_INSTRUCTIONS: usize = 4_096;
 
 /// An instruction of a kernel: where it starts, its expanded word and its own length.
 #[derive(Clone, Copy, PartialEq, Eq, Debug)]

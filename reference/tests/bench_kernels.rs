@@ -35,7 +35,7 @@ fn mixed_has_the_length_asked_for_and_packs_well() {
 
 #[test]
 fn mixed_loops_have_any_length_and_run_on() {
-    for instructions in [1, 16, 200, 1_024] {
+    for instructions in [1, 16, 200, 1_024, 4_096] {
         let mut bench = mixed_loop(instructions);
         let checked = Answer::of(calls::check(&bench.dictionary, &bench.kernel));
         assert_eq!(checked, Answer { number: 0, at: 0, count: instructions });

@@ -3,12 +3,14 @@
 
 use spokeshaver_reference::answers::Answer;
 use spokeshaver_reference::calls;
-use spokeshaver_reference::dictionary::Dictionary;
+use spokeshaver_reference::dictionary::{Dictionary, DICTIONARY_BYTES};
 use spokeshaver_reference::generate::{
     case, lent, perform, possible, Call, Case, Outcome, Reference,
 };
 use spokeshaver_reference::operations::Operation;
-use spokeshaver_reference::rules::{read_kernel, Accepts, Instruction};
+use spokeshaver_reference::rules::{
+    read_kernel, Accepts, Instruction, KERNEL_BYTES, KERNEL_INSTRUCTIONS,
+};
 use spokeshaver_reference::state::State;
 use std::collections::{BTreeMap, BTreeSet};
 
@@ -241,4 +243,42 @@ fn packing_and_back() {
             assert_eq!(&back, kernel, "seed {seed}");
         }
     }
+}
+
+/// A case's kernel, of the three calls that judge a kernel and nothing after it.
+fn kernel_of(case: &Case) -> Option<&[u8]> {
+    match &case.call {
+        Call::Check { kernel } | Call::Pack { kernel, .. } | Call::Unpack { kernel, .. } => {
+            Some(kernel)
+        }
+        _ => None,
+    }
+}
+
+/// Kernels come up that have as many instructions and bytes as a kernel may have, one less and
+/// one more, and jumps from one end of the longest to the other, both ways.
+#[test]
+fn the_limits_come_up() {
+    let (mut counts, mut lengths, mut jumps) = (BTreeSet::new(), BTreeSet::new(), BTreeSet::new());
+    for case in (0..SEEDS).filter(|seed| seed % 9 < 3).map(case) {
+        let Some(kernel) = kernel_of(&case) else { continue };
+        lengths.insert(kernel.len());
+        if case.dictionary.len() != DICTIONARY_BYTES || kernel.len() > KERNEL_BYTES {
+            continue;
+        }
+        let Ok(dictionary) = Dictionary::read(&case.dictionary) else { continue };
+        match read_kernel(kernel, &dictionary, Accepts::LongAndShort) {
+            Ok(program) => {
+                counts.insert(program.instructions.len());
+                for made in &program.instructions {
+                    jumps.extend(made.target_place().map(|target| target - made.place as i64));
+                }
+            }
+            Err(refusal) if refusal.number == 17 => drop(counts.insert(KERNEL_INSTRUCTIONS + 1)),
+            Err(_) => {}
+        }
+    }
+    assert!([4_095, 4_096, 4_097].iter().all(|count| counts.contains(count)));
+    assert!([65_536, 65_537].iter().all(|length| lengths.contains(length)));
+    assert_eq!((jumps.first(), jumps.last()), (Some(&-8_190), Some(&8_192)));
 }

@@ -283,14 +283,14 @@ fn least_short_word_among_repeats() {
 #[test]
 fn order_of_the_table() {
     let nop = word(Nop, 1);
-    let mut kernel = kernel_of(&vec![nop; 1024]);
-    assert_eq!(Answer::of(calls::check(&EMPTY, &kernel)), answer(0, 0, 1024));
+    let mut kernel = kernel_of(&vec![nop; 4_096]);
+    assert_eq!(Answer::of(calls::check(&EMPTY, &kernel)), answer(0, 0, 4_096));
     kernel.push(0);
     assert_eq!(Answer::of(calls::check(&EMPTY, &kernel)), answer(1, 0, 0));
     let short_nop = (0x7Eu64 | 1 << 29).to_le_bytes();
-    let mut kernel = short_nop.repeat(1024);
+    let mut kernel = short_nop.repeat(4_096);
     kernel.push(0);
-    assert_eq!(Answer::of(calls::check(&EMPTY, &kernel)), answer(17, 8192, 0));
+    assert_eq!(Answer::of(calls::check(&EMPTY, &kernel)), answer(17, 32_768, 0));
     let mut wide = EMPTY;
     wide[3] = 1;
     let mut state = State::start(1, 0, 0).to_bytes();
@@ -312,7 +312,7 @@ fn decoding_at_places() {
     assert_eq!(decode(&kernel[..20], 2), answer(3, 16, 0));
     assert_eq!(decode(&kernel, 1 << 61), answer(3, 0, 0));
     assert_eq!(decode(&kernel, u64::MAX), answer(3, 0, 0));
-    assert_eq!(decode(&[0; 16_385], 0), answer(1, 0, 0));
+    assert_eq!(decode(&[0; 65_537], 0), answer(1, 0, 0));
 }
 
 #[test]

@@ -45,7 +45,7 @@ pub record Fine (numbers : ℕ → Bool) (a : Answer) : Type 0 where
   pub listed : numbers (numberOf a) ≡ true
   pub small : Small a
 
--- A refusal of up to 17 at an offset up to 16,384.
+-- A refusal of up to 17 at an offset inside the longest kernel or at its end.
 fine-no : (numbers : ℕ → Bool) (number offset : ℕ) → numbers number ≡ true → number ≤ 17 → offset ≤ kernelBytes → Fine numbers (refusal number offset)
 fine-no numbers number offset l n o = record { listed = l; small = small-refusal number offset (omega arith) (omega arith) }
 
@@ -74,7 +74,7 @@ FineChanged numbers r = Fine numbers (r .answer)
 
 -- ---- check
 
--- An accepted kernel's count is at most 1,024.
+-- An accepted kernel's count is at most the limit of instructions.
 pub check-fine : (dictionary kernel : List ℕ) → Fine checkNumbers (checkCall dictionary kernel)
 unfolding checkCall
 check-fine dictionary kernel = go (accepted longAndShort dictionary kernel) (accepted-near longAndShort dictionary kernel)
@@ -85,7 +85,7 @@ check-fine dictionary kernel = go (accepted longAndShort dictionary kernel) (acc
 
 -- ---- results
 
--- A result of at most 16,384 bytes, or 14.
+-- A result no longer than the longest kernel, or 14.
 deliver-fine : (numbers : ℕ → Bool) → numbers 14 ≡ true → numbers 0 ≡ true
     → (result out : List ℕ) → length result ≤ kernelBytes → FineWritten numbers (deliver result out)
 unfolding deliver
@@ -93,7 +93,7 @@ deliver-fine numbers full fine result out h =
     by-cond (FineWritten numbers) (ltb (length out) (length result)) _ _
     (λ _. fine-no numbers 14 0 full (omega arith) (omega arith)) (λ _. fine-told numbers 0 (length result) fine (omega arith) (omega arith))
 
--- A kernel laid out anew has at most 1,024 long words, which are 16,384 bytes.
+-- A kernel laid out anew has at most as many long words as a kernel may have, which fill the longest kernel.
 relaid-fine : (others : ℕ → Bool) → others 14 ≡ true → others 0 ≡ true
     → (form : Form) (out : List ℕ) (q : Parsed) → Near kernelBytes instructionLimit q → ((number offset : ℕ) → q ≡ bad number offset → number ≡ 17 → others 17 ≡ true)
     → FineWritten (λ n. oneTo 12 n || others n) (relaid form out q)

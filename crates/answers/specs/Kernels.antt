@@ -113,7 +113,7 @@ near-jumps end n (good k) h = near-astray end n k k h (near-inside end n k h)
 
 -- ---- a kernel as it is lent
 
--- A kernel of the right size has at most 16,384 bytes.
+-- A kernel of the right size is at most as long as the longest.
 pub sized-most : (dictionary kernel : List ℕ) → sized dictionary kernel ≡ true → length kernel ≤ kernelBytes
 sized-most dictionary kernel e = leb-true (length kernel) kernelBytes (both-true (eqb (length dictionary) dictionaryBytes) _ e .1)
 
@@ -138,7 +138,7 @@ unfolding Near
 near-more end more n (bad number offset) h g = (g .0, omega (arith, g .1))
 near-more end more n (good k) h g = (g .0, inside-more end more k h (g .1))
 
--- 1 too: an offset is 16,384 at the most, and there are at most 1,024 instructions.
+-- 1 too: an offset is at most the longest kernel's length, and there are at most as many instructions as a kernel may have.
 pub accepted-near : (forms : Forms) (dictionary kernel : List ℕ) → Near kernelBytes instructionLimit (accepted forms dictionary kernel)
 unfolding accepted
 accepted-near forms dictionary kernel =
@@ -208,7 +208,7 @@ long-two D kernel from size w h e = go size w (judge-passed longOnly D kernel fr
     go size w (asLong room form listed legal) = refl
     go size w (asShort room form listed plain takes legal) = absurd (false≢true takes)
 
--- 1,024 long words fill 16,384 bytes.
+-- As many long words as a kernel may have fill the longest kernel.
 pub long-few : (dictionary kernel : List ℕ) → Few (accepted longOnly dictionary kernel)
 unfolding accepted judgedKernel parse
 long-few dictionary kernel =

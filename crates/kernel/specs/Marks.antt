@@ -2,13 +2,13 @@
 use mathlib.Core.Bool.{Bool, true, false, cond, _||_, or-true, or-false}
 use mathlib.Core.List.{List, []}
 use mathlib.Core.Path.{_≡_, refl, sym, ap, _∙_}
-use Prim.Native.Nat.{ℕ, zero, suc, _+_, _/_, _<_, _≤_}
+use Prim.Native.Nat.{ℕ, zero, suc, _+_, _<_, _≤_}
 use native.Mathlib.Omega.{arith}
 use lib.Dec.{eqb, ltb}
 use lib.ListN.{length, getD, set, replicate}
 use lib.Seq.{getD-set-same, getD-set-other}
 use borrow.Author.Tests.{lt-ltb, le-ltb, eqb-true, eqb-false}
-use Rattle.paper.specs.Limits.{kernelBytes}
+use Rattle.paper.specs.Limits.{lastPlace}
 use Rattle.paper.specs.Kernel.{Instr, Parsed, bad, good}
 use Rattle.paper.specs.Jump.{lands}
 use Rattle.paper.specs.Calls.{checkedAs}
@@ -16,9 +16,9 @@ use Rattle.words.specs.Answer.{answerIs}
 use Rattle.words.specs.declared.answer.Answer.{Answer}
 use Rattle.words.specs.declared.answer.Answer.the-variants.{Told, Refused}
 
--- How many places there are: those of the longest kernel, eight bytes each, and its end.
+-- How many places there are, from 0 to the largest.
 abbrev pub placeCount : ℕ
-placeCount = kernelBytes / 8 + 1
+placeCount = lastPlace + 1
 
 -- Place p is marked. No place past the marks is.
 unfoldable pub marked : List ℕ → ℕ → Bool

@@ -33,6 +33,7 @@ pub mod StateBytes
 pub mod Calls
 pub mod Lasting
 pub mod KeptFlags
+pub mod Longer
 pub mod Demands
 pub mod Otherwise
 pub mod Adding

@@ -12,7 +12,7 @@ use lib.Seq.{take-at}
 use lib.Pow.{areBytes}
 use borrow.Author.Tests.{leb-true, le-leb, le-ltb}
 use Rattle.paper.specs.Bits.{bytesOf}
-use Rattle.paper.specs.Limits.{instructionLimit, kernelBytes, dictionaryBytes}
+use Rattle.paper.specs.Limits.{instructionLimit, kernelBytes, dictionaryBytes, lastPlace}
 use Rattle.paper.specs.Dictionary.{Dictionary, dictionaryOf, inRange}
 use Rattle.paper.specs.Shorten.{Shortens, Least, Shortest, shorten}
 use Rattle.paper.specs.Operation.{operation, isBranch}
@@ -33,7 +33,7 @@ use Rattle.laws.specs.Truth.{both-true}
 
 -- ---- what an accepted kernel is
 
--- Its instructions stand one after the other, its jumps land, its words are sane and at most 1,024, and they fill the bytes.
+-- Its instructions stand one after the other, its jumps land, its words are sane and no more than a kernel may have, and they fill the bytes.
 pub record Kernel (forms : Forms) (dictionary kernel : List ℕ) (k : List Instr) : Type 0 where
   pub sound : Sound k
   pub sane : AllSane k
@@ -76,8 +76,8 @@ kernel-of forms dictionary kernel bytes k e =
 
 -- ---- a relayout is accepted
 
--- An accepted kernel ends at place 2,048 at the latest.
-pub kernel-near : (forms : Forms) (dictionary kernel : List ℕ) (k : List Instr) → Kernel forms dictionary kernel k → endOf k ≤ 2048
+-- An accepted kernel ends at the largest place, at the latest.
+pub kernel-near : (forms : Forms) (dictionary kernel : List ℕ) (k : List Instr) → Kernel forms dictionary kernel k → endOf k ≤ lastPlace
 kernel-near forms dictionary kernel k h =
     let p = both-true (eqb (length dictionary) dictionaryBytes) (leb (length kernel) kernelBytes) (h .sizes) in
     omega (arith, h .ends, leb-true (length kernel) kernelBytes (p .1))

@@ -8,7 +8,7 @@ use native.Mathlib.Omega.{arith}
 use lib.Dec.{eqb}
 use lib.ListN.{length, length-append, length-map}
 use Rattle.paper.specs.Bits.{bits, bytesOf}
-use Rattle.paper.specs.Limits.{instructionLimit, kernelBytes}
+use Rattle.paper.specs.Limits.{instructionLimit, kernelBytes, lastPlace}
 use Rattle.paper.specs.Dictionary.{Dictionary}
 use Rattle.paper.specs.Expand.{expand, isShort}
 use Rattle.paper.specs.Shorten.{Shortens, Least, Shortest, shorten}
@@ -84,8 +84,8 @@ pub relay-length : (form : Form) (k : List Instr) → length (relay form k) ≡ 
 unfolding relay
 relay-length form k = let e = lay-length k (piecesOf form k) 0 (piecesOf form k) in omega arith
 
--- Up to 1,024 instructions end before place 2,049.
-pub newEnd-near : (form : Form) (k : List Instr) → length k ≤ instructionLimit → newEnd form k ≤ 2048
+-- As many instructions as a kernel may have end at the largest place, at the latest.
+pub newEnd-near : (form : Form) (k : List Instr) → length k ≤ instructionLimit → newEnd form k ≤ lastPlace
 newEnd-near form k few = omega (arith, end-near 0 (piecesOf form k), length-map k (piece form))
 
 -- ---- legality is kept

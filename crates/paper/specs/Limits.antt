@@ -1,5 +1,5 @@
 -- What the bench holds: the sizes and limits, each named once (the paper, "What the bench holds"). Assumes nothing.
-use Prim.Native.Nat.{ℕ}
+use Prim.Native.Nat.{ℕ, _/_}
 
 -- The register file: r0 to r127, 32 bytes each.
 abbrev pub registerBytes : ℕ
@@ -15,11 +15,15 @@ stateLength = 42
 
 -- A kernel's bytes, at the most.
 abbrev pub kernelBytes : ℕ
-kernelBytes = 16384
+kernelBytes = 65536
 
 -- A kernel's instructions, at the most.
 abbrev pub instructionLimit : ℕ
-instructionLimit = 1024
+instructionLimit = 4096
+
+-- The largest place: the end of the longest kernel, eight bytes a place.
+abbrev pub lastPlace : ℕ
+lastPlace = kernelBytes / 8
 
 -- A run's budget, at the most.
 abbrev pub budgetLimit : ℕ

@@ -4,6 +4,7 @@ use mathlib.Core.List.{List, [], _∷_, _++_, map}
 use Prim.Native.Nat.{ℕ, zero, suc, _+_, _-_, _*_, _^_}
 use lib.ListN.{replicate, take, set, length}
 use Rattle.paper.specs.Bits.{_at_, bytesOf}
+use Rattle.paper.specs.Limits.{kernelBytes}
 use Rattle.paper.specs.Kernel.{walk, judgeAt, parse, longAndShort}
 use Rattle.paper.specs.Jump.{withJumps}
 use Rattle.paper.specs.Calls.{Written, Changed, checkedAs, checkCall, packCall, unpackCall, shortenCall, expandCall, decodeCall, decodePart, startCall, stepCall, runCall}
@@ -34,7 +35,7 @@ addWith sub wide = op 0x40 3 + to 1 4 0 + from0 1 2 sub 4 3 1 + from1 1 3 0 4 wi
 unfoldable pub rowsKernel : List Row
 rowsKernel =
     (shown (checkCall (take 511 blankDictionary) []) gives 1 ∷ 0 ∷ 0 ∷ [])
-    ∷ (shown (checkCall blankDictionary (replicate 16385 0)) gives 1 ∷ 0 ∷ 0 ∷ [])
+    ∷ (shown (checkCall blankDictionary (replicate (kernelBytes + 1) 0)) gives 1 ∷ 0 ∷ 0 ∷ [])
     ∷ (shown (checkCall (numbers (set zeros 0 (2 ^ 17))) []) gives 2 ∷ 0 ∷ 0 ∷ [])
     ∷ (shown (checkCall (numbers (set zeros 0 (2 ^ 17 - 1))) []) gives 0 ∷ 0 ∷ 0 ∷ [])
     -- 17 before 3, shown at a limit of two

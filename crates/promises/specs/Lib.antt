@@ -1,5 +1,5 @@
 -- What follows from the contracts of the exported calls. Promises states it, and the others prove it: demand 1 in OutcomesHold, demand 2 in PackingHolds (a
--- single word in WordsHold), demand 3 in RunningHolds (two kernels in AlikeHolds), kernels that passed before in PassedHolds.
+-- single word in WordsHold), demand 3 in RunningHolds (two kernels in AlikeHolds), kernels that passed before in PassedHolds, and what longer kernels leave as it was in LongerHolds.
 pub mod Promises
 pub mod Results
 pub mod Words
@@ -12,3 +12,4 @@ pub mod Starts
 pub mod AlikeHolds
 pub mod RunningHolds
 pub mod PassedHolds
+pub mod LongerHolds

@@ -1,6 +1,6 @@
 -- The promises of the exported calls, for all that can be lent to them. Read this file first, and after it what it names: the contracts (Contracts and OneOutcome
 -- of the crate `spokeshaver`) and the lists of numbers (Numbers of `answers`). It states them and proves none: `demand-1` of OutcomesHold, `demand-2` of
--- PackingHolds, `demand-3` of RunningHolds and `passed-before` of PassedHolds are the theorems. A hypothesis such as `PackPromise dictionary kernel out r out′` says: spokeshaver_pack, lent
+-- PackingHolds, `demand-3` of RunningHolds, `passed-before` of PassedHolds and `still-answered` of LongerHolds are the theorems. A hypothesis such as `PackPromise dictionary kernel out r out′` says: spokeshaver_pack, lent
 -- these, answered r and left out′ in its output; that is the contract of the call, proved with its code. `numberIn`, `offsetIn` and `countIn` take an answer
 -- apart as the header's macros do. Demands 2 and 3 ask besides that what is lent is bytes (`areBytes`) and 16-bit numbers, as the types in C say.
 use mathlib.Core.Bool.{Bool, true}
@@ -15,7 +15,7 @@ use Rattle.paper.specs.Bits.{numberAt}
 use Rattle.paper.specs.Dictionary.{dictionaryOf}
 use Rattle.paper.specs.Expand.{expand}
 use Rattle.paper.specs.Shorten.{Shortens, Least}
-use Rattle.paper.specs.Kernel.{Instr, longAndShort, longOnly, good}
+use Rattle.paper.specs.Kernel.{Instr, Forms, longAndShort, longOnly, good}
 use Rattle.paper.specs.Machine.{Ways, State}
 use Rattle.paper.specs.State.{half, channelsIn, stateLegal}
 use Rattle.paper.specs.Packing.{index}
@@ -25,6 +25,7 @@ use Rattle.laws.specs.Items.{Item, allBytes, instrsFrom}
 use Rattle.laws.specs.Packing.{AllShortest}
 use Rattle.laws.specs.Otherwise.{checkCallBy, packCallBy, unpackCallBy, stepCallBy, runCallBy}
 use Rattle.laws.specs.VotesBefore.{refusalBefore, stepAtBefore}
+use Rattle.laws.specs.Longer.{bytesBefore, instructionsBefore, Settled, sizedWithin, acceptedWithin, checkWithin, packWithin, unpackWithin, decodeWithin, stepWithin, runWithin}
 use Rattle.contracts.specs.Contracts.{numberIn, offsetIn, countIn, Wrote, Left, CheckPromise, PackPromise, UnpackPromise, ShortenPromise, ExpandPromise}
 use Rattle.contracts.specs.Contracts.{DecodePromise, StartPromise, StepPromise, RunPromise}
 use Rattle.contracts.specs.OneOutcome.{OneOutcome}
@@ -289,3 +290,27 @@ pub record PassedBefore : Type 0 where
   -- One that pack accepted is packed to the same bytes.
   pub votesPacked : (dictionary kernel out : List ℕ) (n : ℕ) → packCallBy refusalBefore dictionary kernel out .answer ≡ verdict 0 n
       → (r : ℕ) (out′ : List ℕ) → PackPromise dictionary kernel out r out′ → Wrote (packCallBy refusalBefore dictionary kernel out) r out′
+
+-- ==== longer kernels: what passed under lower limits is answered as it was
+
+-- With at most 16,384 bytes and 1,024 instructions, as the limits were before they were raised, the kernel is accepted, or refused as anything but 1 and 17.
+abbrev pub SettledBefore : Forms → List ℕ → List ℕ → Type 0
+SettledBefore forms dictionary kernel = Settled (acceptedWithin bytesBefore instructionsBefore forms dictionary kernel)
+
+-- Each call's outcome on such a kernel is what it was; decode asks for its size only. `checkWithin` and its like are the paper's calls with 1 and 17 at given limits
+-- (Longer of `laws`).
+pub record StillAnswered : Type 0 where
+  pub check : (dictionary kernel : List ℕ) → SettledBefore longAndShort dictionary kernel → (r : ℕ) → CheckPromise dictionary kernel r
+      → r ≡ asNumber (checkWithin bytesBefore instructionsBefore dictionary kernel)
+  pub pack : (dictionary kernel out : List ℕ) → SettledBefore longOnly dictionary kernel → (r : ℕ) (out′ : List ℕ) → PackPromise dictionary kernel out r out′
+      → Wrote (packWithin bytesBefore instructionsBefore dictionary kernel out) r out′
+  pub unpack : (dictionary kernel out : List ℕ) → SettledBefore longAndShort dictionary kernel → (r : ℕ) (out′ : List ℕ)
+      → UnpackPromise dictionary kernel out r out′ → Wrote (unpackWithin bytesBefore instructionsBefore dictionary kernel out) r out′
+  pub decode : (dictionary kernel : List ℕ) (place : ℕ) → sizedWithin bytesBefore dictionary kernel ≡ true → (r : ℕ) → DecodePromise dictionary kernel place r
+      → r ≡ asNumber (decodeWithin bytesBefore instructionsBefore dictionary kernel place)
+  pub step : (dictionary kernel registers state : List ℕ) → SettledBefore longAndShort dictionary kernel → (r : ℕ) (registers′ state′ : List ℕ)
+      → StepPromise dictionary kernel registers state r registers′ state′
+      → Left (stepWithin bytesBefore instructionsBefore dictionary kernel registers state) r registers′ state′
+  pub run : (dictionary kernel : List ℕ) (budget : ℕ) (registers state : List ℕ) → SettledBefore longAndShort dictionary kernel
+      → (r : ℕ) (registers′ state′ : List ℕ) → RunPromise dictionary kernel budget registers state r registers′ state′
+      → Left (runWithin bytesBefore instructionsBefore dictionary kernel budget registers state) r registers′ state′

@@ -5,7 +5,7 @@ use mathlib.Core.Path.{_≡_, sym, ap, _∙_}
 use Prim.Native.Nat.{ℕ, _≤_}
 use native.Mathlib.Omega.{arith}
 use lib.Pow.{areBytes}
-use Rattle.paper.specs.Limits.{registerBytes}
+use Rattle.paper.specs.Limits.{registerBytes, lastPlace}
 use Rattle.paper.specs.Kernel.{Instr, longAndShort, good}
 use Rattle.paper.specs.Jump.{endOf}
 use Rattle.paper.specs.Machine.{State}
@@ -45,7 +45,7 @@ module _ (state registers : List ℕ) (b : Begun state registers) where
   start-ready dictionary kernel right k given =
       let h = kernel-of longAndShort dictionary kernel right k given in
       let parts = accepted-parts dictionary kernel k given in
-      let near : endOf k ≤ 2048 = kernel-near longAndShort dictionary kernel k h in
+      let near : endOf k ≤ lastPlace = kernel-near longAndShort dictionary kernel k h in
       let lasts = start-lasting k (h .sound) registers (b .flag0) (b .flag1) (b .mask) (b .whole) (b .small0) (b .small1) in
       rw started (stored-ready dictionary kernel k (h .sound) (omega arith) (parts .0) (parts .1) (beginning b) lasts)
 
@@ -54,7 +54,7 @@ module _ (state registers : List ℕ) (b : Begun state registers) where
       → named k (stateOf registers state) ≡ beginning b
   start-names dictionary kernel right k given =
       let h = kernel-of longAndShort dictionary kernel right k given in
-      let near : endOf k ≤ 2048 = kernel-near longAndShort dictionary kernel k h in
+      let near : endOf k ≤ lastPlace = kernel-near longAndShort dictionary kernel k h in
       let lasts = start-lasting k (h .sound) registers (b .flag0) (b .flag1) (b .mask) (b .whole) (b .small0) (b .small1) in
       let back = state-back (beginning b) (lasting-storable k (h .sound .laid) (omega arith) registerBytes (beginning b) lasts) in
       ap (λ (x : List ℕ). named k (stateOf registers x)) started ∙ ap (named k) back ∙ start-named k (h .sound) _ (b .mask)

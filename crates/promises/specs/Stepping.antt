@@ -9,7 +9,7 @@ use lib.Dec.{eqb}
 use lib.ListN.{length}
 use lib.Pow.{areBytes}
 use borrow.Author.Tests.{eqb-true, eqb-false, le-ltb}
-use Rattle.paper.specs.Limits.{registerBytes, stateLength, budgetLimit, instructionLimit}
+use Rattle.paper.specs.Limits.{registerBytes, stateLength, budgetLimit, instructionLimit, lastPlace}
 use Rattle.paper.specs.Kernel.{Instr, longAndShort, Parsed, bad, good}
 use Rattle.paper.specs.Jump.{endOf, fetch}
 use Rattle.paper.specs.Machine.{State, step, stops, stopsOn, run}
@@ -98,7 +98,7 @@ module _ (dictionary kernel registers bytes : List ℕ) (right : areBytes kernel
     pub run-leaves-ready : (budget : ℕ) → budget ≤ budgetLimit
         → let c = runCall dictionary kernel budget registers bytes in Ready dictionary kernel (c .registers) (c .state) k
     run-leaves-ready budget le =
-        let near : endOf k ≤ 2048 = kernel-near longAndShort dictionary kernel k kernel-lent in
+        let near : endOf k ≤ lastPlace = kernel-near longAndShort dictionary kernel k kernel-lent in
         let after = run-lasting k (kernel-lent .sound) registerBytes budget lent lasting-lent in
         rw (run-ready dictionary kernel registers bytes k r budget le)
         (stored-ready dictionary kernel k (kernel-lent .sound) (omega arith) (sizes .0) (r .judged) (run k budget lent .state) after)
@@ -107,7 +107,7 @@ module _ (dictionary kernel registers bytes : List ℕ) (right : areBytes kernel
     pub run-leaves : (budget : ℕ) → budget ≤ budgetLimit
         → let c = runCall dictionary kernel budget registers bytes in stateOf (c .registers) (c .state) ≡ run k budget lent .state
     run-leaves budget le =
-        let near : endOf k ≤ 2048 = kernel-near longAndShort dictionary kernel k kernel-lent in
+        let near : endOf k ≤ lastPlace = kernel-near longAndShort dictionary kernel k kernel-lent in
         let after = run-lasting k (kernel-lent .sound) registerBytes budget lent lasting-lent in
         rw (run-ready dictionary kernel registers bytes k r budget le)
         (stored-back dictionary kernel k (kernel-lent .sound) (omega arith) (sizes .0) (r .judged) (run k budget lent .state) after)
@@ -120,7 +120,7 @@ module _ (dictionary kernel registers bytes : List ℕ) (right : areBytes kernel
         ≡ record { answer = verdict (numberOf (rest .answer)) (suc (countOf (rest .answer))); registers = rest .registers; state = rest .state }
     unfolding stateOf
     run-suc e n le =
-        let near : endOf k ≤ 2048 = kernel-near longAndShort dictionary kernel k kernel-lent in
+        let near : endOf k ≤ lastPlace = kernel-near longAndShort dictionary kernel k kernel-lent in
         let law = run-steps dictionary kernel k (kernel-lent .sound) (omega arith) (sizes .0) (r .judged) lent lasting-lent e n le in
         rw bytes-lent at law
 

@@ -10,10 +10,10 @@ pub const DICTIONARY_BYTES: usize = 512;
 pub const STATE_LENGTH: usize = 42;
 
 // A kernel's bytes, at the most.
-pub const KERNEL_BYTES: usize = 16384;
+pub const KERNEL_BYTES: usize = 65536;
 
 // A kernel's instructions, at the most.
-pub const INSTRUCTION_LIMIT: u64 = 1024;
+pub const INSTRUCTION_LIMIT: u64 = 4096;
 
 // A run's budget, at the most.
 pub const BUDGET_LIMIT: u64 = 1000000;

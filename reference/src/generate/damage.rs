@@ -7,7 +7,7 @@ use crate::assemble;
 use crate::operations::{Operation, BRANCHES};
 use crate::packing::with_distance;
 use crate::random::Random;
-use crate::rules::judge_word;
+use crate::rules::{judge_word, KERNEL_BYTES, KERNEL_INSTRUCTIONS};
 use crate::words::{LongWord, SHORT_BIT};
 
 /// A kernel that is most likely refused.
@@ -66,11 +66,11 @@ fn noise(random: &mut Random, laying: Laying) -> Pair {
     pair
 }
 
-/// More than 1,024 instructions, mostly short ones so that the bytes are few enough, at times
-/// with a bad last one.
+/// As many instructions as a kernel may have, one less or a few more, mostly short ones so that
+/// the bytes are few enough, at times with a bad last one.
 fn too_many(random: &mut Random) -> Pair {
     let nop = assemble::word(Operation::Nop, 1);
-    let count = random.pick(&[1_023, 1_024, 1_025, 1_030]);
+    let count = KERNEL_INSTRUCTIONS + random.below(4) - 1;
     let plan = vec![Planned::Plain(nop); count];
     let mut pair = finish(random, &plan, Laying::AllShort);
     let count = random.below(10);
@@ -79,10 +79,10 @@ fn too_many(random: &mut Random) -> Pair {
     pair
 }
 
-/// A kernel of about 16,384 bytes, or a little more.
+/// As many bytes as a kernel may have, or more.
 fn too_long(random: &mut Random, laying: Laying) -> Pair {
     let mut pair = legal_pair(random, laying);
-    let length = random.pick(&[16_384, 16_385, 16_392, 16_400, 20_000]);
+    let length = KERNEL_BYTES + random.pick(&[0, 1, 8, 16, 4_000]);
     pair.kernel.resize(length, 0x7E);
     pair
 }

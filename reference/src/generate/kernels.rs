@@ -9,6 +9,7 @@ use crate::dictionary::Dictionary;
 use crate::operations::{Operation, BRANCHES};
 use crate::packing::with_distance;
 use crate::random::Random;
+use crate::rules::KERNEL_INSTRUCTIONS;
 use crate::words::{expand, shorten, LongWord, ShortWord};
 
 /// An instruction before it has a place.
@@ -72,8 +73,8 @@ fn plain_word(planned: &Planned) -> Option<LongWord> {
 fn length(random: &mut Random) -> usize {
     match random.below(40) {
         0 => 0,
-        1 => 1_024,
-        2 => random.between(200, 1_023),
+        1 => random.pick(&[KERNEL_INSTRUCTIONS - 1, KERNEL_INSTRUCTIONS]),
+        2 => random.between(200, KERNEL_INSTRUCTIONS),
         3..=8 => random.between(20, 80),
         9..=12 => 1,
         _ => random.between(2, 16),
@@ -98,8 +99,21 @@ pub fn plan(random: &mut Random, length: usize) -> Vec<Planned> {
         }
     }
     plan.truncate(length);
+    if length > 1 && random.once_in(8) {
+        jump_across(random, &mut plan);
+    }
     keep_targets_inside(&mut plan);
     plan
+}
+
+/// The first instruction jumps to the last or to the end, the last one to the first: no jump of a
+/// kernel goes further, either way.
+fn jump_across(random: &mut Random, plan: &mut [Planned]) {
+    let last = plan.len() - 1;
+    let (ahead, back) = (random.pick(&BRANCHES), random.pick(&BRANCHES));
+    let far = last + random.below(2);
+    plan[0] = branch_to(random, ahead, far);
+    plan[last] = branch_to(random, back, 0);
 }
 
 /// A cut plan may have lost the instructions that jumps name: those go to the end.

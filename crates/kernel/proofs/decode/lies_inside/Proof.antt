@@ -1,4 +1,4 @@
--- A place of 2,048 or more lies past the longest kernel's end. Assumes nothing.
+-- A place past the largest lies past every kernel's end. Assumes nothing.
 use Prim.Native.Nat.{_*_}
 use lib.ListN.{length}
 use mathlib.Core.Path.{sym}
