@@ -1,14 +1,17 @@
 // What cmp leaves in a flag.
-ghost use mathlib.Core.List.{[]};
+ghost use mathlib.Core.List.{List, []};
 ghost use mathlib.Core.Path.{_≡_};
-ghost use Prim.Native.Nat.{_≤_, _<_};
-ghost use Rattle.paper.specs.Enable.{chosenFlag};
+ghost use Prim.Native.Nat.{ℕ, _+_, _≤_, _<_};
+ghost use Rattle.paper.specs.Word.{execSize};
+ghost use Rattle.paper.specs.Region.{channels};
+ghost use Rattle.paper.specs.Enable.{chosenFlag, channelOf};
 ghost use Rattle.laws.specs.Regions.{LegalPlain};
 ghost use Rattle.words.specs.Words.{toWord};
 ghost use Rattle.words.specs.Operations.{plainIs};
+ghost use Rattle.operands.specs.Single.{alone};
 ghost use Rattle.execute.specs.Stores.{storeOf, FlagsOf};
 ghost use Rattle.execute.specs.Compared.{lowestBits};
-ghost use Rattle.execute.specs.Effects.{flagMade};
+ghost use Rattle.execute.specs.Effects.{flagFrom, flagMade};
 use crate::counts::channels;
 use crate::flags::chosen;
 use crate::flags::with_chosen;
@@ -35,6 +38,19 @@ fn lowest_bits(results: &[u64; 16], n: usize) -> u64
     mask
 }
 
+// The flags after cmp, by the mask of the lowest bits of its results.
+fn compared(w: Word, flags: Flags, enable: u64, lowest: u64) -> Flags
+    requires { ⌜ (execSize (toWord w) ≤ 4) × (channelOf (toWord w) 0 + channels (toWord w) ≤ 16) × (lowest < 65536) ⌝ }
+    ensures { λ r. ⌜ ((results : List ℕ) → lowest ≡ lowestBits results (channels (toWord w))
+        → FlagsOf r (toWord w) (storeOf [] flags) (flagFrom (toWord w) (chosenFlag (toWord w) (storeOf [] flags)) enable results)) ⌝ }
+{
+    let quarter = qtr_ctrl(w);
+    let n = channels(w);
+    let found = raised_mask(lowest, quarter);
+    let flag = flag_after(chosen(w, flags), 8 * quarter, n as u64, enable, found);
+    with_chosen(w, flags, flag)
+}
+
 // The flags after an operation: cmp leaves what it found in the chosen one; the others change none.
 pub(crate) fn flags_after(
     p: Plain,
@@ -47,11 +63,18 @@ pub(crate) fn flags_after(
     ensures { λ r. ⌜ FlagsOf r (toWord w) (storeOf [] flags) (flagMade (plainIs p) (toWord w) (chosenFlag (toWord w) (storeOf [] flags)) enable (now (results .entry))) ⌝ }
 {
     if compares(p) {
-        let quarter = qtr_ctrl(w);
-        let n = channels(w);
-        let found = raised_mask(lowest_bits(results, n), quarter);
-        let flag = flag_after(chosen(w, flags), 8 * quarter, n as u64, enable, found);
-        return with_chosen(w, flags, flag);
+        return compared(w, flags, enable, lowest_bits(results, channels(w)));
+    }
+    flags
+}
+
+// The same of one channel's result.
+pub(crate) fn flags_of_one(p: Plain, w: Word, flags: Flags, enable: u64, v: u64) -> Flags
+    requires { ⌜ LegalPlain (plainIs p) (toWord w) × (channels (toWord w) ≡ 1) ⌝ }
+    ensures { λ r. ⌜ FlagsOf r (toWord w) (storeOf [] flags) (flagMade (plainIs p) (toWord w) (chosenFlag (toWord w) (storeOf [] flags)) enable (alone v)) ⌝ }
+{
+    if compares(p) {
+        return compared(w, flags, enable, v % 2);
     }
     flags
 }

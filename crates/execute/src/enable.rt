@@ -20,10 +20,20 @@ use words::operation::Plain;
 use words::traits::masks;
 
 // The channels whose predicate holds.
-pub fn predicate_of(w: Word, flags: Flags) -> u64
+pub fn voted(w: Word, flags: Flags) -> u64
     ensures { λ r. ⌜ r ≡ predicateOf (toWord w) (storeOf [] flags) ⌝ }
 {
     predicate_mask(chosen(w, flags), pred_ctrl(w), pred_inv(w))
+}
+
+// The same, told at once where there is no predicate.
+pub fn predicate_of(w: Word, flags: Flags) -> u64
+    ensures { λ r. ⌜ r ≡ predicateOf (toWord w) (storeOf [] flags) ⌝ }
+{
+    if pred_ctrl(w) == 0 {
+        return 65535;
+    }
+    voted(w, flags)
 }
 
 // The enabled channels, by those that are awake and those whose predicate holds.

@@ -1,4 +1,10 @@
 // What an instruction that is no branch does to registers and flags.
+use crate::many::execute_many;
+use crate::one::execute_one;
+use lanes::flags::Flags;
+use words::bytes::Word;
+use words::fields::exec_size;
+use words::operation::Plain;
 ghost use mathlib.Core.Path.{_≡_};
 ghost use Prim.Native.Nat.{_<_};
 ghost use lib.ListN.{length};
@@ -10,18 +16,8 @@ ghost use Rattle.words.specs.Words.{toWord};
 ghost use Rattle.words.specs.Operations.{plainIs};
 ghost use Rattle.lanes.specs.Masks.{awakeList};
 ghost use Rattle.execute.specs.Stores.{storeOf};
-use crate::compare::flags_after;
-use crate::destination::write;
-use crate::enable::enable_of;
-use crate::enable::predicate_of;
-use crate::results::results;
-use lanes::flags::Flags;
-use lanes::mask::quarter_mask;
-use words::bytes::Word;
-use words::fields::qtr_ctrl;
-use words::operation::Plain;
 
-// An instruction that is no branch: its sources are read, its results stored where its channels are enabled, its flags answered.
+// An instruction that is no branch. One channel has a way of its own.
 pub fn execute(p: Plain, w: Word, awake: u64, flags: Flags, registers: &mut [u8]) -> Flags
     requires { ⌜ (operation (toWord w) ≡ plain (plainIs p)) × (refusalOf (toWord w) ≡ 0) ⌝ }
     requires { ⌜ (length (now registers) ≡ registerBytes) × (awake < 65536) × (flags .flag0 < 65536) × (flags .flag1 < 65536) ⌝ }
@@ -30,11 +26,8 @@ pub fn execute(p: Plain, w: Word, awake: u64, flags: Flags, registers: &mut [u8]
         × (r .flag1 ≡ effect (toWord w) (awakeList awake) (storeOf (now (registers .entry)) flags) .flag1) ⌝ }
     ensures { λ r. ⌜ (r .flag0 < 65536) × (r .flag1 < 65536) ⌝ }
 {
-    let quarter = qtr_ctrl(w);
-    let predicate = predicate_of(w, flags);
-    let enable = enable_of(p, w, awake, predicate);
-    let mut made = [0u64; 16];
-    results(p, w, quarter_mask(predicate, quarter), registers, &mut made);
-    write(w, quarter_mask(enable, quarter), registers, &made);
-    flags_after(p, w, flags, enable, &made)
+    if exec_size(w) == 0 {
+        return execute_one(p, w, awake, flags, registers);
+    }
+    execute_many(p, w, awake, flags, registers)
 }

@@ -9,6 +9,7 @@ pub mod each;
 pub mod enable;
 pub mod execute;
 pub mod flags;
+pub mod many;
+pub mod one;
 pub mod operations;
-pub mod plain;
 pub mod results;

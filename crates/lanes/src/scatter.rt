@@ -10,7 +10,7 @@ ghost use Rattle.paper.specs.Effect.{scattered};
 ghost use Rattle.lanes.specs.Sizes.{Size};
 
 // Channel k's value stored where the mask enables it. A disabled channel's bytes are not touched.
-fn store_channel(registers: &mut [u8], from: usize, size: usize, enable: u64, k: usize, v: u64)
+pub fn store_channel(registers: &mut [u8], from: usize, size: usize, enable: u64, k: usize, v: u64)
     requires { ⌜ Size size × (k < 16) × (from + size ≤ length (now registers)) ⌝ }
     ensures { λ r. ⌜ now (registers .exit) ≡ cond (bit enable k) (putAt (now (registers .entry)) from size v) (now (registers .entry)) ⌝ }
 {

@@ -1,41 +1,35 @@
--- The branches as the code makes them: the predicate is asked by a mask's bits, registers and flags are passed along. Assumes nothing.
-use mathlib.Core.Path.{_≡_, refl, ap, sym, _∙_}
-use mathlib.Core.Bool.{Bool, true, not, cond, _&&_, _||_}
+-- The branches as the code makes them: the predicate is asked by a mask's bits, channels are masks by place. Assumes nothing.
+use mathlib.Core.Path.{_≡_, refl, ap, sym, _∙_, subst}
+use mathlib.Core.Bool.{Bool, true, false, not, cond, _&&_, _||_}
 use mathlib.Core.List.{List}
 use Prim.Native.Nat.{ℕ, _-_, _<_}
 use native.Mathlib.Omega.{arith}
+use lib.Dec.{eqb}
+use borrow.Author.Tests.{ne-eqb}
+use lib.ListN.{length, getD, set, length-set}
+use lib.Seq.{ext-getD}
 use Rattle.paper.specs.Bits.{bit}
 use Rattle.paper.specs.Operation.{Branch, jmpi, if, else, endif, while}
 use Rattle.paper.specs.Store.{Store}
 use Rattle.paper.specs.Enable.{holds}
-use Rattle.paper.specs.Machine.{Channel, State, Ways, isAwake, waitsAt, park, each, someone, onward, fork, act}
-use Rattle.laws.specs.Rename.{cond-at}
+use Rattle.paper.specs.Machine.{Channel, off, State, Ways, isAwake, waitsAt, park, each, someone, onward, fork, act}
 use Rattle.lanes.specs.BitLaws.{bit-not, bit-ones}
 use Rattle.lanes.specs.MaskLaws.{predicateOf, bit-predicate}
-use Rattle.machine.specs.declared.channels.Channels.{Channels}
 use Rattle.machine.specs.declared.branch.Forked.{Forked}
 use Rattle.machine.specs.declared.ways.Ways as code
-use Rattle.machine.specs.Numbered.{same-numbered, each-numbered, some-same}
-use Rattle.machine.specs.Channels.{channelIs, channelsIs, Sane}
+use Rattle.machine.specs.Together.{bothMask, eitherMask, withoutMask, bit-both, bit-either, bothMask-less, eitherMask-less}
+use Rattle.machine.specs.Numbered.{numbered, length-numbered, getD-numbered, same-numbered, each-numbered, some-of, some-same}
+use Rattle.machine.specs.Posts.{Posted, posted-park}
 
 -- Where an instruction leads.
 abbrev pub waysIs : code.Ways → Ways
 waysIs ways = record { next = ways .next; jump = ways .jump; wait = ways .wait }
 
--- It leads to places of 16 bits.
-pub record SaneWays (ways : Ways) : Type 0 where
-  pub next : ways .next < 65536
-  pub jump : ways .jump < 65536
-  pub wait : ways .wait < 65536
-
--- The paper's state after a branch, with the store that it had before.
-abbrev pub forkedIs : Store → Forked → State
-forkedIs st r = record { store = st; channels = channelsIs (r .channels); place = r .place }
-
--- What holds of every answer of a branch.
-pub record Landed (r : Forked) : Type 0 where
-  pub sane : Sane (r .channels)
-  pub fits : r .place < 65536
+-- It leads to places below a bound.
+pub record Within (bound : ℕ) (ways : Ways) : Type 0 where
+  pub next : ways .next < bound
+  pub jump : ways .jump < bound
+  pub wait : ways .wait < bound
 
 -- A branch, by a test that says of which channels the predicate holds.
 unfoldable pub actBy : Branch → (ℕ → Bool) → Ways → Store → List Channel → State
@@ -57,73 +51,145 @@ act-by endif w ways st cs = refl
 act-by while w ways st cs = refl
 act-by jmpi w ways st cs = refl
 
-module _ (c : Channels) (f g : ℕ → Bool) (e : (k : ℕ) → k < 16 → f k ≡ g k) where
+-- Sixteen channels are those that their numbers have.
+sixteen-numbered : (cs : List Channel) → length cs ≡ 16 → numbered (λ n. getD cs n off) 0 16 ≡ cs
+sixteen-numbered cs e =
+    ext-getD off (numbered (λ n. getD cs n off) 0 16) cs (length-numbered (λ n. getD cs n off) 0 16 ∙ sym e)
+    (λ k h. getD-numbered (λ n. getD cs n off) k (omega (arith, length-numbered (λ n. getD cs n off) 0 16)))
+
+module _ (h : ℕ → Channel) (f g : ℕ → Bool) (e : (k : ℕ) → k < 16 → f k ≡ g k) where
   -- Tests that agree on 16 channels have the same ones wait.
-  pub each-same : (place : ℕ) → each (λ n. park (f n) place) 0 (channelsIs c) ≡ each (λ n. park (g n) place) 0 (channelsIs c)
-  unfolding channelsIs
+  each-same : (place : ℕ) → each (λ n. park (f n) place) 0 (numbered h 0 16) ≡ each (λ n. park (g n) place) 0 (numbered h 0 16)
   each-same place =
-      each-numbered (λ n. park (f n) place) (channelIs c) 0 16
-      ∙ same-numbered (λ k. park (f k) place (channelIs c k)) (λ k. park (g k) place (channelIs c k))
-      (λ k q. ap (λ (b : Bool). park b place (channelIs c k)) (e k q))
-      ∙ sym (each-numbered (λ n. park (g n) place) (channelIs c) 0 16)
+      each-numbered (λ n. park (f n) place) h 0 16
+      ∙ same-numbered (λ k. park (f k) place (h k)) (λ k. park (g k) place (h k)) (λ k q. ap (λ (b : Bool). park b place (h k)) (e k q))
+      ∙ sym (each-numbered (λ n. park (g n) place) h 0 16)
 
   -- So is it told whether some awake channel passes.
-  pub someone-same : someone (λ n ch. isAwake ch && f n) 0 (channelsIs c) ≡ someone (λ n ch. isAwake ch && g n) 0 (channelsIs c)
-  unfolding channelsIs
-  someone-same =
-      some-same (λ n ch. isAwake ch && f n) (λ n ch. isAwake ch && g n) (channelIs c) (λ k q. ap (λ (b : Bool). isAwake (channelIs c k) && b) (e k q))
+  someone-same : someone (λ n ch. isAwake ch && f n) 0 (numbered h 0 16) ≡ someone (λ n ch. isAwake ch && g n) 0 (numbered h 0 16)
+  someone-same = some-same (λ n ch. isAwake ch && f n) (λ n ch. isAwake ch && g n) h (λ k q. ap (λ (b : Bool). isAwake (h k) && b) (e k q))
 
 -- So branches go alike.
-pub act-same : (c : Channels) (f g : ℕ → Bool) (e : (k : ℕ) → k < 16 → f k ≡ g k) (b : Branch) (ways : Ways) (st : Store)
-    → actBy b f ways st (channelsIs c) ≡ actBy b g ways st (channelsIs c)
+same-acts : (h : ℕ → Channel) (f g : ℕ → Bool) (e : (k : ℕ) → k < 16 → f k ≡ g k) (b : Branch) (ways : Ways) (st : Store)
+    → actBy b f ways st (numbered h 0 16) ≡ actBy b g ways st (numbered h 0 16)
 unfolding actBy
-act-same c f g e if ways st =
-    ap (fork ways st) (each-same c (λ k. not (f k)) (λ k. not (g k)) (λ k q. ap not (e k q)) (ways .wait))
-act-same c f g e else ways st = refl
-act-same c f g e endif ways st = refl
-act-same c f g e while ways st =
-    rw (someone-same c f g e, each-same c (λ k. not (f k)) (λ k. not (g k)) (λ k q. ap not (e k q)) (ways .next))
-act-same c f g e jmpi ways st = rw (e 0 (omega arith))
+same-acts h f g e if ways st =
+    ap (fork ways st) (each-same h (λ k. not (f k)) (λ k. not (g k)) (λ k q. ap not (e k q)) (ways .wait))
+same-acts h f g e else ways st = refl
+same-acts h f g e endif ways st = refl
+same-acts h f g e while ways st =
+    rw (someone-same h f g e, each-same h (λ k. not (f k)) (λ k. not (g k)) (λ k q. ap not (e k q)) (ways .next))
+same-acts h f g e jmpi ways st = rw (e 0 (omega arith))
 
--- By the mask of the predicate a branch is the paper's, whatever the registers.
-pub act-mask : (c : Channels) (b : Branch) (w : ℕ) (ways : Ways) (st : Store)
-    → actBy b (bit (predicateOf w st)) ways st (channelsIs c) ≡ act b w ways st (channelsIs c)
-act-mask c b w ways st =
-    act-same c (bit (predicateOf w st)) (holds w st) (λ k q. bit-predicate w st k q) b ways st ∙ sym (act-by b w ways st (channelsIs c))
+-- By the mask of the predicate a branch is the paper's.
+pub act-mask : (cs : List Channel) → length cs ≡ 16 → (b : Branch) (w : ℕ) (ways : Ways) (st : Store)
+    → act b w ways st cs ≡ actBy b (bit (predicateOf w st)) ways st cs
+act-mask cs l b w ways st =
+    act-by b w ways st cs
+    ∙ subst (λ (ds : List Channel). actBy b (holds w st) ways st ds ≡ actBy b (bit (predicateOf w st)) ways st ds) (sixteen-numbered cs l)
+    (same-acts (λ n. getD cs n off) (holds w st) (bit (predicateOf w st)) (λ k q. sym (bit-predicate w st k q)) b ways st)
 
--- ---- the masks that the code makes
+-- A branch leaves the store as it was.
+pub act-store : (b : Branch) (f : ℕ → Bool) (ways : Ways) (st : Store) (cs : List Channel) → actBy b f ways st cs .store ≡ st
+unfolding actBy
+act-store if f ways st cs = refl
+act-store else f ways st cs = refl
+act-store endif f ways st cs = refl
+act-store while f ways st cs = go (someone (λ n c. isAwake c && f n) 0 cs)
+  where
+    go : (t : Bool)
+        → cond {A = State} t (record { store = st; channels = each (λ n. park (not (f n)) (ways .next)) 0 cs; place = ways .jump }) (record { store = st; channels = cs; place = ways .next }) .store ≡ st
+    go true = refl
+    go false = refl
+act-store jmpi f ways st cs = refl
 
--- The channels of all ones are all.
-pub park-all : (c : Channels) (place : ℕ) → each (λ n. park (bit 65535 n) place) 0 (channelsIs c) ≡ each (λ _. park true place) 0 (channelsIs c)
-park-all c place = each-same c (bit 65535) (λ _. true) (λ k q. bit-ones 16 k q) place
+-- ---- what the masks tell of the channels
 
--- Those of a mask's complement are the others.
-pub park-others : (c : Channels) (mask place : ℕ) → mask < 65536
-    → each (λ n. park (bit (65535 - mask) n) place) 0 (channelsIs c) ≡ each (λ n. park (not (bit mask n)) place) 0 (channelsIs c)
-park-others c mask place h = each-same c (bit (65535 - mask)) (λ k. not (bit mask k)) (λ k q. bit-not mask 16 k h q) place
+module _ (up : ℕ) (here : List ℕ) (cs : List Channel) (s : Posted up here cs) where
+  -- Whether some channel is awake or waits at the next place.
+  pub posted-onward : (ways : Ways) → onward ways cs ≡ cond (not (eqb (eitherMask up (getD here (ways .next) 0)) 0)) (ways .next) (ways .jump)
+  unfolding onward
+  posted-onward ways =
+      ap (λ (b : Bool). cond b (ways .next) (ways .jump))
+      (subst (λ (ds : List Channel). someone (λ _ c. isAwake c || waitsAt (ways .next) c) 0 ds ≡ not (eqb (eitherMask up (getD here (ways .next) 0)) 0))
+      (sixteen-numbered cs (s .sixteen))
+      (some-of (λ _ c. isAwake c || waitsAt (ways .next) c) (λ n. getD cs n off) (eitherMask up (getD here (ways .next) 0)) (eitherMask-less up (getD here (ways .next) 0))
+      (λ k q. rw (s .awakes k q, s .waits k q (ways .next)) (sym (bit-either up (getD here (ways .next) 0) k q)))))
+
+  -- Whether some awake channel is in a mask.
+  pub posted-someone : (mask : ℕ) → someone (λ n c. isAwake c && bit mask n) 0 cs ≡ not (eqb (bothMask up mask) 0)
+  posted-someone mask =
+      subst (λ (ds : List Channel). someone (λ n c. isAwake c && bit mask n) 0 ds ≡ not (eqb (bothMask up mask) 0)) (sixteen-numbered cs (s .sixteen))
+      (some-of (λ n c. isAwake c && bit mask n) (λ n. getD cs n off) (bothMask up mask) (bothMask-less up mask)
+      (λ k q. rw (s .awakes k q) (sym (bit-both up mask k q))))
 
 -- ---- the answers that the code makes
 
-module _ (r : Forked) (c : Channels) (ways : Ways) (same : r .channels ≡ c) where
-  -- One that chooses between two places that fit lands.
-  lands : (t : Bool) (p q : ℕ) → p < 65536 → q < 65536 → r .place ≡ cond t p q → Sane c → Landed r
-  lands t p q h g e s = record { sane = rw same s; fits = rw e (cond-at (λ (p : ℕ). p < 65536) t p q h g) }
+-- The masks and the place after a branch are those of the state that the paper makes.
+pub record Acts (r : Forked) (here : List ℕ) (t : State) : Type 0 where
+  pub posted : Posted (r .awake) here (t .channels)
+  pub place : r .place ≡ t .place
 
-  -- One that forks.
-  pub forks : (cs : List Channel) → channelsIs c ≡ cs → r .place ≡ onward ways (channelsIs c) → (st : Store) → forkedIs st r ≡ fork ways st cs
-  forks cs e p st = λ i. record { store = st; channels = (ap channelsIs same ∙ e) i; place = (p ∙ ap (onward ways) e) i }
+-- A branch, by the mask of the channels whose predicate holds, from any channels that the masks tell.
+abbrev pub ActsBy : Branch → ℕ → Ways → ℕ → List ℕ → Forked → List ℕ → Type 0
+ActsBy b predicate ways up here r after =
+    (st : Store) (cs : List Channel) → Posted up here cs → Acts r after (actBy b (bit predicate) ways st cs)
 
-  -- It lands.
-  pub fork-lands : r .place ≡ onward ways (channelsIs c) → Sane c → SaneWays ways → Landed r
-  unfolding onward
-  fork-lands e s h = lands (someone (λ _ ch. isAwake ch || waitsAt (ways .next) ch) 0 (channelsIs c)) (ways .next) (ways .jump) (h .next) (h .jump) e s
+module _ (ways : Ways) (up : ℕ) (here : List ℕ) where
+  -- Those of a mask wait at a place, and then the kernel goes on.
+  pub parks-onward : (mask : ℕ) (test : ℕ → Bool) → ((n : ℕ) → n < 16 → bit mask n ≡ test n) → ways .wait < length here
+      → (r : Forked) (after : List ℕ) → r .awake ≡ withoutMask up mask
+      → after ≡ set here (ways .wait) (eitherMask (getD here (ways .wait) 0) (bothMask up mask))
+      → r .place ≡ cond (not (eqb (eitherMask (r .awake) (getD after (ways .next) 0)) 0)) (ways .next) (ways .jump)
+      → (st : Store) (cs : List Channel) → Posted up here cs → Acts r after (fork ways st (each (λ n. park (test n) (ways .wait)) 0 cs))
+  parks-onward mask test e h r after ea eh ep st cs s =
+      let posted : Posted (r .awake) after (each (λ n. park (test n) (ways .wait)) 0 cs) = rw (ea, eh) (posted-park up here cs s mask (ways .wait) test e h) in
+      record { posted = posted; place = ep ∙ sym (posted-onward (r .awake) after (each (λ n. park (test n) (ways .wait)) 0 cs) posted ways) }
 
-  -- One that jumps.
-  pub jumps : (mask : ℕ) → r .place ≡ cond (bit mask 0) (ways .jump) (ways .next)
-      → (st : Store) → forkedIs st r ≡ actBy jmpi (bit mask) ways st (channelsIs c)
+  pub acts-if : (predicate : ℕ) → predicate < 65536 → ways .wait < length here
+      → (r : Forked) (after : List ℕ) → r .awake ≡ withoutMask up (65535 - predicate)
+      → after ≡ set here (ways .wait) (eitherMask (getD here (ways .wait) 0) (bothMask up (65535 - predicate)))
+      → r .place ≡ cond (not (eqb (eitherMask (r .awake) (getD after (ways .next) 0)) 0)) (ways .next) (ways .jump)
+      → ActsBy if predicate ways up here r after
   unfolding actBy
-  jumps mask e st = λ i. record { store = st; channels = ap channelsIs same i; place = e i }
+  acts-if predicate l h r after ea eh ep =
+      parks-onward (65535 - predicate) (λ n. not (bit predicate n)) (λ n q. bit-not predicate 16 n l q) h r after ea eh ep
 
-  -- It lands.
-  pub jump-lands : (mask : ℕ) → r .place ≡ cond (bit mask 0) (ways .jump) (ways .next) → Sane c → SaneWays ways → Landed r
-  jump-lands mask e s h = lands (bit mask 0) (ways .jump) (ways .next) (h .jump) (h .next) e s
+  pub acts-else : (predicate : ℕ) → ways .wait < length here
+      → (r : Forked) (after : List ℕ) → r .awake ≡ withoutMask up 65535
+      → after ≡ set here (ways .wait) (eitherMask (getD here (ways .wait) 0) (bothMask up 65535))
+      → r .place ≡ cond (not (eqb (eitherMask (r .awake) (getD after (ways .next) 0)) 0)) (ways .next) (ways .jump)
+      → ActsBy else predicate ways up here r after
+  unfolding actBy
+  acts-else predicate h r after ea eh ep = parks-onward 65535 (λ _. true) (λ n q. bit-ones 16 n q) h r after ea eh ep
+
+  -- None waits, and the kernel goes on.
+  pub acts-endif : (predicate : ℕ) (r : Forked) → r .awake ≡ up
+      → r .place ≡ cond (not (eqb (eitherMask up (getD here (ways .next) 0)) 0)) (ways .next) (ways .jump)
+      → ActsBy endif predicate ways up here r here
+  unfolding actBy
+  acts-endif predicate r ea ep st cs s = record { posted = rw ea s; place = ep ∙ sym (posted-onward up here cs s ways) }
+
+  pub acts-jmpi : (predicate : ℕ) (r : Forked) → r .awake ≡ up → r .place ≡ cond (bit predicate 0) (ways .jump) (ways .next)
+      → ActsBy jmpi predicate ways up here r here
+  unfolding actBy
+  acts-jmpi predicate r ea ep st cs s = record { posted = rw ea s; place = ep }
+
+  -- while: no awake channel's predicate holds,
+  pub acts-leave : (predicate : ℕ) → bothMask up predicate ≡ 0 → (r : Forked) → r .awake ≡ up → r .place ≡ ways .next
+      → ActsBy while predicate ways up here r here
+  unfolding actBy
+  acts-leave predicate z r ea ep st cs s = rw (posted-someone up here cs s predicate, z) (record { posted = rw ea s; place = ep })
+
+  -- or some does.
+  pub acts-repeat : (predicate : ℕ) → predicate < 65536 → (bothMask up predicate ≡ 0 → ⊥) → ways .next < length here
+      → (r : Forked) (after : List ℕ) → r .awake ≡ withoutMask up (65535 - predicate)
+      → after ≡ set here (ways .next) (eitherMask (getD here (ways .next) 0) (bothMask up (65535 - predicate))) → r .place ≡ ways .jump
+      → ActsBy while predicate ways up here r after
+  unfolding actBy
+  acts-repeat predicate l z h r after ea eh ep st cs s =
+      rw (posted-someone up here cs s predicate, ne-eqb _ _ z)
+      (record {
+        posted = rw (ea, eh) (posted-park up here cs s (65535 - predicate) (ways .next) (λ n. not (bit predicate n)) (λ n q. bit-not predicate 16 n l q) h);
+        place = ep;
+      })

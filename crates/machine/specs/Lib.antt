@@ -2,7 +2,9 @@
 pub mod Together
 pub mod Numbered
 pub mod Channels
-pub mod Moves
+pub mod Posts
 pub mod Branches
 pub mod States
 pub mod Steps
+pub mod Posting
+pub mod Ends

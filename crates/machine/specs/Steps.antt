@@ -1,25 +1,50 @@
--- What a step asks of the laws: which channels are awake, what does nothing, and a start's channels. Assumes nothing.
+-- Where a run stands, in the paper's terms, and what a step asks of the laws. Assumes nothing.
 use mathlib.Core.Path.{_≡_, refl, ap, sym, _∙_}
 use mathlib.Core.Bool.{Bool, false≢true}
 use mathlib.Core.List.{List, map}
 use Prim.Native.Nat.{ℕ, _<_}
 use lib.Dec.{lit<}
-use lib.ListN.{replicate, getD-replicate}
-use Rattle.paper.specs.Operation.{nop, unlisted, operation}
+use lib.ListN.{length, getD, set, replicate, getD-replicate}
+use Rattle.paper.specs.Bits.{bit}
+use Rattle.paper.specs.Word.{predCtrl, predInv}
+use Rattle.paper.specs.Enable.{chosenFlag}
+use Rattle.paper.specs.Operation.{Branch, nop, unlisted, operation}
 use Rattle.paper.specs.Store.{Store}
 use Rattle.paper.specs.Effect.{effect}
-use Rattle.paper.specs.Machine.{Channel, State, Ways, isAwake, pass, startFrom}
+use Rattle.paper.specs.Machine.{Channel, off, State, Ways, isAwake, wake, act, pass, startFrom}
+use Rattle.paper.specs.State.{maskOf}
+use Rattle.laws.specs.Masks.{ofBits-same, ofBits-bit}
 use Rattle.lanes.specs.Masks.{awakeList}
+use Rattle.lanes.specs.MaskLaws.{predicateOf, predicateMask-less}
 use Rattle.execute.specs.Awake.{awake-list}
+use Rattle.execute.specs.Stores.{storeOf}
 use Rattle.machine.specs.declared.channels.Channels.{Channels}
-use Rattle.machine.specs.Together.{bit-zero}
+use Rattle.machine.specs.declared.branch.Forked.{Forked}
+use Rattle.machine.specs.declared.step.Stand.{Stand}
+use Rattle.machine.specs.Together.{bit-zero, eitherMask}
 use Rattle.machine.specs.Numbered.{same-numbered, start-numbered}
 use Rattle.machine.specs.Channels.{channelIs, channelsIs, Sane}
-use Rattle.machine.specs.States.{awake-mask, sixteen-channels}
+use Rattle.machine.specs.Posts.{Posted, posted-wake}
+use Rattle.machine.specs.Branches.{Acts, actBy, act-mask, act-store}
 
--- The awake channels are those of the code's mask.
-pub awake-channels : (c : Channels) → Sane c → map isAwake (channelsIs c) ≡ awakeList (c .awake)
-awake-channels c s = awake-list (channelsIs c) (sixteen-channels c s) ∙ ap awakeList (awake-mask c s)
+-- The registers, the masks by place and where a run stands are those of a state.
+pub record Shows (registers here : List ℕ) (s : Stand) (t : State) : Type 0 where
+  pub store : storeOf registers (s .flags) ≡ t .store
+  pub posted : Posted (s .awake) here (t .channels)
+  pub place : s .place ≡ t .place
+
+-- Numbers of 16 bits.
+pub record Sound (here : List ℕ) (s : Stand) : Type 0 where
+  pub flag0 : s .flags .flag0 < 65536
+  pub flag1 : s .flags .flag1 < 65536
+  pub awake : s .awake < 65536
+  pub masks : (p : ℕ) → getD here p 0 < 65536
+
+-- The awake channels are those of the mask.
+posted-awake : (up : ℕ) (here : List ℕ) (cs : List Channel) → Posted up here cs → map isAwake cs ≡ awakeList up
+unfolding maskOf
+posted-awake up here cs s =
+    awake-list cs (s .sixteen) ∙ ap awakeList (ofBits-same (λ n. isAwake (getD cs n off)) (bit up) 16 (s .awakes) ∙ ofBits-bit up 16 (s .fits))
 
 -- nop does nothing,
 pub nop-idle : (w : ℕ) (woken : List Bool) (st : Store) → operation w ≡ nop → effect w woken st ≡ st
@@ -32,22 +57,42 @@ unfolding effect
 unlisted-idle w woken st e = rw (effect, e)
 
 -- What goes on with the store that its effect makes does what the paper says;
-pub pass-made : (c : Channels) → Sane c → (w : ℕ) (ways : Ways) (st after : Store)
-    → after .registers ≡ effect w (awakeList (c .awake)) st .registers
-    → (after .flag0 ≡ effect w (awakeList (c .awake)) st .flag0) × (after .flag1 ≡ effect w (awakeList (c .awake)) st .flag1)
-    → _≡_ {A = State} (record { store = after; channels = channelsIs c; place = ways .next }) (pass w ways st (channelsIs c))
-pass-made c s w ways st after e f =
-    let made : after ≡ effect w (awakeList (c .awake)) st = λ i. record { registers = e i; flag0 = f .0 i; flag1 = f .1 i } in
-    λ i. record {
-      store = (made ∙ ap (λ (l : List Bool). effect w l st) (sym (awake-channels c s))) i;
-      channels = channelsIs c;
-      place = ways .next;
+pub pass-shown : (r : Stand) (up : ℕ) (here registers : List ℕ) (cs : List Channel) → Posted up here cs → r .awake ≡ up
+    → (w : ℕ) (ways : Ways) (st : Store) → r .place ≡ ways .next
+    → registers ≡ effect w (awakeList up) st .registers
+    → (r .flags .flag0 ≡ effect w (awakeList up) st .flag0) × (r .flags .flag1 ≡ effect w (awakeList up) st .flag1)
+    → Shows registers here r (pass w ways st cs)
+pass-shown r up here registers cs s ea w ways st ep er ef =
+    record {
+      store =
+          (λ i. record { registers = er i; flag0 = ef .0 i; flag1 = ef .1 i })
+          ∙ ap (λ (l : List Bool). effect w l st) (sym (posted-awake up here cs s));
+      posted = rw ea s;
+      place = ep;
     }
 
 -- so does what has no effect and goes on.
-pub idle-made : (cs : List Channel) (w : ℕ) (ways : Ways) (st : Store) → effect w (map isAwake cs) st ≡ st
-    → _≡_ {A = State} (record { store = st; channels = cs; place = ways .next }) (pass w ways st cs)
-idle-made cs w ways st e = λ i. record { store = sym e i; channels = cs; place = ways .next }
+pub idle-shown : (r : Stand) (up : ℕ) (here registers : List ℕ) (cs : List Channel) → Posted up here cs → r .awake ≡ up
+    → (w : ℕ) (ways : Ways) (st : Store) → r .place ≡ ways .next → storeOf registers (r .flags) ≡ st → effect w (map isAwake cs) st ≡ st
+    → Shows registers here r (pass w ways st cs)
+idle-shown r up here registers cs s ea w ways st ep es idle = record { store = es ∙ sym idle; posted = rw ea s; place = ep }
+
+-- A branch does, by the mask of its predicate.
+pub branch-shown : (r : Stand) (forked : Forked) (here registers : List ℕ) (cs : List Channel) (b : Branch) (w : ℕ) (ways : Ways) (st : Store) → length cs ≡ 16
+    → r .awake ≡ forked .awake → r .place ≡ forked .place → storeOf registers (r .flags) ≡ st
+    → (mask : ℕ) → mask ≡ predicateOf w st → Acts forked here (actBy b (bit mask) ways st cs) → Shows registers here r (act b w ways st cs)
+branch-shown r forked here registers cs b w ways st l ea ep es mask em acts =
+    rw (act-mask cs l b w ways st, ← em)
+    (record { store = es ∙ sym (act-store b (bit mask) ways st cs); posted = rw ea (acts .posted); place = ep ∙ acts .place })
+
+-- The mask of a predicate has 16 bits.
+pub predicate-less : (w : ℕ) (st : Store) → predicateOf w st < 65536
+predicate-less w st = predicateMask-less (predCtrl w) (predInv w) (chosenFlag w st)
+
+-- A step first wakes those that wait at its place.
+pub step-shown : (registers here : List ℕ) (s : Stand) (t : State) → Shows registers here s t → s .place < length here → (up : ℕ) (after : List ℕ)
+    → up ≡ eitherMask (s .awake) (getD here (s .place) 0) → after ≡ set here (s .place) 0 → Posted up after (map (wake (s .place)) (t .channels))
+step-shown registers here s t shows h up after eu ea = rw (eu, ea) (posted-wake (s .awake) here (t .channels) (shows .posted) (s .place) h)
 
 -- ---- a start
 

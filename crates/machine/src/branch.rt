@@ -1,110 +1,89 @@
-// Branches: which channels wait afterwards, and to which place the kernel goes.
-use crate::channels::Channels;
-use crate::channels::park;
-use crate::channels::someone_awake;
-use crate::channels::someone_here;
+// Branches: who is awake and who waits where afterwards, and to which place the kernel goes.
+use crate::masks::both;
+use crate::posts::onward;
+use crate::posts::post;
 use crate::ways::Ways;
-use execute::enable::predicate_of;
-use lanes::flags::Flags;
 use lanes::mask::bit;
-use words::bytes::Word;
 use words::operation::Branch;
 ghost use mathlib.Core.Path.{_≡_};
 ghost use mathlib.Core.Bool.{cond};
-ghost use mathlib.Core.List.{List};
 ghost use Prim.Native.Nat.{ℕ, _<_};
+ghost use lib.ListN.{length, getD};
 ghost use Rattle.paper.specs.Bits.{bit};
 ghost use Rattle.paper.specs.Operation.{while};
-ghost use Rattle.paper.specs.Store.{Store};
-ghost use Rattle.paper.specs.Machine.{onward, act};
-ghost use Rattle.words.specs.Words.{toWord};
 ghost use Rattle.words.specs.Operations.{branchIs};
-ghost use Rattle.execute.specs.Stores.{storeOf};
-ghost use Rattle.machine.specs.Channels.{channelsIs, Sane};
-ghost use Rattle.machine.specs.Branches.{waysIs, SaneWays, forkedIs, Landed, actBy};
+ghost use Rattle.machine.specs.Branches.{waysIs, Within, ActsBy};
 
-// The channels after a branch, and the place that it leads to.
+// Who is awake after a branch, and the place that it leads to.
 pub struct Forked {
-    pub channels: Channels,
+    pub awake: u64,
     pub place: u64,
 }
 
-// To the next place, but to the jump if no channel is awake and none waits at the next place.
-fn fork(c: Channels, ways: Ways) -> Forked
-    requires { ⌜ Sane c ⌝ }
-    ensures { λ r. ⌜ (r .channels ≡ c) × (r .place ≡ onward (waysIs ways) (channelsIs c)) ⌝ }
-{
-    let place = if someone_here(c, ways.next) {
-        ways.next
-    } else {
-        ways.jump
-    };
-    Forked {
-        channels: c,
-        place: place,
-    }
-}
-
 // jmpi: it jumps if bit 0 of the predicate is 1. It looks at no channel.
-fn jump(c: Channels, predicate: u64, ways: Ways) -> Forked
-    ensures { λ r. ⌜ (r .channels ≡ c) × (r .place ≡ cond (bit predicate 0) (ways .jump) (ways .next)) ⌝ }
+fn jump(up: u64, predicate: u64, ways: Ways) -> Forked
+    ensures { λ r. ⌜ (r .awake ≡ up) × (r .place ≡ cond (bit predicate 0) (ways .jump) (ways .next)) ⌝ }
 {
     if bit(predicate, 0) {
         return Forked {
-            channels: c,
+            awake: up,
             place: ways.jump,
         };
     }
     Forked {
-        channels: c,
+        awake: up,
         place: ways.next,
     }
 }
 
 // while: if some awake channel's predicate holds, the other awake ones wait at the next place, and it jumps; otherwise go on.
-fn repeat(c: Channels, predicate: u64, ways: Ways) -> Forked
-    requires { ⌜ Sane c × (predicate < 65536) × SaneWays (waysIs ways) ⌝ }
-    ensures { λ r. ⌜ ((st : Store) → forkedIs st r ≡ actBy while (bit predicate) (waysIs ways) st (channelsIs c)) × Landed r ⌝ }
+fn repeat(up: u64, predicate: u64, ways: Ways, here: &mut [u16]) -> Forked
+    requires { ⌜ (up < 65536) × (predicate < 65536) × Within (length (now here)) (waysIs ways) × ((p : ℕ) → getD (now here) p 0 < 65536) ⌝ }
+    ensures { λ r. ⌜ ActsBy while predicate (waysIs ways) up (now (here .entry)) r (now (here .exit)) × (length (now (here .exit)) ≡ length (now (here .entry))) ⌝ }
 {
-    if someone_awake(c, predicate) {
-        let after = park(c, 65535 - predicate, ways.next);
+    if both(up, predicate) == 0 {
         return Forked {
-            channels: after,
-            place: ways.jump,
+            awake: up,
+            place: ways.next,
         };
     }
+    let after = post(up, 65535 - predicate, ways.next, here);
     Forked {
-        channels: c,
-        place: ways.next,
+        awake: after,
+        place: ways.jump,
     }
 }
 
-// A branch, by the mask of the channels whose predicate holds.
-fn act_by(b: Branch, predicate: u64, ways: Ways, c: Channels) -> Forked
-    requires { ⌜ Sane c × (predicate < 65536) × SaneWays (waysIs ways) ⌝ }
-    ensures { λ r. ⌜ ((st : Store) → forkedIs st r ≡ actBy (branchIs b) (bit predicate) (waysIs ways) st (channelsIs c)) × Landed r ⌝ }
+// A branch, by the mask of the channels whose predicate holds, once the channels that wait at its place are awake.
+pub fn act(b: Branch, predicate: u64, ways: Ways, up: u64, here: &mut [u16]) -> Forked
+    requires { ⌜ (up < 65536) × (predicate < 65536) × Within (length (now here)) (waysIs ways) × ((p : ℕ) → getD (now here) p 0 < 65536) ⌝ }
+    ensures { λ r. ⌜ ActsBy (branchIs b) predicate (waysIs ways) up (now (here .entry)) r (now (here .exit)) × (length (now (here .exit)) ≡ length (now (here .entry))) ⌝ }
 {
     match b {
-        Branch::Jmpi => jump(c, predicate, ways),
+        Branch::Jmpi => jump(up, predicate, ways),
         Branch::If => {
-            let after = park(c, 65535 - predicate, ways.wait);
-            fork(after, ways)
+            let after = post(up, 65535 - predicate, ways.wait, here);
+            let place = onward(after, ways, here);
+            Forked {
+                awake: after,
+                place: place,
+            }
         }
         Branch::Else => {
-            let after = park(c, 65535, ways.wait);
-            fork(after, ways)
+            let after = post(up, 65535, ways.wait, here);
+            let place = onward(after, ways, here);
+            Forked {
+                awake: after,
+                place: place,
+            }
         }
-        Branch::Endif => fork(c, ways),
-        Branch::While => repeat(c, predicate, ways),
+        Branch::Endif => {
+            let place = onward(up, ways, here);
+            Forked {
+                awake: up,
+                place: place,
+            }
+        }
+        Branch::While => repeat(up, predicate, ways, here),
     }
-}
-
-// A branch, once the channels that wait at its place are awake. It reads the flags, and neither reads nor writes registers.
-pub(crate) fn act(b: Branch, w: Word, ways: Ways, flags: Flags, c: Channels) -> Forked
-    requires { ⌜ Sane c × SaneWays (waysIs ways) ⌝ }
-    ensures { λ r. ⌜ ((registers : List ℕ) → forkedIs (storeOf registers flags) r
-        ≡ act (branchIs b) (toWord w) (waysIs ways) (storeOf registers flags) (channelsIs c)) × Landed r ⌝ }
-{
-    let predicate = predicate_of(w, flags);
-    act_by(b, predicate, ways, c)
 }

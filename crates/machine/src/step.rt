@@ -1,82 +1,91 @@
 // One step, at a known instruction.
 use crate::branch::act;
-use crate::channels::Channels;
-use crate::channels::wake;
-use crate::state::State;
+use crate::posts::rouse;
 use crate::ways::Ways;
+use execute::enable::voted;
 use execute::execute::execute;
 use lanes::flags::Flags;
 use words::bytes::Word;
 use words::fields::operation;
 use words::operation::Operation;
+ghost use mathlib.Core.List.{List};
 ghost use mathlib.Core.Path.{_≡_};
-ghost use Prim.Native.Nat.{_<_};
-ghost use lib.ListN.{length};
+ghost use Prim.Native.Nat.{ℕ, _<_};
+ghost use lib.ListN.{length, getD};
 ghost use Rattle.paper.specs.Limits.{registerBytes};
 ghost use Rattle.paper.specs.Operation.{operation};
 ghost use Rattle.paper.specs.Legal.{refusalOf};
-ghost use Rattle.paper.specs.Machine.{perform, stepAt};
+ghost use Rattle.paper.specs.Machine.{Channel, State, perform, stepAt};
 ghost use Rattle.words.specs.Words.{toWord};
 ghost use Rattle.words.specs.Operations.{operationIs};
 ghost use Rattle.execute.specs.Stores.{storeOf};
-ghost use Rattle.machine.specs.Channels.{channelsIs, Sane};
-ghost use Rattle.machine.specs.Branches.{waysIs, SaneWays};
-ghost use Rattle.machine.specs.States.{stateIs, SaneState};
+ghost use Rattle.machine.specs.Branches.{waysIs, Within};
+ghost use Rattle.machine.specs.Posts.{Posted};
+ghost use Rattle.machine.specs.Steps.{Shows, Sound};
+
+// Where a run stands: the flags, who is awake, and the place of the next step. Registers are lent beside it, and who waits where.
+pub struct Stand {
+    pub flags: Flags,
+    pub awake: u64,
+    pub place: u64,
+}
 
 // An instruction, once the channels that wait at its place are awake: a branch forks; what is no branch acts on registers and flags, and goes on.
 fn perform(
     o: Operation,
     w: Word,
     ways: Ways,
-    registers: &mut [u8],
     flags: Flags,
-    c: Channels,
-) -> State
+    up: u64,
+    registers: &mut [u8],
+    here: &mut [u16],
+) -> Stand
     requires { ⌜ (operationIs o ≡ operation (toWord w)) × (refusalOf (toWord w) ≡ 0) × (length (now registers) ≡ registerBytes) ⌝ }
-    requires { ⌜ Sane c × (flags .flag0 < 65536) × (flags .flag1 < 65536) × SaneWays (waysIs ways) ⌝ }
-    ensures { λ r. ⌜ stateIs (now (registers .exit)) r
-        ≡ perform (operationIs o) (toWord w) (waysIs ways) (storeOf (now (registers .entry)) flags) (channelsIs c) ⌝ }
-    ensures { λ r. ⌜ SaneState r ⌝ }
+    requires { ⌜ (flags .flag0 < 65536) × (flags .flag1 < 65536) × (up < 65536) × ((p : ℕ) → getD (now here) p 0 < 65536)
+        × Within (length (now here)) (waysIs ways) ⌝ }
+    ensures { λ r. ⌜ ((cs : List Channel) → Posted up (now (here .entry)) cs → Shows (now (registers .exit)) (now (here .exit)) r
+        (perform (operationIs o) (toWord w) (waysIs ways) (storeOf (now (registers .entry)) flags) cs)) ⌝ }
+    ensures { λ r. ⌜ (r .flags .flag0 < 65536) × (r .flags .flag1 < 65536) × (length (now (here .exit)) ≡ length (now (here .entry))) ⌝ }
 {
     match o {
         Operation::Makes(p) => {
-            let after = execute(p, w, c.awake, flags, registers);
-            State {
+            let after = execute(p, w, up, flags, registers);
+            Stand {
                 flags: after,
-                channels: c,
+                awake: up,
                 place: ways.next,
             }
         }
-        Operation::Nop => State {
+        Operation::Nop => Stand {
             flags: flags,
-            channels: c,
+            awake: up,
             place: ways.next,
         },
         Operation::Jumps(b) => {
-            let forked = act(b, w, ways, flags, c);
-            let channels = forked.channels;
-            State {
+            let forked = act(b, voted(w, flags), ways, up, here);
+            Stand {
                 flags: flags,
-                channels: channels,
+                awake: forked.awake,
                 place: forked.place,
             }
         }
-        Operation::Unlisted => State {
+        Operation::Unlisted => Stand {
             flags: flags,
-            channels: c,
+            awake: up,
             place: ways.next,
         },
     }
 }
 
-// One step at the place `here`, where an accepted word stands; it first wakes the channels that wait there.
-pub fn step_at(w: Word, here: u64, ways: Ways, registers: &mut [u8], s: State) -> State
-    requires { ⌜ (refusalOf (toWord w) ≡ 0) × (length (now registers) ≡ registerBytes) × SaneWays (waysIs ways) × SaneState s ⌝ }
-    ensures { λ r. ⌜ stateIs (now (registers .exit)) r ≡ stepAt (toWord w) here (waysIs ways) (stateIs (now (registers .entry)) s) ⌝ }
-    ensures { λ r. ⌜ SaneState r ⌝ }
+// One step where an accepted word stands; it first wakes the channels that wait there.
+pub fn step_at(w: Word, ways: Ways, s: Stand, registers: &mut [u8], here: &mut [u16]) -> Stand
+    requires { ⌜ (refusalOf (toWord w) ≡ 0) × (length (now registers) ≡ registerBytes) × Within (length (now here)) (waysIs ways) ⌝ }
+    requires { ⌜ Sound (now here) s × (s .place < length (now here)) ⌝ }
+    ensures { λ r. ⌜ ((t : State) → Shows (now (registers .entry)) (now (here .entry)) s t
+        → Shows (now (registers .exit)) (now (here .exit)) r (stepAt (toWord w) (s .place) (waysIs ways) t)) ⌝ }
+    ensures { λ r. ⌜ (r .flags .flag0 < 65536) × (r .flags .flag1 < 65536) × (length (now (here .exit)) ≡ length (now (here .entry))) ⌝ }
 {
     let flags = s.flags;
-    let channels = s.channels;
-    let woken = wake(channels, here);
-    perform(operation(w), w, ways, registers, flags, woken)
+    let up = rouse(s.awake, s.place, here);
+    perform(operation(w), w, ways, flags, up, registers, here)
 }

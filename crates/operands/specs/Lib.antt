@@ -2,3 +2,4 @@
 pub mod Reads
 pub mod Shapes
 pub mod Sources
+pub mod Single

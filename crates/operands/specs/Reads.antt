@@ -1,11 +1,13 @@
 -- Elements of the registers read as numbers. Assumes nothing.
-use mathlib.Core.Path.{_≡_}
+use mathlib.Core.Path.{_≡_, refl, ap, _∙_, subst}
+use mathlib.Core.Bool.{Bool, true, false, cond}
 use mathlib.Core.List.{List}
 use Prim.Native.Nat.{ℕ, zero, suc, _+_, _*_, _^_, _≤_, _<_}
 use native.Mathlib.Omega.{arith}
 use native.Mathlib.Nat.{pow-suc}
-use lib.Dec.{lit<}
+use lib.Dec.{ltb, lit<}
 use lib.ListN.{getD}
+use borrow.Author.Tests.{ltb-true, ltb-false, le-ltb}
 use Rattle.paper.specs.Bits.{number, numberAt}
 use Rattle.paper.specs.Value.{width, sizeOf, value}
 use Rattle.laws.specs.Bytes.{numberAt-suc}
@@ -36,3 +38,29 @@ number-less registers bytes (suc n) from =
 pub element-less : (registers : List ℕ) → ((i : ℕ) → getD registers i 0 < 256) → (kind from : ℕ)
     → numberAt registers from (sizeOf kind) < 2 ^ width kind
 element-less registers bytes kind from = rw (← (size-patterns kind)) (number-less registers bytes (sizeOf kind) from)
+
+-- ---- by type
+
+no-size : (kind : ℕ) → 6 ≤ kind → sizeOf kind ≡ 0
+no-size kind h = rw (le-ltb kind 2 (omega arith), le-ltb kind 4 (omega arith), le-ltb kind 6 h)
+
+-- The code that is left of those that are types.
+pub last-type : (kind size : ℕ) → size ≡ sizeOf kind → 0 < size → ((((Unit {0} × (kind ≡ 0 → ⊥)) × (kind ≡ 1 → ⊥)) × (kind ≡ 2 → ⊥)) × (kind ≡ 3 → ⊥)) × (kind ≡ 4 → ⊥) → kind ≡ 5
+last-type kind size e h others = go (ltb kind 6) refl
+  where
+    go : (b : Bool) → ltb kind 6 ≡ b → kind ≡ 5
+    go true t = let l = ltb-true kind 6 t in omega (arith, others .0 .0 .0 .0 .1, others .0 .0 .0 .1, others .0 .0 .1, others .0 .1, others .1)
+    go false f = let l = ltb-false kind 6 f in absurd (omega (arith, e, no-size kind l))
+
+module _ (kind size this : ℕ) (e : size ≡ sizeOf kind) (told : kind ≡ this) where
+  same-size : size ≡ sizeOf this
+  same-size = e ∙ ap sizeOf told
+
+  -- Elements of a type that is told lie inside,
+  pub typed-room : (from n bytes : ℕ) → ((k : ℕ) → k < n → from + k * size + size ≤ bytes) → (k : ℕ) → k < n → from + k * sizeOf this + sizeOf this ≤ bytes
+  typed-room from n bytes inside k h = subst (λ (z : ℕ). from + k * z + z ≤ bytes) same-size (inside k h)
+
+  -- and what was read of them is read of the type.
+  pub typed-read : (registers : List ℕ) (from n : ℕ) (old new : List ℕ) → ElementsRead registers (λ k. from + k * sizeOf this) this (sizeOf this) n old new
+      → ElementsRead registers (λ k. from + k * size) kind size n old new
+  typed-read registers from n old new read = rw (told, same-size) read

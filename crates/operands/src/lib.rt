@@ -4,5 +4,6 @@ pub mod gather;
 pub mod modify;
 pub mod read;
 pub mod rows;
+pub mod single;
 pub mod sources;
 pub mod spread;

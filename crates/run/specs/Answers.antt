@@ -4,6 +4,7 @@ use mathlib.Core.List.{List}
 use mathlib.Core.Option.{none}
 use mathlib.Core.Path.{_≡_, refl, sym, ap, _∙_, subst}
 use Prim.Native.Nat.{ℕ, _*_, _<_, _≤_}
+use native.Mathlib.Omega.{arith}
 use lib.Dec.{eqb}
 use lib.ListN.{length}
 use borrow.Author.Tests.{eqb-true, eq-eqb, ne-eqb, lt-ltb, le-ltb}
@@ -12,23 +13,28 @@ use Rattle.paper.specs.Kernel.{Instr, longAndShort, good}
 use Rattle.paper.specs.Jump.{lands}
 use Rattle.paper.specs.Machine as paper
 use Rattle.paper.specs.Machine.{stops, step, run}
-use Rattle.paper.specs.State.{stateOf, stateLegal, stateLands, allThree, stateBytes}
+use Rattle.paper.specs.Store.{Store}
+use Rattle.paper.specs.State.{stateOf, stateLegal, stateLands, waitsLand, allThree, channelsIn, stateBytes}
 use Rattle.paper.specs.Calls.{refusal, sized, judgedKernel, accepted, Changed, unchanged, allSized, onState, steppedAs, stepCall, ranAs, runCall}
 use Rattle.laws.specs.Same.{state-names}
+use Rattle.laws.specs.Lasting.{lands-before}
 use Rattle.laws.specs.Demands.{Ready, run-ready, step-ready}
 use Rattle.words.specs.declared.answer.Answer.the-variants.{Told, Refused}
 use Rattle.words.specs.Answer.{Left}
 use Rattle.words.specs.declared.answer.Answer.{Answer}
 use Rattle.kernel.specs.Marks.{marked, Says, says-refused, says-instrs}
 use Rattle.kernel.specs.Accepting.{accepted-kernel}
-use Rattle.machine.specs.declared.state.State.{State}
-use Rattle.machine.specs.States.{stateIs, SaneState, sixteen-channels}
+use Rattle.machine.specs.declared.step.Stand.{Stand}
+use Rattle.machine.specs.Steps.{Shows}
+use Rattle.machine.specs.Ends.{Inside}
 use Rattle.run.specs.declared.calls.Admission.{Admission}
 use Rattle.run.specs.declared.calls.Admission.the-variants.{Fine, Barred}
-use Rattle.run.specs.Landing.{legalBy, legal-same}
+use Rattle.run.specs.Landing.{legalBy, legal-same, waits-lands}
 use Rattle.run.specs.declared.running.Outcome.{Outcome}
-use Rattle.run.specs.Running.{instructions, Running, running-end, running-on}
-use Rattle.run.specs.Outcomes.{outcomeIs}
+use Rattle.run.specs.Running.{Running, running-end, running-on}
+use Rattle.run.specs.Kernels.{instructions, Takes, end-is, end-not, runnable}
+use Rattle.run.specs.Opening.{Blank}
+use Rattle.run.specs.Outcomes.{Ends, one-step}
 use Rattle.laws.specs.Truth.{both-true}
 
 -- ---- 1
@@ -73,12 +79,16 @@ pub record Lawful (dictionary kernel registers bytes : List ℕ) : Type 0 where
   pub judged : judgedKernel longAndShort dictionary kernel ≡ good (instructions dictionary kernel)
   pub legal : stateLegal (instructions dictionary kernel) registers bytes ≡ true
 
+-- The marks are the places at which its instructions start, and its end.
+abbrev pub MarksLand : List ℕ → List ℕ → List ℕ → Type 0
+MarksLand dictionary kernel marks = (p : ℕ) → marked marks p ≡ lands (instructions dictionary kernel) p
+
 -- What is said of a kernel and a state: the refusal that any call on them answers, or that they are lawful.
-abbrev pub Admits : List ℕ → List ℕ → List ℕ → List ℕ → Admission → Type 0
-Admits dictionary kernel registers bytes (Barred number offset) =
+abbrev pub Admits : List ℕ → List ℕ → List ℕ → List ℕ → List ℕ → Admission → Type 0
+Admits dictionary kernel registers bytes marks (Barred number offset) =
     (go : List Instr → paper.State → Changed)
     → onState registers bytes go (judgedKernel longAndShort dictionary kernel) ≡ unchanged (refusal number offset) registers bytes
-Admits dictionary kernel registers bytes Fine = Lawful dictionary kernel registers bytes
+Admits dictionary kernel registers bytes marks Fine = Lawful dictionary kernel registers bytes × MarksLand dictionary kernel marks
 
 module _ (dictionary kernel bytes : List ℕ) (right : sized dictionary kernel ≡ true)
     (marks : List ℕ) (said : Answer) (says : Says (accepted longAndShort dictionary kernel) said marks) where
@@ -86,7 +96,7 @@ module _ (dictionary kernel bytes : List ℕ) (right : sized dictionary kernel �
   unfolding accepted
   judged-is = rw right
 
-  pub admits-refused : (number offset : ℕ) → said ≡ Refused number offset → (registers : List ℕ) → Admits dictionary kernel registers bytes (Barred number offset)
+  pub admits-refused : (number offset : ℕ) → said ≡ Refused number offset → (registers : List ℕ) → Admits dictionary kernel registers bytes marks (Barred number offset)
   admits-refused number offset e registers go =
       ap (onState registers bytes go) (judged-is ∙ says-refused (accepted longAndShort dictionary kernel) said marks says number offset e)
 
@@ -95,18 +105,18 @@ module _ (dictionary kernel bytes : List ℕ) (right : sized dictionary kernel �
     unfolding instructions
     is-good = says-instrs (accepted longAndShort dictionary kernel) said marks says number count told .0
 
-    marks-land : (p : ℕ) → marked marks p ≡ lands (instructions dictionary kernel) p
+    marks-land : MarksLand dictionary kernel marks
     unfolding instructions
     marks-land = says-instrs (accepted longAndShort dictionary kernel) said marks says number count told .1
 
     legal-is : (registers : List ℕ) → legalBy (marked marks) bytes ≡ stateLegal (instructions dictionary kernel) registers bytes
     legal-is registers = legal-same (marked marks) (instructions dictionary kernel) marks-land registers bytes
 
-    pub admits-illegal : legalBy (marked marks) bytes ≡ false → (registers : List ℕ) → Admits dictionary kernel registers bytes (Barred 15 0)
+    pub admits-illegal : legalBy (marked marks) bytes ≡ false → (registers : List ℕ) → Admits dictionary kernel registers bytes marks (Barred 15 0)
     admits-illegal l registers go = rw (judged-is ∙ is-good, sym (legal-is registers) ∙ l)
 
-    pub admits-fine : legalBy (marked marks) bytes ≡ true → (registers : List ℕ) → Admits dictionary kernel registers bytes Fine
-    admits-fine l registers = record { accepts = is-good; judged = judged-is ∙ is-good; legal = sym (legal-is registers) ∙ l }
+    pub admits-fine : legalBy (marked marks) bytes ≡ true → (registers : List ℕ) → Admits dictionary kernel registers bytes marks Fine
+    admits-fine l registers = (record { accepts = is-good; judged = judged-is ∙ is-good; legal = sym (legal-is registers) ∙ l }, marks-land)
 
 -- ---- the calls, in the code's order
 
@@ -125,11 +135,11 @@ module _ (dictionary kernel registers bytes : List ℕ) (sizes : Sizes dictionar
   unfolding runCall
   run-limit budget h = rw (sizes .all, lt-ltb _ _ h) (refl, refl, refl)
 
-  module _ (o : Admission) (admits : Admits dictionary kernel registers bytes o) where
+  module _ (marks : List ℕ) (o : Admission) (admits : Admits dictionary kernel registers bytes marks o) where
     module _ (number offset : ℕ) (e : o ≡ Barred number offset) where
       barred : (go : List Instr → paper.State → Changed)
           → onState registers bytes go (judgedKernel longAndShort dictionary kernel) ≡ unchanged (refusal number offset) registers bytes
-      barred = subst (λ (o : Admission). Admits dictionary kernel registers bytes o) e admits
+      barred = subst (λ (o : Admission). Admits dictionary kernel registers bytes marks o) e admits
 
       pub step-barred : Left (stepCall dictionary kernel registers bytes) (Refused number offset) registers bytes
       unfolding stepCall
@@ -139,12 +149,11 @@ module _ (dictionary kernel registers bytes : List ℕ) (sizes : Sizes dictionar
       unfolding runCall
       run-barred budget h = rw (sizes .all, le-ltb _ _ h, barred (λ k s. ranAs (run k budget s))) (refl, refl, refl)
 
-    pub lawful : o ≡ Fine → Lawful dictionary kernel registers bytes
-    lawful e = subst (λ (o : Admission). Admits dictionary kernel registers bytes o) e admits
+    pub lawful : o ≡ Fine → Lawful dictionary kernel registers bytes × MarksLand dictionary kernel marks
+    lawful e = subst (λ (o : Admission). Admits dictionary kernel registers bytes marks o) e admits
 
--- Of a state s that was read from the bytes.
-module _ (dictionary kernel registers bytes : List ℕ) (sizes : Sizes dictionary kernel registers bytes) (law : Lawful dictionary kernel registers bytes)
-    (s : State) (read : stateIs registers s ≡ stateOf registers bytes) (sane : allThree bytes 16 ≡ true → SaneState s) where
+-- Of an accepted kernel and a legal state.
+module _ (dictionary kernel registers bytes : List ℕ) (sizes : Sizes dictionary kernel registers bytes) (law : Lawful dictionary kernel registers bytes) where
   abbrev k : List Instr
   k = instructions dictionary kernel
 
@@ -155,44 +164,70 @@ module _ (dictionary kernel registers bytes : List ℕ) (sizes : Sizes dictionar
   unfolding stateLegal
   legal-parts = both-true (allThree bytes 16) (stateLands k (stateOf registers bytes)) (law .legal)
 
-  -- Steps are made from it.
-  pub opened : Running dictionary kernel registers s
-  opened =
-      let a = accepted-kernel longAndShort dictionary kernel k (law .accepts) in
-      let h = sane (legal-parts .0) in
-      record {
-        accepts = a;
-        lasts =
-            record {
-              holding =
-                  record {
-                    store = record { bytes = sizes .registers-are; flag0 = h .flag0; flag1 = h .flag1 };
-                    count = sixteen-channels (s .channels) (h .channels);
-                  };
-              naming = state-names k (a .sound) (stateIs registers s) (ap (stateLands k) read ∙ legal-parts .1);
-            };
-        sane = h;
-      }
+  -- Each channel is one of the three.
+  pub legal-three : allThree bytes 16 ≡ true
+  legal-three = legal-parts .0
 
-  -- A step at the end,
-  pub step-end : 8 * s .place ≡ length kernel → Left (stepCall dictionary kernel registers bytes) (Told 20 0) registers bytes
-  unfolding stepCall
-  step-end h =
-      rw (sizes .all, law .judged, law .legal, ap (stops k) (sym read) ∙ running-end dictionary kernel registers s opened h) (refl, refl, refl)
+  pub taken : Takes dictionary kernel
+  taken = accepted-kernel longAndShort dictionary kernel k (law .accepts)
 
-  -- a step away from it,
-  pub step-made : (8 * s .place ≡ length kernel → ⊥) → (registers′ bytes′ : List ℕ) (s′ : State)
-      → stateIs registers′ s′ ≡ step k (stateIs registers s) → bytes′ ≡ stateBytes (stateIs registers′ s′)
-      → Left (stepCall dictionary kernel registers bytes) (Told 0 0) registers′ bytes′
-  step-made away registers′ bytes′ s′ made wrote =
-      let on : stops k (stateOf registers bytes) ≡ none = ap (stops k) (sym read) ∙ running-on dictionary kernel registers s opened away in
-      let same : stateIs registers′ s′ ≡ step k (stateOf registers bytes) = made ∙ ap (step k) read in
-      rw (step-ready dictionary kernel registers bytes k ready on, ← same) (refl, refl, wrote)
+  module _ (here : List ℕ) (blank : Blank kernel here) where
+    lands-inside : (p : ℕ) → lands k p ≡ true → p < length here
+    lands-inside p e = omega (arith, lands-before k (taken .sound .laid) p e, taken .ends, blank .room)
 
-  -- a run.
-  pub run-made : (budget : ℕ) → budget ≤ budgetLimit → (registers′ bytes′ : List ℕ) (out : Outcome)
-      → outcomeIs registers′ out ≡ run k budget (stateIs registers s) → bytes′ ≡ stateBytes (stateIs registers′ (out .state))
-      → Left (runCall dictionary kernel budget registers bytes) (Told (out .verdict) (out .steps)) registers′ bytes′
-  run-made budget h registers′ bytes′ out made wrote =
-      let same : outcomeIs registers′ out ≡ run k budget (stateOf registers bytes) = made ∙ ap (run k budget) read in
-      rw (run-ready dictionary kernel registers bytes k ready budget h, ← same) (refl, refl, wrote)
+    -- Channels that wait do so inside the masks.
+    pub waits-inside : Inside (length here) (channelsIn bytes 0 16)
+    unfolding stateOf
+    waits-inside n p h e =
+        lands-inside p
+        (waits-lands k (channelsIn bytes 0 16) (both-true (lands k (stateOf registers bytes .place)) (waitsLand k (channelsIn bytes 0 16)) (legal-parts .1) .1) n p e)
+
+  -- The step and the run from where the state stands.
+  module _ (here : List ℕ) (s : Stand) (shows : Shows registers here s (stateOf registers bytes)) (flag0 : s .flags .flag0 < 65536) (flag1 : s .flags .flag1 < 65536)
+      (room : length kernel < 8 * length here) (few : length here ≤ 65536) where
+    pub opened : Running k registers here s (stateOf registers bytes)
+    opened =
+        record {
+          runs = runnable dictionary kernel taken;
+          lasts =
+              record {
+                holding =
+                    record {
+                      store = rw (← (shows .store)) (record { bytes = sizes .registers-are; flag0 = flag0; flag1 = flag1 });
+                      count = shows .posted .sixteen;
+                    };
+                naming = state-names k (taken .sound) (stateOf registers bytes) (legal-parts .1);
+              };
+          shows = shows;
+          room = omega (arith, taken .ends);
+          few = few;
+        }
+
+    -- A step at the end,
+    pub step-end : 8 * s .place ≡ length kernel → Left (stepCall dictionary kernel registers bytes) (Told 20 0) registers bytes
+    unfolding stepCall
+    step-end h =
+        rw (sizes .all, law .judged, law .legal, running-end k registers here s (stateOf registers bytes) opened (end-is dictionary kernel taken (s .place) h)) (refl, refl, refl)
+
+    -- a step away from it, which is a run of one,
+    pub step-made : (8 * s .place ≡ length kernel → ⊥) → (registers′ here′ bytes′ : List ℕ) (out : Outcome)
+        → (ends : Ends k 1 (stateOf registers bytes) registers′ here′ out) → bytes′ ≡ stateBytes (ends .0)
+        → Left (stepCall dictionary kernel registers bytes) (Told 0 0) registers′ bytes′
+    step-made away registers′ here′ bytes′ out ends wrote =
+        let on : stops k (stateOf registers bytes) ≡ none = running-on k registers here s (stateOf registers bytes) opened (end-not dictionary kernel taken (s .place) away) in
+        let same : ends .0 ≡ step k (stateOf registers bytes) = one-step k (stateOf registers bytes) on (out .verdict) (out .steps) (ends .0) (ends .2) in
+        rw (step-ready dictionary kernel registers bytes k ready on, ← same) (refl, ap (λ (st : Store). st .registers) (ends .1 .shows .store), wrote)
+
+    -- a run.
+    pub run-made : (budget : ℕ) → budget ≤ budgetLimit → (registers′ here′ bytes′ : List ℕ) (out : Outcome)
+        → (ends : Ends k budget (stateOf registers bytes) registers′ here′ out) → bytes′ ≡ stateBytes (ends .0)
+        → Left (runCall dictionary kernel budget registers bytes) (Told (out .verdict) (out .steps)) registers′ bytes′
+    run-made budget h registers′ here′ bytes′ out ends wrote =
+        rw (run-ready dictionary kernel registers bytes k ready budget h, ← (ends .2)) (refl, ap (λ (st : Store). st .registers) (ends .1 .shows .store), wrote)
+
+-- ---- one way for both calls
+
+-- A step, or a run.
+abbrev pub callOf : Bool → List ℕ → List ℕ → ℕ → List ℕ → List ℕ → Changed
+callOf true dictionary kernel budget registers bytes = stepCall dictionary kernel registers bytes
+callOf false dictionary kernel budget registers bytes = runCall dictionary kernel budget registers bytes

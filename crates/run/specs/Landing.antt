@@ -1,17 +1,19 @@
 -- 15 against a test of places, where the paper tests the instructions themselves. Assumes nothing.
-use mathlib.Core.Bool.{Bool, true, false, cond, _&&_, and-true, and-false}
+use mathlib.Core.Bool.{Bool, true, false, cond, _&&_, and-true, and-false, false≢true}
 use mathlib.Core.List.{List, [], _∷_}
 use mathlib.Core.Path.{_≡_, refl, sym, ap, ap₂, _∙_}
-use Prim.Native.Nat.{ℕ, suc, _+_, _-_, _<_, _≤_}
+use Prim.Native.Nat.{ℕ, zero, suc, _+_, _-_, _<_, _≤_}
 use native.Mathlib.Omega.{arith}
 use native.Mathlib.Numerals.{add-one}
 use lib.ListN.{getD}
+use borrow.Author.Tests.{eqb-true, eq-eqb}
 use Rattle.paper.specs.Bits.{bit}
 use Rattle.paper.specs.Kernel.{Instr}
 use Rattle.paper.specs.Jump.{lands}
 use Rattle.paper.specs.Machine as paper
-use Rattle.paper.specs.Machine.{Channel, off, awake, waiting}
+use Rattle.paper.specs.Machine.{Channel, off, awake, waiting, waitsAt}
 use Rattle.paper.specs.State.{half, channelsIn, stateOf, allThree, waitsLand, stateLegal}
+use Rattle.laws.specs.Truth.{both-true}
 use Rattle.machine.specs.declared.channels.Channels.{Channels}
 use Rattle.machine.specs.declared.state.State.{State}
 use Rattle.machine.specs.Numbered.{numbered}
@@ -42,6 +44,19 @@ module _ (land : ℕ → Bool) (k : List Instr) (same : (p : ℕ) → land p ≡
   pub legal-same : (registers bytes : List ℕ) → legalBy land bytes ≡ stateLegal k registers bytes
   unfolding legalBy stateLegal stateOf
   legal-same registers bytes = rw (same (half bytes 4), waits-same (channelsIn bytes 0 16))
+
+-- A channel that waits in a list of which all do so at an instruction's start or at the end does so there.
+pub waits-lands : (k : List Instr) (cs : List Channel) → waitsLand k cs ≡ true → (n p : ℕ) → getD cs n off ≡ waiting p → lands k p ≡ true
+unfolding waitsLand
+waits-lands k [] e n p f = absurd (false≢true (ap (waitsAt p) f ∙ eq-eqb p p refl))
+waits-lands k (off ∷ cs) e zero p f = absurd (false≢true (ap (waitsAt p) f ∙ eq-eqb p p refl))
+waits-lands k (off ∷ cs) e (suc n) p f = waits-lands k cs e n p f
+waits-lands k (awake ∷ cs) e zero p f = absurd (false≢true (ap (waitsAt p) f ∙ eq-eqb p p refl))
+waits-lands k (awake ∷ cs) e (suc n) p f = waits-lands k cs e n p f
+waits-lands k (waiting q ∷ cs) e zero p f =
+    let same : p ≡ q = eqb-true p q (ap (waitsAt p) f ∙ eq-eqb p p refl) in
+    ap (lands k) same ∙ both-true (lands k q) (waitsLand k cs) e .0
+waits-lands k (waiting q ∷ cs) e (suc n) p f = waits-lands k cs (both-true (lands k q) (waitsLand k cs) e .1) n p f
 
 -- ---- channel by channel, as the code goes
 

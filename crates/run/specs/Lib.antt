@@ -2,6 +2,8 @@
 pub mod Landing
 pub mod Leading
 pub mod Running
+pub mod Kernels
+pub mod Tables
 pub mod Outcomes
+pub mod Opening
 pub mod Answers
-pub mod Dashes

@@ -1,7 +1,7 @@
 -- A run's outcome as the code has it, and what is left of a run from where its loop stands. Assumes nothing.
 use mathlib.Core.List.{List}
 use mathlib.Core.Option.{Option, none, some}
-use mathlib.Core.Path.{_≡_, sym, ap, _∙_}
+use mathlib.Core.Path.{_≡_, refl, sym, ap, _∙_}
 use Prim.Native.Nat.{ℕ, zero, suc, _+_, _-_, _<_}
 use native.Mathlib.Omega.{arith}
 use Rattle.paper.specs.Kernel.{Instr}
@@ -9,11 +9,7 @@ use Rattle.paper.specs.Machine as paper
 use Rattle.paper.specs.Machine.{stops, step, run}
 use Rattle.laws.specs.Runs.{still, orSpent, run-zero, run-stop, run-on}
 use Rattle.run.specs.declared.running.Outcome.{Outcome}
-use Rattle.machine.specs.States.{stateIs}
-
--- The paper's outcome, with the registers that are lent beside the state.
-abbrev pub outcomeIs : List ℕ → Outcome → paper.Outcome
-outcomeIs registers o = record { verdict = o .verdict; steps = o .steps; state = stateIs registers (o .state) }
+use Rattle.run.specs.Running.{Running}
 
 -- An outcome after n steps more.
 abbrev pub after : ℕ → paper.Outcome → paper.Outcome
@@ -22,6 +18,11 @@ after n o = record { verdict = o .verdict; steps = n + o .steps; state = o .stat
 -- The outcome of a run that stops after n steps with verdict v.
 abbrev pub ended : ℕ → ℕ → paper.State → paper.Outcome
 ended v n s = record { verdict = v; steps = n; state = s }
+
+-- A run's outcome: where it stands is a state of the kernel's, and with it the outcome is the paper's.
+abbrev pub Ends : List Instr → ℕ → paper.State → List ℕ → List ℕ → Outcome → Type 0
+Ends k budget whole registers here r =
+    (u : paper.State) × Running k registers here (r .stand) u × (ended (r .verdict) (r .steps) u ≡ run k budget whole)
 
 -- The whole run comes to what is left of it from state s, n steps being made.
 abbrev pub Leads : List Instr → ℕ → paper.State → ℕ → paper.State → Type 0
@@ -61,3 +62,9 @@ module _ (k : List Instr) (budget : ℕ) (whole : paper.State) (n : ℕ) (s : pa
         leads ∙ ap (λ (m : ℕ). after n (run k m s)) m ∙ ap (after n) (run-on (stops k) (step k) (budget - (n + 1)) s on)
         ∙ summed rest (n + suc (rest .steps)) (n + 1 + rest .steps) (omega arith)
         ∙ ap (λ (t : paper.State). after (n + 1) (run k (budget - (n + 1)) t)) (sym e)
+
+-- A run of one step, away from the end, comes to the state after that step.
+pub one-step : (k : List Instr) (t : paper.State) → stops k t ≡ none → (v n : ℕ) (u : paper.State) → ended v n u ≡ run k 1 t → u ≡ step k t
+one-step k t on v n u e =
+    ap (λ (o : paper.Outcome). o .state) (e ∙ leads-on k 1 t 0 t (leads-start k 1 t) on (omega arith) (step k t) refl)
+    ∙ ap (λ (o : paper.Outcome). o .state) (run-zero (stops k) (step k) (step k t))

@@ -1,113 +1,158 @@
--- A state in the midst of an accepted kernel: what each step needs, what it makes, and that it leaves such a state. Assumes nothing.
+-- A run in the midst of a kernel's instructions: what each step needs, what it makes, and that it leaves such a run. Assumes nothing.
 use mathlib.Core.Bool.{true}
 use mathlib.Core.List.{List, [], _∷_, map}
 use mathlib.Core.Option.{Option, none, some}
-use mathlib.Core.Path.{_≡_, refl, sym, ap, _∙_}
-use Prim.Native.Nat.{ℕ, _+_, _*_, _<_}
+use mathlib.Core.Path.{_≡_, refl, sym, ap, _∙_, subst}
+use Prim.Native.Nat.{ℕ, _+_, _<_, _≤_}
 use native.Mathlib.Omega.{arith}
 use lib.IntN.{ℤ}
 use lib.ListN.{length}
-use Rattle.paper.specs.Limits.{registerBytes, dictionaryBytes}
-use Rattle.paper.specs.Dictionary.{dictionaryOf}
+use borrow.Author.Tests.{eqb-true}
+use Rattle.paper.specs.Limits.{registerBytes}
+use Rattle.paper.specs.Store.{Store}
 use Rattle.paper.specs.Legal.{refusalOf}
-use Rattle.paper.specs.Kernel.{Instr, longAndShort}
-use Rattle.paper.specs.Jump.{fetch, targetsOf, placeOf, jumpLands, targetsLand}
-use Rattle.paper.specs.Machine.{Ways, waysOf, stepAt, stepOn, step, stopsOn, stops}
-use Rattle.paper.specs.Calls.{accepted}
+use Rattle.paper.specs.Kernel.{Instr}
+use Rattle.paper.specs.Jump.{fetch, endOf, lands, nextOf, targetsOf, placeOf, jumpLands, targetsLand}
+use Rattle.paper.specs.Machine.{State, Ways, waysOf, stepAt, stepOn, step, stopsOn, stops}
+use Rattle.laws.specs.Names as names
 use Rattle.laws.specs.Truth.{both-true}
 use Rattle.laws.specs.Rename.{AtPlaces, leads-at}
 use Rattle.laws.specs.Places.{jump-lands, place-lands}
 use Rattle.laws.specs.Lasting.{Lasting, names-lands, lands-before, step-lasting}
-use Rattle.kernel.specs.Standing.{Whole, Fetches}
-use Rattle.kernel.specs.Marks.{instrsOf}
-use Rattle.kernel.specs.Jumps.{instrOf}
-use Rattle.kernel.specs.Accepting.{AcceptedKernel, Here, Found, found-here, none-past, lands-here}
-use Rattle.machine.specs.declared.state.State.{State}
-use Rattle.machine.specs.Branches.{SaneWays}
-use Rattle.machine.specs.States.{stateIs, SaneState}
+use Rattle.machine.specs.declared.step.Stand.{Stand}
+use Rattle.machine.specs.Branches.{Within}
+use Rattle.machine.specs.Steps.{Shows, Sound}
 
--- An accepted kernel's instructions; none of a kernel that is refused.
-unfoldable pub instructions : List ℕ → List ℕ → List Instr
-instructions dictionary kernel = instrsOf (accepted longAndShort dictionary kernel)
+-- An instruction that starts at place p of a kernel: it passes the judge, and lies before the kernel's end.
+pub record Passes (k : List Instr) (p : ℕ) (i : Instr) : Type 0 where
+  pub at : i .place ≡ p
+  pub some : 0 < i .size
+  pub legal : refusalOf (i .word) ≡ 0
+  pub next : nextOf i ≤ endOf k
 
--- The kernel is accepted; the state is one that its steps keep; the code's numbers are sane.
-pub record Running (dictionary kernel registers : List ℕ) (s : State) : Type 0 where
-  pub accepts : AcceptedKernel longAndShort dictionary kernel (instructions dictionary kernel)
-  pub lasts : Lasting (instructions dictionary kernel) registerBytes (stateIs registers s)
-  pub sane : SaneState s
+-- Instructions that can be run: they stand one after the other, each jump lands, and each passes.
+pub record Runnable (k : List Instr) : Type 0 where
+  pub sound : names.Sound k
+  pub passes : (p : ℕ) (i : Instr) → fetch k p ≡ some i → Passes k p i
 
--- What is known of the instruction at the state's place, of which the code has the size, the word w and the ways.
-pub record Steps (dictionary kernel registers : List ℕ) (s : State) (size w : ℕ) (ways : Ways) : Type 0 where
+-- The code's numbers are those of a state that the kernel's steps keep; there is a mask for each place and for the end.
+pub record Running (k : List Instr) (registers here : List ℕ) (s : Stand) (t : State) : Type 0 where
+  pub runs : Runnable k
+  pub lasts : Lasting k registerBytes t
+  pub shows : Shows registers here s t
+  pub room : endOf k < length here
+  pub few : length here ≤ 65536
+
+-- What is known of the instruction at the place where a run stands, of which the code has the word w and the ways.
+pub record Steps (k : List Instr) (here : List ℕ) (s : Stand) (t : State) (w : ℕ) (ways : Ways) : Type 0 where
   pub legal : refusalOf w ≡ 0
-  pub near : s .place + size < 65536
-  pub fits : SaneWays ways
-  pub makes : stepAt w (s .place) ways (stateIs registers s) ≡ step (instructions dictionary kernel) (stateIs registers s)
+  pub within : Within (length here) ways
+  pub makes : stepAt w (s .place) ways t ≡ step k t
 
-module _ (dictionary kernel registers : List ℕ) (s : State) (r : Running dictionary kernel registers s) where
-  abbrev k : List Instr
-  k = instructions dictionary kernel
+-- Where an instruction starts, or the kernel ends, is the end or has an instruction.
+lands-found : (k : List Instr) (p : ℕ) → lands k p ≡ true → (p ≡ endOf k → ⊥) → (i : Instr) × (fetch k p ≡ some i)
+unfolding lands
+lands-found k p e away = go (fetch k p) refl
+  where
+    go : (o : Option Instr) → fetch k p ≡ o → (i : Instr) × (fetch k p ≡ some i)
+    go (some i) f = (i, f)
+    go none f = absurd (away (eqb-true p (endOf k) (rw f at e)))
 
-  pub running-dictionary : length dictionary ≡ dictionaryBytes
-  running-dictionary = r .accepts .sizes .dictionary-is
+-- At the end no instruction starts.
+none-end : (k : List Instr) → Runnable k → (p : ℕ) → p ≡ endOf k → fetch k p ≡ none
+none-end k r p e = go (fetch k p) refl
+  where
+    go : (o : Option Instr) → fetch k p ≡ o → o ≡ none
+    go none f = refl
+    go (some i) f = let g = r .passes p i f in absurd (omega (arith, g .at, g .some, g .next))
 
+-- An instruction leads to no place past the kernel's end.
+module _ (k : List Instr) (r : Runnable k) (bound : ℕ) (room : endOf k < bound) where
+  lands-less : (p : ℕ) → lands k p ≡ true → p < bound
+  lands-less p e = omega (arith, lands-before k (r .sound .laid) p e)
+
+  targets-less : (zs : List ℤ) → targetsLand k zs ≡ true → AtPlaces (λ p. p < bound) (map placeOf zs)
+  targets-less [] e = tt
+  targets-less (z ∷ zs) e =
+      let u = both-true (jumpLands k z) (targetsLand k zs) e in
+      (lands-less (placeOf z) (place-lands k z (u .0)), targets-less zs (u .1))
+
+  pub ways-within : (p : ℕ) (i : Instr) → fetch k p ≡ some i → Within bound (waysOf i)
+  ways-within p i fetched =
+      let g = r .passes p i fetched in
+      let a =
+      leads-at (λ p. p < bound) (nextOf i) (map placeOf (targetsOf i)) (omega (arith, g .next)) (omega arith)
+      (targets-less (targetsOf i) (jump-lands k k p i (r .sound .land) fetched)) in
+      record { next = a .next; jump = a .jump; wait = a .wait }
+
+module _ (k : List Instr) (registers here : List ℕ) (s : Stand) (t : State) (r : Running k registers here s t) where
   pub running-registers : length registers ≡ registerBytes
-  running-registers = r .lasts .holding .store .bytes
+  running-registers = ap (λ (st : Store). length (st .registers)) (r .shows .store) ∙ r .lasts .holding .store .bytes
+
+  pub running-sound : Sound here s
+  running-sound =
+      record {
+        flag0 = rw (ap (λ (st : Store). st .flag0) (r .shows .store)) (r .lasts .holding .store .flag0);
+        flag1 = rw (ap (λ (st : Store). st .flag1) (r .shows .store)) (r .lasts .holding .store .flag1);
+        awake = r .shows .posted .fits;
+        masks = r .shows .posted .small;
+      }
+
+  -- The place is one of the kernel's.
+  pub running-lands : lands k (s .place) ≡ true
+  running-lands = ap (lands k) (r .shows .place) ∙ names-lands k (t .place) (r .lasts .naming .current)
+
+  pub running-place : s .place < length here
+  running-place = omega (arith, lands-before k (r .runs .sound .laid) (s .place) running-lands, r .room)
+
+  pub running-before : s .place ≤ endOf k
+  running-before = lands-before k (r .runs .sound .laid) (s .place) running-lands
 
   -- At the end no instruction starts.
-  pub running-end : 8 * s .place ≡ length kernel → stops k (stateIs registers s) ≡ some 20
-  running-end e = ap stopsOn (none-past longAndShort dictionary kernel k (r .accepts) (s .place) (omega arith))
+  pub running-end : s .place ≡ endOf k → stops k t ≡ some 20
+  running-end e =
+      ap (λ (p : ℕ). stopsOn (fetch k p)) (sym (r .shows .place))
+      ∙ ap stopsOn (none-end k (r .runs) (s .place) e)
 
-  module _ (away : 8 * s .place ≡ length kernel → ⊥) where
-    -- Away from it one stands there.
-    here : Here longAndShort (dictionaryOf dictionary) kernel k (s .place)
-    here = lands-here longAndShort dictionary kernel k (r .accepts) (s .place) (names-lands k (s .place) (r .lasts .naming .current)) away
+  module _ (away : s .place ≡ endOf k → ⊥) where
+    -- Away from it one does.
+    pub running-instr : Instr
+    running-instr = lands-found k (s .place) running-lands away .0
 
-    pub running-on : stops k (stateIs registers s) ≡ none
-    running-on = ap stopsOn (here .fetched)
+    pub running-fetched : fetch k (s .place) ≡ some running-instr
+    unfolding running-instr lands-found
+    running-fetched = lands-found k (s .place) running-lands away .1
 
-    -- Its bytes are there.
-    pub running-whole : Whole kernel (8 * s .place)
-    running-whole = here .whole
+    pub running-on : stops k t ≡ none
+    running-on = ap (λ (p : ℕ). stopsOn (fetch k p)) (sym (r .shows .place)) ∙ ap stopsOn running-fetched
 
-    module _ (size w : ℕ) (f : Fetches (dictionaryOf dictionary) kernel (8 * s .place) size w) where
-      found : Found longAndShort (dictionaryOf dictionary) kernel k (s .place) size w
-      found = found-here longAndShort (dictionaryOf dictionary) kernel k (s .place) here size w f
-
-      -- No target that lands lies past the kernel's end.
-      targets-less : (zs : List ℤ) → targetsLand k zs ≡ true → AtPlaces (λ p. p < 65536) (map placeOf zs)
-      targets-less [] e = tt
-      targets-less (z ∷ zs) e =
-          let t = both-true (jumpLands k z) (targetsLand k zs) e in
-          let b = lands-before k (r .accepts .sound .laid) (placeOf z) (place-lands k z (t .0)) in
-          (omega (arith, r .accepts .ends, r .accepts .sizes .kernel-most), targets-less zs (t .1))
-
-      next-less : s .place + size < 65536
-      next-less = let whole = running-whole in omega (arith, f .size-is, r .accepts .sizes .kernel-most)
-
-      ways-less : SaneWays (waysOf (instrOf (s .place) size w))
-      ways-less =
-          let i : Instr = instrOf (s .place) size w in
-          let a =
-          leads-at (λ p. p < 65536) (s .place + size) (map placeOf (targetsOf i)) next-less (omega arith)
-          (targets-less (targetsOf i) (jump-lands k k (s .place) i (r .accepts .sound .land) (found .fetched))) in
-          record { next = a .next; jump = a .jump; wait = a .wait }
-
-      pub running-steps : (ways : Ways) → ways ≡ waysOf (instrOf (s .place) size w) → Steps dictionary kernel registers s size w ways
+    module _ (i : Instr) (fetched : fetch k (s .place) ≡ some i) where
+      pub running-steps : (w : ℕ) (ways : Ways) → w ≡ i .word → ways ≡ waysOf i → Steps k here s t w ways
       unfolding stepOn
-      running-steps ways e =
+      running-steps w ways ew e =
+          let g = r .runs .passes (s .place) i fetched in
           record {
-            legal = found .legal;
-            near = next-less;
-            fits = rw e ways-less;
-            makes = rw e (sym (ap (λ (o : Option Instr). stepOn o (stateIs registers s)) (found .fetched)));
+            legal = rw ew (g .legal);
+            within = rw e (ways-within k (r .runs) (length here) (r .room) (s .place) i fetched);
+            makes =
+                rw (ew, e) (ap (λ (p : ℕ). stepAt (i .word) p (waysOf i) t) (sym (g .at)))
+                ∙ sym (ap (λ (p : ℕ). stepOn (fetch k p) t) (sym (r .shows .place)) ∙ ap (λ (o : Option Instr). stepOn o t) fetched);
           }
 
-  -- A step leaves such a state.
-  pub running-after : (registers′ : List ℕ) (s′ : State) → stateIs registers′ s′ ≡ step k (stateIs registers s) → SaneState s′
-      → Running dictionary kernel registers′ s′
-  running-after registers′ s′ e sane =
+  -- A step leaves such a run.
+  running-after : (registers′ here′ : List ℕ) (s′ : Stand) → length here′ ≡ length here → Shows registers′ here′ s′ (step k t)
+      → Running k registers′ here′ s′ (step k t)
+  running-after registers′ here′ s′ e shows =
       record {
-        accepts = r .accepts;
-        lasts = rw e (step-lasting k (r .accepts .sound) registerBytes (stateIs registers s) (r .lasts));
-        sane = sane;
+        runs = r .runs;
+        lasts = step-lasting k (r .runs .sound) registerBytes t (r .lasts);
+        shows = shows;
+        room = rw e (r .room);
+        few = rw e (r .few);
       }
+
+  -- One that makes the instruction's step does.
+  pub running-made : (w : ℕ) (ways : Ways) → Steps k here s t w ways → (registers′ here′ : List ℕ) (s′ : Stand) → length here′ ≡ length here
+      → Shows registers′ here′ s′ (stepAt w (s .place) ways t) → Running k registers′ here′ s′ (step k t)
+  running-made w ways st registers′ here′ s′ e shows =
+      running-after registers′ here′ s′ e (subst (λ (u : State). Shows registers′ here′ s′ u) (st .makes) shows)

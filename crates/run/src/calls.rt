@@ -1,12 +1,8 @@
 // The calls step and run over lent bytes. A refusal changes nothing.
+use crate::lawful::made_lawful;
 use crate::legal::is_legal;
-use crate::running::advance;
-use crate::running::at_end;
-use crate::running::run_from;
 use kernel::accept::accept;
 use kernel::accept::is_sized;
-use machine::state::read_state;
-use machine::state::write_state;
 use words::answer::Answer;
 use words::limits::BUDGET_LIMIT;
 use words::limits::PLACES;
@@ -41,53 +37,19 @@ fn are_sized(dictionary: &[u8], kernel: &[u8], registers: &[u8], state: &[u8]) -
     state.len() == STATE_LENGTH
 }
 
-// The kernel's own refusals, then 15.
-fn admit(dictionary: &[u8], kernel: &[u8], state: &[u8]) -> Admission
+// The kernel's own refusals, then 15. Of a kernel that is fine, the marks that are lent then mark the places at which its instructions start, and its end.
+fn admit(dictionary: &[u8], kernel: &[u8], state: &[u8], marks: &mut [u8; PLACES]) -> Admission
     requires { ⌜ (sized (now dictionary) (now kernel) ≡ true) × (length (now state) ≡ stateLength) ⌝ }
-    ensures { λ r. ⌜ ((registers : List ℕ) → Admits (now (dictionary .entry)) (now (kernel .entry)) registers (now (state .entry)) r) ⌝ }
+    ensures { λ r. ⌜ ((registers : List ℕ) → Admits (now (dictionary .entry)) (now (kernel .entry)) registers (now (state .entry)) (now (marks .exit)) r) ⌝ }
 {
-    let mut marks = [0u8; PLACES];
-    let said = accept(false, dictionary, kernel, &mut marks);
+    let said = accept(false, dictionary, kernel, marks);
     if let Answer::Refused(number, offset) = said {
         return Admission::Barred(number, offset);
     }
-    if !is_legal(&marks, state) {
+    if !is_legal(marks, state) {
         return Admission::Barred(15, 0);
     }
     Admission::Fine
-}
-
-// One step of an accepted kernel from a legal state; 20 at the end, where nothing is written.
-fn step_lawful(dictionary: &[u8], kernel: &[u8], registers: &mut [u8], state: &mut [u8]) -> Answer
-    requires { ⌜ Sizes (now dictionary) (now kernel) (now registers) (now state) × Lawful (now dictionary) (now kernel) (now registers) (now state) ⌝ }
-    ensures { λ r. ⌜ Left (stepCall (now (dictionary .entry)) (now (kernel .entry)) (now (registers .entry)) (now (state .entry))) r (now (registers .exit)) (now (state .exit)) ⌝ }
-{
-    let s = read_state(state);
-    if at_end(kernel, s) {
-        return Answer::Told(20, 0);
-    }
-    let after = advance(dictionary, kernel, registers, s);
-    write_state(state, after);
-    Answer::Told(0, 0)
-}
-
-// A run of an accepted kernel from a legal state.
-fn run_lawful(
-    dictionary: &[u8],
-    kernel: &[u8],
-    budget: u64,
-    registers: &mut [u8],
-    state: &mut [u8],
-) -> Answer
-    requires { ⌜ Sizes (now dictionary) (now kernel) (now registers) (now state) × Lawful (now dictionary) (now kernel) (now registers) (now state) ⌝ }
-    requires { ⌜ budget ≤ budgetLimit ⌝ }
-    ensures { λ r. ⌜ Left (runCall (now (dictionary .entry)) (now (kernel .entry)) budget (now (registers .entry)) (now (state .entry))) r (now (registers .exit)) (now (state .exit)) ⌝ }
-{
-    let s = read_state(state);
-    let out = run_from(dictionary, kernel, budget, registers, s);
-    let after = out.state;
-    write_state(state, after);
-    Answer::Told(out.verdict, out.steps)
 }
 
 // One step from the lent state; 20 at the end.
@@ -97,10 +59,11 @@ pub fn step(dictionary: &[u8], kernel: &[u8], registers: &mut [u8], state: &mut 
     if !are_sized(dictionary, kernel, registers, state) {
         return Answer::Refused(1, 0);
     }
-    let o = admit(dictionary, kernel, state);
+    let mut marks = [0u8; PLACES];
+    let o = admit(dictionary, kernel, state, &mut marks);
     match o {
         Admission::Barred(number, offset) => Answer::Refused(number, offset),
-        Admission::Fine => step_lawful(dictionary, kernel, registers, state),
+        Admission::Fine => made_lawful(true, dictionary, kernel, &marks, 1, registers, state),
     }
 }
 
@@ -120,9 +83,10 @@ pub fn run(
     if BUDGET_LIMIT < budget {
         return Answer::Refused(16, 0);
     }
-    let o = admit(dictionary, kernel, state);
+    let mut marks = [0u8; PLACES];
+    let o = admit(dictionary, kernel, state, &mut marks);
     match o {
         Admission::Barred(number, offset) => Answer::Refused(number, offset),
-        Admission::Fine => run_lawful(dictionary, kernel, budget, registers, state),
+        Admission::Fine => made_lawful(false, dictionary, kernel, &marks, budget, registers, state),
     }
 }

@@ -1,6 +1,7 @@
-// The calls step and run: an accepted kernel, judged once, and the lent registers and state.
+// The calls step and run: an accepted kernel, judged once, decoded ahead for a run, and the lent registers and state.
 pub mod calls;
-pub mod dash;
+pub mod lawful;
 pub mod legal;
 pub mod running;
+pub mod table;
 pub mod ways;

@@ -1,24 +1,23 @@
--- The numbers handed to `predicate_mask` are those that the definition reads. Assumes nothing.
+-- Without a predicate it holds of every channel. Assumes nothing.
+use mathlib.Core.Path.{sym, _∙_}
+use Rattle.paper.specs.Enable.{predicate, ofBits}
+use Rattle.lanes.specs.Masks.{predicateMask}
 use borrow.Author.Needs.{needs}
 use Rattle.execute.proofs.enable.predicate_of.Statement.{statement}
 use Rattle.execute.proofs.enable.predicate_of.Tie as tie
 
-chosen-requires : tie.Need-chosen-requires
-chosen-requires c κs = search needs
-
 pred-ctrl-requires : tie.Need-pred-ctrl-requires
 pred-ctrl-requires c κs = search needs
 
-pred-inv-requires : tie.Need-pred-inv-requires
-pred-inv-requires c κs = search needs
-
-predicate-mask-requires : tie.Need-predicate-mask-requires
-predicate-mask-requires c κs = search needs
-
 returns : tie.Need-returns
-returns c = rw (c .predicate-mask .ensures .0, c .before .pred-inv .ensures .0, c .before .before .pred-ctrl .ensures .0, c .before .before .before .chosen .ensures)
+unfolding predicateMask predicate ofBits
+returns c = rw (sym (c .before .pred-ctrl .ensures .0) ∙ c .if1 .taken)
+
+voted-requires : tie.Need-voted-requires
+voted-requires c κs = search needs
+
+returns-2 : tie.Need-returns-2
+returns-2 c = c .voted .ensures
 
 pub predicate-of-spec : {M : Type 1} → statement M
-predicate-of-spec =
-    tie.close
-    (tie.spec chosen-requires pred-ctrl-requires pred-inv-requires predicate-mask-requires returns)
+predicate-of-spec = tie.close (tie.spec pred-ctrl-requires returns voted-requires returns-2)

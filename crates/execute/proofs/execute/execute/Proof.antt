@@ -1,91 +1,41 @@
--- The masks, results, registers and flags that are made are those of which the effect consists (`Executed`). Assumes nothing.
-use Rattle.laws.specs.Regions.{LegalPlain, legal-plain}
-use Rattle.words.specs.Words.{toWord}
-use Rattle.words.specs.Operations.{plainIs}
-use Rattle.execute.specs.Readable.{legal-writable}
-use Rattle.execute.proofs.Executed.{Made, registers-made, flag0-made, flag1-made, flags-less}
-use mathlib.Core.Path.{refl}
+-- One channel has ExecSize code 0. Assumes nothing.
+use mathlib.Core.Path.{sym, ap, _∙_}
+use Rattle.paper.specs.Region.{countOf}
 use borrow.Author.Needs.{needs}
 use Rattle.execute.proofs.execute.execute.Statement.{statement}
 use Rattle.execute.proofs.execute.execute.Tie as tie
 
--- The word is legal.
-legal : (s : tie.Start) → LegalPlain (plainIs (s .args .p)) (toWord (s .args .w))
-legal s = legal-plain (plainIs (s .args .p)) (toWord (s .args .w)) (s .pre .0 .0) (s .pre .0 .1)
+exec-size-requires : tie.Need-exec-size-requires
+exec-size-requires c κs = search needs
 
--- Where the call started.
-abbrev start : tie.After-flags-after → tie.Start
-start c = c .before .before .before .before .before .before .before .before .before .before .before .before .before .before .before .before
-
--- What was made on the way.
-made : (c : tie.After-flags-after)
-    → Made (plainIs (start c .args .p)) (toWord (start c .args .w)) (start c .args .awake) (start c .args .registers .now) (start c .args .flags)
-    (c .before .before .before .before .before .before .before .before .before .before .before .before .before .before .qtr-ctrl .result) (c .before .before .before .before .before .before .before .before .before .before .before .before .before .predicate-of .result) (c .before .before .before .before .before .before .before .before .before .before .before .before .enable-of .result) (c .before .before .before .before .before .before .before .before .before .before .before .quarter-mask .result) (c .before .before .before .before .before .before .before .quarter-mask2 .result) (c .before .before .before .before .before .before .before .before .results .last .1 .1 .1 .1 .0)
-made c =
-    record {
-      of-word = c .before .before .before .before .before .before .before .before .before .before .before .before .before .before .qtr-ctrl .ensures .0;
-      holds = c .before .before .before .before .before .before .before .before .before .before .before .before .before .predicate-of .ensures;
-      enables = c .before .before .before .before .before .before .before .before .before .before .before .before .enable-of .ensures;
-      own-holds = c .before .before .before .before .before .before .before .before .before .before .before .quarter-mask .ensures;
-      own-enables = c .before .before .before .before .before .before .before .quarter-mask2 .ensures;
-      makes = c .before .before .before .before .before .before .before .before .results .ensures;
-    }
-
-qtr-ctrl-requires : tie.Need-qtr-ctrl-requires
-qtr-ctrl-requires c κs = search needs
-
-predicate-of-requires : tie.Need-predicate-of-requires
-predicate-of-requires c κs = search needs
-
-enable-of-requires : tie.Need-enable-of-requires
-enable-of-requires c κs = search needs
-
-quarter-mask-requires : tie.Need-quarter-mask-requires
-quarter-mask-requires c κs = search needs
-
-results-requires : tie.Need-results-requires
-results-requires c κs =
-    let s = c .before .before .before .before .before .before .before in
-    (legal s, s .pre .1 .0, refl)
-
-quarter-mask-requires-2 : tie.Need-quarter-mask-requires-2
-quarter-mask-requires-2 c κs = search needs
-
-write-requires : tie.Need-write-requires
-write-requires c κs =
-    let s = c .before .before .before .before .before .before .before .before .before .before .before in
-    (legal-writable (plainIs (s .args .p)) (toWord (s .args .w)) (legal s), s .pre .1 .0)
-
-flags-after-requires : tie.Need-flags-after-requires
-flags-after-requires c κs = legal (c .before .before .before .before .before .before .before .before .before .before .before .before .before .before .before)
+execute-one-requires : tie.Need-execute-one-requires
+execute-one-requires c κs =
+    let s = c .before .before .before .before in
+    ((s .pre .0 .0, s .pre .0 .1, ap countOf (sym (c .before .before .exec-size .ensures .0) ∙ c .before .if1 .taken)), s .pre .1)
 
 same-length : tie.Need-same-length
 same-length c = search needs
 
 returns : tie.Need-returns
-returns c =
-    let s = start c in
-    let p = plainIs (s .args .p) in
-    let w = toWord (s .args .w) in
-    let registers = s .args .registers .now in (
-      registers-made p w (s .args .awake) registers (s .args .flags) _ _ _ _ _ _ (s .pre .0 .0) (legal s) (made c) _ (c .before .before .before .before .write .ensures),
-      (
-        (flag0-made p w (s .args .awake) registers (s .args .flags) _ _ _ _ _ _ (s .pre .0 .0) (legal s) (made c) _ (c .flags-after .ensures), flag1-made p w (s .args .awake) registers (s .args .flags) _ _ _ _ _ _ (s .pre .0 .0) (legal s) (made c) _ (c .flags-after .ensures)),
-        flags-less p w (s .args .awake) registers (s .args .flags) _ _ _ _ _ _ (s .pre .0 .0) (legal s) (made c) _ (c .flags-after .ensures) (s .pre .1 .0) (s .pre .1 .2) (s .pre .1 .3),
-      ),
-    )
+returns c = search needs
+
+execute-many-requires : tie.Need-execute-many-requires
+execute-many-requires c κs = search needs
+
+same-length-2 : tie.Need-same-length-2
+same-length-2 c = search needs
+
+returns-2 : tie.Need-returns-2
+returns-2 c = search needs
 
 pub execute-spec : {M : Type 1} → statement M
 execute-spec =
     tie.close
     (tie.spec
-    qtr-ctrl-requires
-    predicate-of-requires
-    enable-of-requires
-    quarter-mask-requires
-    results-requires
-    quarter-mask-requires-2
-    write-requires
-    flags-after-requires
+    exec-size-requires
+    execute-one-requires
     same-length
-    returns)
+    returns
+    execute-many-requires
+    same-length-2
+    returns-2)

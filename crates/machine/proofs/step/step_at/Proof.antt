@@ -1,26 +1,55 @@
 -- The channels that wait at the place wake, and the word's operation is performed. Assumes nothing.
 use mathlib.Core.Path.{_∙_}
+use lib.Dec.{lit<}
+use lib.ListN.{length-set}
+use Rattle.machine.specs.Together.{eitherMask-less}
+use Rattle.machine.specs.Posts.{set-small}
+use Rattle.machine.specs.Steps.{step-shown}
 use borrow.Author.Needs.{needs}
 use Rattle.machine.proofs.step.step_at.Statement.{statement}
 use Rattle.machine.proofs.step.step_at.Tie as tie
 
-wake-requires : tie.Need-wake-requires
-wake-requires c κs = search needs
+rouse-requires : tie.Need-rouse-requires
+rouse-requires c κs =
+    let s = c .before .before .before .before in
+    (s .pre .1 .0 .awake, s .pre .1 .1, s .pre .1 .0 .masks (s .args .s .place))
 
 operation-requires : tie.Need-operation-requires
 operation-requires c κs = search needs
 
 perform-requires : tie.Need-perform-requires
-perform-requires c κs = search needs
+perform-requires c κs =
+    let s = c .before .before .before .before .before .before .before .before .before .before in
+    let p = s .pre in
+    let e = c .before .before .before .before .before .rouse .ensures in
+    let h = s .args .here .now in (
+      (c .before .before .operation .ensures, p .0 .0, p .0 .1),
+      (
+        p .1 .0 .flag0,
+        p .1 .0 .flag1,
+        rw (e .0) (eitherMask-less (s .args .s .awake) _),
+        rw (e .1) (set-small h (s .args .s .place) 0 (p .1 .1) (lit< tt) (p .1 .0 .masks)),
+        rw (e .1, length-set h (s .args .s .place) 0) (p .0 .2),
+      ),
+    )
 
 same-length : tie.Need-same-length
 same-length c = search needs
 
+same-length-2 : tie.Need-same-length-2
+same-length-2 c = search needs
+
 returns : tie.Need-returns
 returns c =
-    let e = c .before .before .perform .ensures in
-    (e .0 ∙ rw (c .before .before .before .before .operation .ensures, c .before .before .before .before .before .wake .ensures .0), e .1)
+    let s = c .before .before .before .before .before .before .before .before .before .before .before .before .before .before .before in
+    let a = s .args in
+    let e = c .before .before .before .before .before .before .before .before .before .before .rouse .ensures in
+    let made = c .before .before .before .before .perform .ensures in (
+      λ t shows. rw (← (c .before .before .before .before .before .before .before .operation .ensures), ← (shows .store)) (made .0 _ (step-shown (a .registers .now) (a .here .now) (a .s) t shows (s .pre .1 .1) _ _ (e .0) (e .1))),
+      (made .1 .0, made .1 .1, made .1 .2 ∙ rw (e .1) (length-set (a .here .now) (a .s .place) 0)),
+    )
 
 pub step-at-spec : {M : Type 1} → statement M
 step-at-spec =
-    tie.close (tie.spec wake-requires operation-requires perform-requires same-length returns)
+    tie.close
+    (tie.spec rouse-requires operation-requires perform-requires same-length same-length-2 returns)

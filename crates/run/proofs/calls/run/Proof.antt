@@ -31,7 +31,7 @@ returns-2 c =
 
 admit-requires : tie.Need-admit-requires
 admit-requires c κs =
-    let z = c .before .before .before .are-sized .ensures .1 (not-false _ (c .before .before .if1 .left)) in
+    let z = c .before .before .before .before .are-sized .ensures .1 (not-false _ (c .before .before .before .if1 .left)) in
     (z .right, z .state-is)
 
 enum-known-o : tie.Need-enum-known-o
@@ -40,10 +40,11 @@ enum-known-o c = search needs
 enum-told : tie.Need-enum-told
 enum-told c = search needs
 
-run-lawful-requires : tie.Need-run-lawful-requires
-run-lawful-requires c κs =
-    let z = c .before .before .before .before .before .before .before .before .are-sized .ensures .1 (not-false _ (c .before .before .before .before .before .before .before .if1 .left)) in
-    ((z, lawful _ _ _ _ z _ (c .before .before .before .before .admit .ensures _) (c .before .before .enum-told .given .1)), c .before .before .before .before .before .before .if2 .left)
+made-lawful-requires : tie.Need-made-lawful-requires
+made-lawful-requires c κs =
+    let z = c .before .before .before .before .before .before .before .before .before .before .are-sized .ensures .1 (not-false _ (c .before .before .before .before .before .before .before .before .before .if1 .left)) in
+    let l = lawful _ _ _ _ z _ _ (c .before .before .before .before .before .admit .ensures _) (c .before .before .before .enum-told .given .1) in
+    ((z, l .0), (l .1, c .before .before .before .before .before .before .before .before .if2 .left))
 
 same-length-5 : tie.Need-same-length-5
 same-length-5 c = search needs
@@ -53,8 +54,8 @@ same-length-6 c = search needs
 
 returns-3 : tie.Need-returns-3
 returns-3 c =
-    let z = c .before .before .before .before .before .before .before .are-sized .ensures .1 (not-false _ (c .before .before .before .before .before .before .if1 .left)) in
-    run-barred _ _ _ _ z _ (c .before .before .before .admit .ensures _) _ _ (c .before .o .given .1) _ (c .before .before .before .before .before .if2 .left)
+    let z = c .before .before .before .before .before .before .before .before .are-sized .ensures .1 (not-false _ (c .before .before .before .before .before .before .before .if1 .left)) in
+    run-barred _ _ _ _ z _ _ (c .before .before .before .admit .ensures _) _ _ (c .before .o .given .1) _ (c .before .before .before .before .before .before .if2 .left)
 
 same-length-7 : tie.Need-same-length-7
 same-length-7 c = search needs
@@ -79,7 +80,7 @@ run-spec =
     admit-requires
     enum-known-o
     enum-told
-    run-lawful-requires
+    made-lawful-requires
     same-length-5
     same-length-6
     returns-3

@@ -1,6 +1,7 @@
 -- The cases are the call's, in its order. Assumes nothing.
 use mathlib.Core.Path.{sym, _∙_}
 use borrow.Author.Tests.{not-true, not-false}
+use lib.Dec.{lit≤}
 use Rattle.run.specs.Answers.{step-size, step-barred, lawful}
 use borrow.Author.Needs.{needs}
 use Rattle.run.proofs.calls.step.Statement.{statement}
@@ -20,7 +21,7 @@ returns c = step-size _ _ _ _ (sym (c .before .are-sized .ensures .0) ∙ not-tr
 
 admit-requires : tie.Need-admit-requires
 admit-requires c κs =
-    let z = c .before .before .are-sized .ensures .1 (not-false _ (c .before .if1 .left)) in
+    let z = c .before .before .before .are-sized .ensures .1 (not-false _ (c .before .before .if1 .left)) in
     (z .right, z .state-is)
 
 enum-known-o : tie.Need-enum-known-o
@@ -29,10 +30,11 @@ enum-known-o c = search needs
 enum-told : tie.Need-enum-told
 enum-told c = search needs
 
-step-lawful-requires : tie.Need-step-lawful-requires
-step-lawful-requires c κs =
-    let z = c .before .before .before .before .before .before .before .are-sized .ensures .1 (not-false _ (c .before .before .before .before .before .before .if1 .left)) in
-    (z, lawful _ _ _ _ z _ (c .before .before .before .before .admit .ensures _) (c .before .before .enum-told .given .1))
+made-lawful-requires : tie.Need-made-lawful-requires
+made-lawful-requires c κs =
+    let z = c .before .before .before .before .before .before .before .before .before .are-sized .ensures .1 (not-false _ (c .before .before .before .before .before .before .before .before .if1 .left)) in
+    let l = lawful _ _ _ _ z _ _ (c .before .before .before .before .before .admit .ensures _) (c .before .before .before .enum-told .given .1) in
+    ((z, l .0), (l .1, lit≤ tt))
 
 same-length-3 : tie.Need-same-length-3
 same-length-3 c = search needs
@@ -42,8 +44,8 @@ same-length-4 c = search needs
 
 returns-2 : tie.Need-returns-2
 returns-2 c =
-    let z = c .before .before .before .before .before .before .are-sized .ensures .1 (not-false _ (c .before .before .before .before .before .if1 .left)) in
-    step-barred _ _ _ _ z _ (c .before .before .before .admit .ensures _) _ _ (c .before .o .given .1)
+    let z = c .before .before .before .before .before .before .before .are-sized .ensures .1 (not-false _ (c .before .before .before .before .before .before .if1 .left)) in
+    step-barred _ _ _ _ z _ _ (c .before .before .before .admit .ensures _) _ _ (c .before .o .given .1)
 
 same-length-5 : tie.Need-same-length-5
 same-length-5 c = search needs
@@ -65,7 +67,7 @@ step-spec =
     admit-requires
     enum-known-o
     enum-told
-    step-lawful-requires
+    made-lawful-requires
     same-length-3
     same-length-4
     returns-2
