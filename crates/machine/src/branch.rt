@@ -55,7 +55,7 @@ fn repeat(up: u64, predicate: u64, ways: Ways, here: &mut [u16]) -> Forked
 }
 
 // A branch, by the mask of the channels whose predicate holds, once the channels that wait at its place are awake.
-pub fn act(b: Branch, predicate: u64, ways: Ways, up: u64, here: &mut [u16]) -> Forked
+pub(crate) fn act(b: Branch, predicate: u64, ways: Ways, up: u64, here: &mut [u16]) -> Forked
     requires { ⌜ (up < 65536) × (predicate < 65536) × Within (length (now here)) (waysIs ways) × ((p : ℕ) → getD (now here) p 0 < 65536) ⌝ }
     ensures { λ r. ⌜ ActsBy (branchIs b) predicate (waysIs ways) up (now (here .entry)) r (now (here .exit)) × (length (now (here .exit)) ≡ length (now (here .entry))) ⌝ }
 {

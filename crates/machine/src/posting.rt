@@ -29,7 +29,7 @@ fn post_one(waiting: u64, place: u64, n: u64, here: &mut [u16])
 }
 
 // Each channel that waits is put into the mask of its place. No mask has a channel before.
-pub fn post_all(c: Channels, here: &mut [u16])
+pub(crate) fn post_all(c: Channels, here: &mut [u16])
     requires { ⌜ Sane c × ((p : ℕ) → getD (now here) p 0 ≡ 0)
         × ((k : ℕ) → k < 16 → bit (c .waiting) k ≡ true → getD (c .places) k 0 < length (now here)) ⌝ }
     ensures { λ r. ⌜ Posted (c .awake) (now (here .exit)) (channelsIs c) × (length (now (here .exit)) ≡ length (now (here .entry))) ⌝ }
@@ -79,7 +79,7 @@ fn place_those(mask: u64, place: u64, places: &mut [u64; 16])
 }
 
 // The channels that the masks tell.
-pub fn channels_from(up: u64, here: &[u16]) -> Channels
+pub(crate) fn channels_from(up: u64, here: &[u16]) -> Channels
     requires { ⌜ (length (now here) ≤ 65536) × ((p : ℕ) → getD (now here) p 0 < 65536) ⌝ }
     ensures { λ r. ⌜ ((cs : List Channel) → Posted up (now (here .entry)) cs → (channelsIs r ≡ cs) × Sane r) ⌝ }
 {

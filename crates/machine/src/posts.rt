@@ -18,7 +18,7 @@ pub(crate) fn wide(mask: u16) -> u64
 }
 
 // Those that wait at a place wake. The answer is who is awake then.
-pub fn rouse(up: u64, place: u64, here: &mut [u16]) -> u64
+pub(crate) fn rouse(up: u64, place: u64, here: &mut [u16]) -> u64
     requires { ⌜ (up < 65536) × (place < length (now here)) × (getD (now here) place 0 < 65536) ⌝ }
     ensures { λ r. ⌜ (r ≡ eitherMask up (getD (now (here .entry)) place 0)) × (now (here .exit) ≡ set (now (here .entry)) place 0) ⌝ }
 {
@@ -29,7 +29,7 @@ pub fn rouse(up: u64, place: u64, here: &mut [u16]) -> u64
 }
 
 // The awake channels of a mask wait at a place. The answer is who is awake then.
-pub fn post(up: u64, mask: u64, place: u64, here: &mut [u16]) -> u64
+pub(crate) fn post(up: u64, mask: u64, place: u64, here: &mut [u16]) -> u64
     requires { ⌜ (up < 65536) × (mask < 65536) × (place < length (now here)) × (getD (now here) place 0 < 65536) ⌝ }
     ensures { λ r. ⌜ (r ≡ withoutMask up mask)
         × (now (here .exit) ≡ set (now (here .entry)) place (eitherMask (getD (now (here .entry)) place 0) (bothMask up mask))) ⌝ }
@@ -41,7 +41,7 @@ pub fn post(up: u64, mask: u64, place: u64, here: &mut [u16]) -> u64
 }
 
 // To the next place, but to the jump if no channel is awake and none waits at the next place.
-pub fn onward(up: u64, ways: Ways, here: &[u16]) -> u64
+pub(crate) fn onward(up: u64, ways: Ways, here: &[u16]) -> u64
     requires { ⌜ (up < 65536) × (ways .next < length (now here)) × (getD (now here) (ways .next) 0 < 65536) ⌝ }
     ensures { λ r. ⌜ r ≡ cond (not (eqb (eitherMask up (getD (now (here .entry)) (ways .next) 0)) 0)) (ways .next) (ways .jump) ⌝ }
 {

@@ -123,7 +123,7 @@ fn write_places(bytes: &mut [u8], places: &[u64; 16])
 }
 
 // Stores a state in its bytes.
-pub fn write_state(bytes: &mut [u8], s: State)
+pub(crate) fn write_state(bytes: &mut [u8], s: State)
     requires { ⌜ (length (now bytes) ≡ stateLength) × Sane (s .channels) ⌝ }
     ensures { λ r. ⌜ ((registers : List ℕ) → now (bytes .exit) ≡ stateBytes (stateIs registers s)) ⌝ }
 {
