@@ -246,7 +246,7 @@ fn packing_and_back() {
 }
 
 /// A case's kernel, of the three calls that judge a kernel and nothing after it.
-fn kernel_of(case: &Case) -> Option<&[u8]> {
+fn judged_kernel_of(case: &Case) -> Option<&[u8]> {
     match &case.call {
         Call::Check { kernel } | Call::Pack { kernel, .. } | Call::Unpack { kernel, .. } => {
             Some(kernel)
@@ -261,7 +261,7 @@ fn kernel_of(case: &Case) -> Option<&[u8]> {
 fn the_limits_come_up() {
     let (mut counts, mut lengths, mut jumps) = (BTreeSet::new(), BTreeSet::new(), BTreeSet::new());
     for case in (0..SEEDS).filter(|seed| seed % 9 < 3).map(case) {
-        let Some(kernel) = kernel_of(&case) else { continue };
+        let Some(kernel) = judged_kernel_of(&case) else { continue };
         lengths.insert(kernel.len());
         if case.dictionary.len() != DICTIONARY_BYTES || kernel.len() > KERNEL_BYTES {
             continue;
