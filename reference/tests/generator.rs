@@ -175,7 +175,7 @@ fn votes_come_up() {
 #[test]
 fn groups_that_differ_come_up() {
     let mut seen: BTreeSet<(u32, bool)> = BTreeSet::new();
-    let cases = (7..SEEDS).step_by(9).filter_map(|seed| stepped(&case(seed)));
+    let cases = (7..2 * SEEDS).step_by(9).filter_map(|seed| stepped(&case(seed)));
     for (instruction, state) in cases {
         let word = instruction.word;
         let control = word.predicate_control();
@@ -205,7 +205,7 @@ fn refused_votes_come_up() {
     let mut codes: BTreeSet<u32> = BTreeSet::new();
     let mut sizes: BTreeSet<u32> = BTreeSet::new();
     let mut jumps = 0;
-    for case in (0..SEEDS).map(case) {
+    for case in (0..2 * SEEDS).map(case) {
         let Some(kernel) = kernel_of(&case) else { continue };
         let answer = Answer::of(outcome(&case).answer);
         let Some(bytes) = kernel.get(answer.at..answer.at + 16) else { continue };
