@@ -1,4 +1,5 @@
 // The results of all channels stored, where they are enabled.
+use crate::load::read_element;
 use crate::mask::bit;
 use crate::store::write_element;
 ghost use mathlib.Core.Path.{_≡_};
@@ -19,6 +20,26 @@ pub fn store_channel(registers: &mut [u8], from: usize, size: usize, enable: u64
     }
 }
 
+// One of two numbers.
+fn either(on: bool, v: u64, old: u64) -> u64
+    ensures { λ r. ⌜ r ≡ cond on v old ⌝ }
+{
+    if on {
+        return v;
+    }
+    old
+}
+
+// The same without a branch: a disabled channel's bytes are stored as they are.
+fn blend_channel(registers: &mut [u8], from: usize, size: usize, enable: u64, k: usize, v: u64)
+    requires { ⌜ Size size × (k < 16) × (from + size ≤ length (now registers)) ⌝ }
+    ensures { λ r. ⌜ now (registers .exit) ≡ cond (bit enable k) (putAt (now (registers .entry)) from size v) (now (registers .entry)) ⌝ }
+{
+    let old = read_element(registers, from, size);
+    let on = bit(enable, k as u64);
+    write_element(registers, from, size, either(on, v, old));
+}
+
 // The n channels' values stored `stride` elements apart, each where its bit of the mask is 1.
 fn store_each(
     registers: &mut [u8],
@@ -37,7 +58,7 @@ fn store_each(
     let mut k = 0;
     while k < n {
         let v = values[k];
-        store_channel(registers, origin + k * stride * size, size, enable, k, v);
+        blend_channel(registers, origin + k * stride * size, size, enable, k, v);
         k += 1;
     }
 }

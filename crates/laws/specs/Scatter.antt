@@ -11,7 +11,7 @@ use native.Mathlib.Numerals.{add-one}
 use lib.Dec.{eqb, lit<}
 use lib.Arith.{mod-mul}
 use lib.ListN.{length, getD, set, length-set}
-use lib.Seq.{getD-set-same, getD-set-other, drop-nil}
+use lib.Seq.{set-getD, getD-set-same, getD-set-other, drop-nil}
 use Rattle.paper.specs.Bits.{number, numberAt, putAt}
 use Rattle.paper.specs.Limits.{registerBytes}
 use Rattle.paper.specs.Word.{condModifier, dstType, saturate}
@@ -58,6 +58,17 @@ numberAt-same (suc n) l m a h =
     numberAt-suc l a n ∙ ap₂ (λ (x y : ℕ). x + 256 * y) e₀ e₁ ∙ sym (numberAt-suc m a n)
 
 -- ---- one store
+
+-- To store what stands there changes nothing.
+pub putAt-numberAt : (n : ℕ) (l : List ℕ) (a : ℕ) → ((i : ℕ) → getD l i 0 < 256) → putAt l a n (numberAt l a n) ≡ l
+unfolding putAt
+putAt-numberAt zero l a bytes = refl
+putAt-numberAt (suc n) l a bytes =
+    let v : ℕ = numberAt l a (suc n) in
+    let e : v ≡ getD l a 0 + 256 * numberAt l (a + 1) n = rw (add-one a) (numberAt-suc l a n) in
+    let low : v % 256 ≡ getD l a 0 = omega (arith, e, bytes a) in
+    let rest : v / 256 ≡ numberAt l (a + 1) n = omega (arith, e, bytes a) in
+    rw (low, rest, set-getD l a 0) (putAt-numberAt n l (a + 1) bytes)
 
 -- A store keeps the length.
 pub length-putAt : (n : ℕ) (l : List ℕ) (a v : ℕ) → length (putAt l a n v) ≡ length l

@@ -1,6 +1,7 @@
 // The machine: channels that are awake, wait or are off, branches, the lent state, one step.
 pub mod branch;
 pub mod channels;
+mod dispatch;
 pub mod ends;
 pub mod masks;
 pub mod posting;

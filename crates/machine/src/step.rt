@@ -1,12 +1,13 @@
 // One step, at a known instruction.
 use crate::branch::act;
+use crate::dispatch::operation_here;
 use crate::posts::rouse;
 use crate::ways::Ways;
 use execute::enable::voted;
 use execute::execute::execute;
 use lanes::flags::Flags;
 use words::bytes::Word;
-use words::fields::operation;
+use words::fields::opcode;
 use words::operation::Operation;
 ghost use mathlib.Core.List.{List};
 ghost use mathlib.Core.Path.{_≡_};
@@ -87,5 +88,13 @@ pub fn step_at(w: Word, ways: Ways, s: Stand, registers: &mut [u8], here: &mut [
 {
     let flags = s.flags;
     let up = rouse(s.awake, s.place, here);
-    perform(operation(w), w, ways, flags, up, registers, here)
+    perform(
+        operation_here(opcode(w)),
+        w,
+        ways,
+        flags,
+        up,
+        registers,
+        here,
+    )
 }

@@ -4,9 +4,16 @@ use mathlib.Core.List.{List}
 use Prim.Native.Nat.{ℕ, _+_, _*_, _/_, _%_, _<_}
 use native.Mathlib.Omega.{arith}
 use native.Mathlib.Nat.{div-add-mod', mul-one, mul-zero}
+use lib.ListN.{getD}
+use Rattle.paper.specs.Bits.{numberAt}
 use Rattle.paper.specs.Region.{Region, elementAt}
+use Rattle.words.specs.declared.region.Region as declared
 use Rattle.lanes.specs.Mapped.{Mapped, mapped-weaker}
-use Rattle.operands.specs.Reads.{ElementRead, ElementsRead}
+use Rattle.operands.specs.Reads.{Reads, ElementRead, ElementsRead}
+
+-- The region of five numbers.
+abbrev pub regionFrom : ℕ → ℕ → ℕ → ℕ → ℕ → declared.Region
+regionFrom origin vert code horz size = record { origin = origin; vert = vert; code = code; horz = horz; size = size }
 
 -- Where HorzStride is 1 and VertStride is the width, the elements lie side by side.
 pub beside-at : (r : Region) (k : ℕ) → r .horz ≡ 1 → r .vert ≡ r .wide → r .origin + k * r .size ≡ elementAt r k
@@ -37,6 +44,14 @@ elements-single registers from f kind size n v old new e r m =
     mapped-weaker _ _ n old new
     (λ k a b h q. subst (λ (y : ℕ). ElementRead registers (f k) kind size y) (sym q)
     (subst (λ (x : ℕ). ElementRead registers x kind size v) (e k) r)) m
+
+-- Patterns that are read, and then what each means.
+pub elements-patterns : (registers : List ℕ) (element : ℕ → ℕ) (kind size n : ℕ) (zeros patterns old new : List ℕ)
+    → Mapped (λ k a b. b ≡ numberAt registers (element k) size) n zeros patterns → Mapped (λ k a b. Reads kind (getD patterns k 0) b) n old new
+    → ElementsRead registers element kind size n old new
+unfolding ElementsRead ElementRead
+elements-patterns registers element kind size n zeros patterns old new read means =
+    mapped-weaker _ _ n old new (λ k a b h r. subst (λ (x : ℕ). Reads kind x b) (read .done k h) r) means
 
 -- Elements of an equal size are the same.
 pub elements-sized : (registers : List ℕ) (f : ℕ → ℕ) (kind n : ℕ) (old new : List ℕ) (a b : ℕ) → a ≡ b

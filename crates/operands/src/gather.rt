@@ -12,6 +12,7 @@ ghost use Rattle.paper.specs.Value.{sizeOf};
 ghost use Rattle.paper.specs.Region.{elementAt};
 ghost use Rattle.words.specs.Regions.{regionIs, Small};
 ghost use Rattle.operands.specs.Reads.{ElementsRead};
+ghost use Rattle.operands.specs.Shapes.{regionFrom};
 
 // The elements lie side by side: HorzStride is 1, and VertStride is the width.
 fn is_beside(r: Region) -> bool
@@ -34,18 +35,35 @@ fn is_single(r: Region) -> bool
     false
 }
 
-// The elements of the n first channels, as numbers.
-pub(crate) fn gather(r: Region, kind: u64, n: usize, registers: &[u8], values: &mut [u64; 16])
-    requires { ⌜ Small r × (r .size ≡ sizeOf kind) × (0 < n) × (n ≤ 16) × (length (now values) ≡ 16) × (0 < r .size) ⌝ }
-    requires { ⌜ ((k : ℕ) → k < n → elementAt (regionIs r) k + r .size ≤ length (now registers)) ⌝ }
-    ensures { λ u. ⌜ ElementsRead (now (registers .entry)) (elementAt (regionIs r)) kind (r .size) n (now (values .entry)) (now (values .exit)) ⌝ }
+// The elements of the n first channels, as numbers. The region is handed over number by number, since a struct would go through memory.
+pub(crate) fn gather(
+    origin: usize,
+    vert: usize,
+    code: usize,
+    horz: usize,
+    size: usize,
+    kind: u64,
+    n: usize,
+    registers: &[u8],
+    values: &mut [u64; 16],
+)
+    requires { ⌜ Small (regionFrom origin vert code horz size) × (size ≡ sizeOf kind) × (0 < n) × (n ≤ 16) × (length (now values) ≡ 16) × (0 < size) ⌝ }
+    requires { ⌜ ((k : ℕ) → k < n → elementAt (regionIs (regionFrom origin vert code horz size)) k + size ≤ length (now registers)) ⌝ }
+    ensures { λ u. ⌜ ElementsRead (now (registers .entry)) (elementAt (regionIs (regionFrom origin vert code horz size))) kind size n (now (values .entry)) (now (values .exit)) ⌝ }
 {
+    let r = Region {
+        origin: origin,
+        vert: vert,
+        code: code,
+        horz: horz,
+        size: size,
+    };
     if is_beside(r) {
-        beside(registers, r.origin, kind, r.size, n, values);
+        beside(registers, origin, kind, size, n, values);
         return;
     }
     if is_single(r) {
-        let number = read_as(registers, r.origin, kind, r.size);
+        let number = read_as(registers, origin, kind, size);
         spread(number, n, values);
         return;
     }

@@ -30,7 +30,17 @@ pub fn first_operand(w: Word, n: usize, registers: &[u8], values: &mut [u64; 16]
             spread(number, n, values);
         }
         Operand::Direct(r) => {
-            gather(r, kind, n, registers, values);
+            gather(
+                r.origin,
+                r.vert,
+                r.code,
+                r.horz,
+                r.size,
+                kind,
+                n,
+                registers,
+                values,
+            );
             modify_all(src_modifier(Source::First, w), n, values);
         }
     }
@@ -49,7 +59,17 @@ pub fn second_operand(w: Word, n: usize, registers: &[u8], values: &mut [u64; 16
             spread(number, n, values);
         }
         Operand::Direct(r) => {
-            gather(r, kind, n, registers, values);
+            gather(
+                r.origin,
+                r.vert,
+                r.code,
+                r.horz,
+                r.size,
+                kind,
+                n,
+                registers,
+                values,
+            );
             modify_all(src_modifier(Source::Second, w), n, values);
         }
     }

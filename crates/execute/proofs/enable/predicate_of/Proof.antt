@@ -13,11 +13,29 @@ returns : tie.Need-returns
 unfolding predicateMask predicate ofBits
 returns c = rw (sym (c .before .pred-ctrl .ensures .0) ∙ c .if1 .taken)
 
-voted-requires : tie.Need-voted-requires
-voted-requires c κs = search needs
+chosen-requires : tie.Need-chosen-requires
+chosen-requires c κs = search needs
+
+pred-ctrl-requires-2 : tie.Need-pred-ctrl-requires-2
+pred-ctrl-requires-2 c κs = search needs
+
+pred-inv-requires : tie.Need-pred-inv-requires
+pred-inv-requires c κs = search needs
+
+predicate-mask-requires : tie.Need-predicate-mask-requires
+predicate-mask-requires c κs = search needs
 
 returns-2 : tie.Need-returns-2
-returns-2 c = c .voted .ensures
+returns-2 c = rw (c .predicate-mask .ensures .0, c .before .pred-inv .ensures .0, c .before .before .pred-ctrl2 .ensures .0, c .before .before .before .chosen .ensures)
 
 pub predicate-of-spec : {M : Type 1} → statement M
-predicate-of-spec = tie.close (tie.spec pred-ctrl-requires returns voted-requires returns-2)
+predicate-of-spec =
+    tie.close
+    (tie.spec
+    pred-ctrl-requires
+    returns
+    chosen-requires
+    pred-ctrl-requires-2
+    pred-inv-requires
+    predicate-mask-requires
+    returns-2)

@@ -32,26 +32,26 @@ element-copy-out-v : tie.Need-element-copy-out-v Inv-loop μ-loop
 element-copy-out-v c = search needs
 
 -- The channel's element ends inside the registers.
-inside : (c : tie.After-store-channel-arg Inv-loop μ-loop)
+inside : (c : tie.After-blend-channel-arg Inv-loop μ-loop)
     → c .before .before .before .before .before .args .origin
     + c .before .before .before .loop .k * c .before .before .before .before .before .args .stride * c .before .before .before .before .before .args .size
     + c .before .before .before .before .before .args .size
     ≤ length (c .before .before .before .before .before .args .registers .now)
 inside c = c .before .before .before .before .before .pre .1 (c .before .before .before .loop .k) (omega arith)
 
-mul-store-channel : tie.Need-mul-store-channel Inv-loop μ-loop
-mul-store-channel c =
+mul-blend-channel : tie.Need-mul-blend-channel Inv-loop μ-loop
+mul-blend-channel c =
     let a = c .before .before .before .before .before .args in
     omega (arith, inside c, mul-le-mul-left {m = 1} {n = a .size} (c .before .before .before .loop .k * a .stride) (omega arith))
 
-mul-store-channel-2 : tie.Need-mul-store-channel-2 Inv-loop μ-loop
-mul-store-channel-2 c = omega (arith, inside c)
+mul-blend-channel-2 : tie.Need-mul-blend-channel-2 Inv-loop μ-loop
+mul-blend-channel-2 c = omega (arith, inside c)
 
-add-store-channel : tie.Need-add-store-channel Inv-loop μ-loop
-add-store-channel c = omega (arith, inside c)
+add-blend-channel : tie.Need-add-blend-channel Inv-loop μ-loop
+add-blend-channel c = omega (arith, inside c)
 
-store-channel-requires : tie.Need-store-channel-requires Inv-loop μ-loop
-store-channel-requires c κs = (c .before .before .before .before .before .pre .0 .0, omega arith, omega (arith, inside c))
+blend-channel-requires : tie.Need-blend-channel-requires Inv-loop μ-loop
+blend-channel-requires c κs = (c .before .before .before .before .before .pre .0 .0, omega arith, omega (arith, inside c))
 
 add-k : tie.Need-add-k Inv-loop μ-loop
 add-k c = search needs
@@ -67,7 +67,7 @@ loop-again c =
       (cc),
       rw (add-one k)
           (scattered-step (a .registers .now) _ _ (λ k. a .origin + k * a .stride * a .size) (a .size) (bit (a .enable)) (λ k. getD (a .values .now) k 0) k
-          (c .before .before .before .before .before .before .loop .inv .2) (c .before .before .store-channel .ensures)),
+          (c .before .before .before .before .before .before .loop .inv .2) (c .before .before .blend-channel .ensures)),
     )
 
 same-length : tie.Need-same-length Inv-loop μ-loop
@@ -87,10 +87,10 @@ store-each-spec =
     loop-holds
     mul-v
     element-copy-out-v
-    mul-store-channel
-    mul-store-channel-2
-    add-store-channel
-    store-channel-requires
+    mul-blend-channel
+    mul-blend-channel-2
+    add-blend-channel
+    blend-channel-requires
     add-k
     loop-less
     loop-again

@@ -1,5 +1,6 @@
 -- The channels that wait at the place wake, and the word's operation is performed. Assumes nothing.
-use mathlib.Core.Path.{_∙_}
+use mathlib.Core.Path.{ap, _∙_}
+use Rattle.paper.specs.Operation.{operationOf}
 use lib.Dec.{lit<}
 use lib.ListN.{length-set}
 use Rattle.machine.specs.Together.{eitherMask-less}
@@ -14,16 +15,19 @@ rouse-requires c κs =
     let s = c .before .before .before .before in
     (s .pre .1 .0 .awake, s .pre .1 .1, s .pre .1 .0 .masks (s .args .s .place))
 
-operation-requires : tie.Need-operation-requires
-operation-requires c κs = search needs
+opcode-requires : tie.Need-opcode-requires
+opcode-requires c κs = search needs
+
+operation-here-requires : tie.Need-operation-here-requires
+operation-here-requires c κs = search needs
 
 perform-requires : tie.Need-perform-requires
 perform-requires c κs =
-    let s = c .before .before .before .before .before .before .before .before .before .before in
+    let s = c .before .before .before .before .before .before .before .before .before .before .before in
     let p = s .pre in
-    let e = c .before .before .before .before .before .rouse .ensures in
+    let e = c .before .before .before .before .before .before .rouse .ensures in
     let h = s .args .here .now in (
-      (c .before .before .operation .ensures, p .0 .0, p .0 .1),
+      (c .before .before .operation-here .ensures ∙ ap operationOf (c .before .before .before .opcode .ensures .0), p .0 .0, p .0 .1),
       (
         p .1 .0 .flag0,
         p .1 .0 .flag1,
@@ -41,15 +45,15 @@ same-length-2 c = search needs
 
 returns : tie.Need-returns
 returns c =
-    let s = c .before .before .before .before .before .before .before .before .before .before .before .before .before .before .before in
+    let s = c .before .before .before .before .before .before .before .before .before .before .before .before .before .before .before .before in
     let a = s .args in
-    let e = c .before .before .before .before .before .before .before .before .before .before .rouse .ensures in
+    let e = c .before .before .before .before .before .before .before .before .before .before .before .rouse .ensures in
     let made = c .before .before .before .before .perform .ensures in (
-      λ t shows. rw (← (c .before .before .before .before .before .before .before .operation .ensures), ← (shows .store)) (made .0 _ (step-shown (a .registers .now) (a .here .now) (a .s) t shows (s .pre .1 .1) _ _ (e .0) (e .1))),
+      λ t shows. rw (← (c .before .before .before .before .before .before .before .operation-here .ensures ∙ ap operationOf (c .before .before .before .before .before .before .before .before .opcode .ensures .0)), ← (shows .store)) (made .0 _ (step-shown (a .registers .now) (a .here .now) (a .s) t shows (s .pre .1 .1) _ _ (e .0) (e .1))),
       (made .1 .0, made .1 .1, made .1 .2 ∙ rw (e .1) (length-set (a .here .now) (a .s .place) 0)),
     )
 
 pub step-at-spec : {M : Type 1} → statement M
 step-at-spec =
     tie.close
-    (tie.spec rouse-requires operation-requires perform-requires same-length same-length-2 returns)
+    (tie.spec rouse-requires opcode-requires operation-here-requires perform-requires same-length same-length-2 returns)
