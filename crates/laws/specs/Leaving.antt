@@ -135,8 +135,10 @@ module _ (forms : Forms) (dictionary kernel : List ℕ) where
       D : Dictionary
       D = dictionaryOf dictionary
 
-      former now : Parsed
+      former : Parsed
       former = walk (formerJudge forms D kernel) (length kernel) instructionLimit 0
+
+      now : Parsed
       now = walk (judgeAt forms D kernel) (length kernel) instructionLimit 0
 
       go : (a b : Bool) → (former ≡ now) ⊎ ((at : ℕ) × (former ≡ bad 4 at) × Leaves (wordAt kernel at))

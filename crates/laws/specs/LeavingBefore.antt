@@ -9,7 +9,7 @@ use Rattle.paper.specs.Bits.{bits, bit, numberAt}
 use Rattle.paper.specs.Word.{opcode, immediateForm}
 use Rattle.paper.specs.Dictionary.{Dictionary}
 use Rattle.paper.specs.Expand.{isShort, expand}
-use Rattle.paper.specs.Operation.{mov, sel, not, and, or, xor, shr, shl, asr, cmp, add, mul, avg, jmpi, if, else, endif, while, Operation, plain, nop, branch, unlisted, isListed, isBranch}
+use Rattle.paper.specs.Operation.{Plain, jmpi, if, else, endif, while, Operation, plain, nop, branch, unlisted, isListed, isBranch}
 use Rattle.paper.specs.Legal.{orElse, later}
 use Rattle.paper.specs.Kernel.{Forms, takesShort, Judged, refused}
 use Rattle.paper.specs.Machine.{State, Ways, wake, perform}
@@ -18,19 +18,19 @@ use Rattle.laws.specs.Otherwise.{judgeWordBy, Judgement}
 -- The operation of an opcode, as it stood.
 unfoldable pub formerOperationOf : ℕ → Operation
 formerOperationOf n =
-    cond (eqb n 0x01) (plain mov)
-    (cond (eqb n 0x02) (plain sel)
-    (cond (eqb n 0x04) (plain Rattle.paper.specs.Operation.not)
-    (cond (eqb n 0x05) (plain and)
-    (cond (eqb n 0x06) (plain or)
-    (cond (eqb n 0x07) (plain xor)
-    (cond (eqb n 0x08) (plain shr)
-    (cond (eqb n 0x09) (plain shl)
-    (cond (eqb n 0x0C) (plain asr)
-    (cond (eqb n 0x10) (plain cmp)
-    (cond (eqb n 0x40) (plain add)
-    (cond (eqb n 0x41) (plain mul)
-    (cond (eqb n 0x42) (plain avg)
+    cond (eqb n 0x01) (plain Plain.mov)
+    (cond (eqb n 0x02) (plain Plain.sel)
+    (cond (eqb n 0x04) (plain Plain.not)
+    (cond (eqb n 0x05) (plain Plain.and)
+    (cond (eqb n 0x06) (plain Plain.or)
+    (cond (eqb n 0x07) (plain Plain.xor)
+    (cond (eqb n 0x08) (plain Plain.shr)
+    (cond (eqb n 0x09) (plain Plain.shl)
+    (cond (eqb n 0x0C) (plain Plain.asr)
+    (cond (eqb n 0x10) (plain Plain.cmp)
+    (cond (eqb n 0x40) (plain Plain.add)
+    (cond (eqb n 0x41) (plain Plain.mul)
+    (cond (eqb n 0x42) (plain Plain.avg)
     (cond (eqb n 0x7E) nop
     (cond (eqb n 0x20) (branch jmpi)
     (cond (eqb n 0x22) (branch if)

@@ -16,7 +16,7 @@ use borrow.Author.Tests.{eq-eqb, ltb-true, ltb-false, leb-true, leb-false, lt-lt
 use Rattle.paper.specs.Bits.{bits, put}
 use Rattle.paper.specs.Operation.{Branch, jmpi, if, else, endif, while, break, cont, Operation, plain, nop, branch, unlisted, operationOf, operation, isBranch}
 use Rattle.paper.specs.Kernel.{Instr}
-use Rattle.paper.specs.Jump.{Base, ownStart, ownEnd, Distance, leaving, distancesOf, distances, baseOf, signedOf, reach, reached, targetsOf, placeOf}
+use Rattle.paper.specs.Jump.{Base, ownStart, ownEnd, Distance, jip, uip, distancesOf, distances, baseOf, signedOf, reach, reached, targetsOf, placeOf}
 use Rattle.paper.specs.Jump.{fetch, endFrom, endOf, found, lands, targetsLand}
 use Rattle.paper.specs.Packing.{index, Piece, Form, piece, placesTaken, newSize, startOf, distanceTo, newTargets, aimed, rewritten}
 use Rattle.laws.specs.Names.{Laid, AllLand, Sound, blanked, blank, goalOf, Line, lineOf, program, piecesOf, newEnd, movedTo, moved, relaidBy}
@@ -54,11 +54,15 @@ near-clear = record { low = omega arith; wide = omega arith; top = omega arith; 
 far-clear : Clear (record { lo = 96; width = 32; base = ownEnd })
 far-clear = record { low = omega arith; wide = omega arith; top = omega arith; beside = inr (omega arith) }
 
--- JIP and UIP too, side by side.
-leaving-clear : Clears leaving
-leaving-clear =
-    clear-more (record { low = omega arith; wide = omega arith; top = omega arith; beside = inr (omega arith) }) (inl (omega arith), tt)
-    (clear-more (record { low = omega arith; wide = omega arith; top = omega arith; beside = inr (omega arith) }) tt clear-none)
+-- So are JIP's 111:96 and UIP's 127:112, side by side.
+jip-clear : Clear jip
+jip-clear = record { low = omega arith; wide = omega arith; top = omega arith; beside = inr (omega arith) }
+
+uip-clear : Clear uip
+uip-clear = record { low = omega arith; wide = omega arith; top = omega arith; beside = inr (omega arith) }
+
+leaving-clear : Clears (jip ∷ uip ∷ [])
+leaving-clear = clear-more {f = jip} {fs = uip ∷ []} jip-clear (inl (omega arith), tt) (clear-more uip-clear tt clear-none)
 
 -- So the distances of every branch stand so, and what is no branch has none.
 pub clear : (b : Branch) → Clears (distancesOf b)

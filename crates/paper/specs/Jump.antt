@@ -24,8 +24,11 @@ pub record Distance : Type 0 where
   pub base : Base
 
 -- JIP and UIP, the two distances of break and cont: bits 111:96 and 127:112, from their own start.
-abbrev pub leaving : List Distance
-leaving = record { lo = 96; width = 16; base = ownStart } ∷ record { lo = 112; width = 16; base = ownStart } ∷ []
+abbrev pub jip : Distance
+jip = record { lo = 96; width = 16; base = ownStart }
+
+abbrev pub uip : Distance
+uip = record { lo = 112; width = 16; base = ownStart }
 
 -- The distances of a branch, in the order in which 12 judges them: of if, else, endif and while bits 63:48 from their own start, of jmpi 127:96 from
 -- its end, of break and cont JIP first.
@@ -35,8 +38,8 @@ distancesOf if = record { lo = 48; width = 16; base = ownStart } ∷ []
 distancesOf else = record { lo = 48; width = 16; base = ownStart } ∷ []
 distancesOf endif = record { lo = 48; width = 16; base = ownStart } ∷ []
 distancesOf while = record { lo = 48; width = 16; base = ownStart } ∷ []
-distancesOf break = leaving
-distancesOf cont = leaving
+distancesOf break = jip ∷ uip ∷ []
+distancesOf cont = jip ∷ uip ∷ []
 
 -- What is no branch has none.
 abbrev pub distances : Operation → List Distance
