@@ -29,16 +29,16 @@ place-of-requires : tie.Need-place-of-requires
 place-of-requires c κs = search needs
 
 mul-result : tie.Need-mul-result
-mul-result c = omega (arith, there c, c .before .before .pre .2)
+mul-result c = omega (arith, there c, c .before .before .pre .2 .0)
 
 element-copy-out-result : tie.Need-element-copy-out-result
-element-copy-out-result c = rw (there c) (c .before .before .pre .2)
+element-copy-out-result c = rw (there c) (c .before .before .pre .2 .0)
 
 cast-result : tie.Need-cast-result
-cast-result c = record { fits = rw (there (c .before)) (omega (arith, c .before .before .before .pre .3)) }
+cast-result c = record { fits = rw (there (c .before)) (omega (arith, c .before .before .before .pre .2 .1)) }
 
 returns : tie.Need-returns
-returns c = rw (there (c .before)) (refl, c .before .before .before .pre .3)
+returns c = rw (there (c .before)) (refl, c .before .before .before .pre .2 .1)
 
 pub new-place-spec : {M : Type 1} → statement M
 new-place-spec =
