@@ -226,12 +226,7 @@ fn block(random: &mut Random, palette: &[LongWord], plan: &mut Vec<Planned>) {
 /// Two loops, one in the other, with a few instructions around each branch: the inner one is
 /// left by break, goes on by cont, and is left together with the outer one, so that JIP and UIP
 /// lie side by side or far apart.
-fn nested_loops(
-    random: &mut Random,
-    palette: &[LongWord],
-    plan: &mut Vec<Planned>,
-    arm: usize,
-) {
+fn nested_loops(random: &mut Random, palette: &[LongWord], plan: &mut Vec<Planned>, arm: usize) {
     let outer = plan.len();
     plan.push(Planned::Plain(legal_word_of(random, Operation::Cmp)));
     let inner = plan.len();
