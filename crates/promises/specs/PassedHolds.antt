@@ -66,5 +66,5 @@ passed-before =
       votesPacked = pack-kept refusalBefore stepAtBefore votes-add;
       leaving = λ dictionary kernel others. calls-kept formerJudge formerStep dictionary kernel (leaving-stays dictionary kernel others);
       leavingPacked = λ dictionary kernel out others r out′ p.
-        subst (λ (c : Written). Wrote c r out′) (leaving-packs dictionary kernel out others) p;
+          subst (λ (c : Written). Wrote c r out′) (leaving-packs dictionary kernel out others) p;
     }
