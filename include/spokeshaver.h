@@ -76,7 +76,7 @@ extern "C" {
 #define SPOKESHAVER_REGION_SHAPE 9      /* a stride or width is undefined, the size is under the width, a source has a shape on which the machine hangs (README), or the destination's stride is 0 */
 #define SPOKESHAVER_UNALIGNED 10        /* a subregister is no multiple of the element's size */
 #define SPOKESHAVER_OUT_OF_REACH 11     /* an operand spans more than two registers, or goes past r127 */
-#define SPOKESHAVER_STRAY_JUMP 12       /* a jump lands on no instruction's start and not on the end */
+#define SPOKESHAVER_STRAY_JUMP 12       /* a jump lands on no instruction's start and not on the end; of break and cont JIP or UIP */
 #define SPOKESHAVER_BAD_STATE 15        /* a place in the state is no instruction's start and not the end, or a channel is none of the three */
 #define SPOKESHAVER_NO_SHORT_WORD 13    /* shorten: no short word expands to it */
 #define SPOKESHAVER_OUTPUT_TOO_SHORT 14 /* the output is shorter than the result */

@@ -35,8 +35,7 @@ def main():
         print('long', *dwords(long))
         print('room 8\nshorten')
         if short == '-':
-            # break and cont are not listed by the paper
-            print('answer %x 0 0' % (4 if name in ('break', 'cont') else 13))
+            print('answer d 0 0')
             wrote(['0', '0'])
             continue
         print('answer 0 0 8')

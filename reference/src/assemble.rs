@@ -48,6 +48,12 @@ pub fn jmpi(distance: i32) -> LongWord {
     word(Operation::Jmpi, 1).immediate_source(1, ElementType::D, distance as u32)
 }
 
+/// A break or cont with the distances JIP and UIP in places.
+pub fn leave(operation: Operation, jip: i16, uip: i16) -> LongWord {
+    let word = word(operation, 16).with_field(111, 96, jip as u16 as u32);
+    word.with_field(127, 112, uip as u16 as u32)
+}
+
 /// An if, else, endif or while with a distance in places.
 pub fn branch(operation: Operation, distance: i16) -> LongWord {
     word(operation, 16).with_field(63, 48, distance as u16 as u32)

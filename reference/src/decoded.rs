@@ -21,6 +21,8 @@ pub struct Decoded {
     pub destination: Option<Destination>,
     /// Where a taken branch goes, as an instruction number.
     pub target: u16,
+    /// Where the channels wait that if, else, break or cont puts to wait.
+    pub wait: u16,
 }
 
 /// What the predicate looks at.
@@ -126,7 +128,8 @@ pub fn number_of(program: &Program, place: usize) -> u16 {
 /// Decodes a judged instruction of a program.
 pub fn decode(instruction: &Instruction, program: &Program) -> Decoded {
     let word = instruction.word;
-    let target = instruction.target_place().unwrap_or(0) as usize;
+    let targets = instruction.target_places();
+    let number = |target: Option<&i64>| number_of(program, target.map_or(0, |&at| at as usize));
     let takes_operands = instruction.operation.source_count() > 0;
     let source = |which| match instruction.operation.source_count() > which {
         true => decode_source(word, which),
@@ -146,7 +149,8 @@ pub fn decode(instruction: &Instruction, program: &Program) -> Decoded {
         condition: decode_condition(word.condition_modifier()),
         sources: [source(0), source(1)],
         destination: if takes_operands { decode_destination(word) } else { None },
-        target: number_of(program, target),
+        target: number(targets.first()),
+        wait: number(targets.last()),
     }
 }
 

@@ -46,6 +46,7 @@ fn take_step(instruction: &Decoded, registers: &mut Registers, state: &mut State
         },
         Operation::While => repeat(instruction, state, next),
         Operation::If | Operation::Else | Operation::Endif => part(instruction, state, next),
+        Operation::Break | Operation::Cont => part(instruction, state, next),
         _ => {
             execute(instruction, registers, state);
             next
@@ -102,14 +103,15 @@ fn repeat(instruction: &Decoded, state: &mut State, next: u16) -> u16 {
     instruction.target
 }
 
-/// if, else and endif: who waits at the target, and whether to jump there.
+/// if, else, endif, break and cont: who waits, and whether to jump.
 fn part(instruction: &Decoded, state: &mut State, next: u16) -> u16 {
     let leaving = match instruction.operation {
         Operation::If => state.awake & !predicate_mask(&instruction.predicate, state),
         Operation::Else => state.awake,
-        _ => 0,
+        Operation::Endif => 0,
+        _ => state.awake & predicate_mask(&instruction.predicate, state),
     };
-    put_to_wait(state, leaving, instruction.target);
+    put_to_wait(state, leaving, instruction.wait);
     if state.awake == 0 && waiting_at(state, next) == 0 {
         instruction.target
     } else {

@@ -46,7 +46,8 @@ fn predicate_holds(word: LongWord, flags: &[u16; 2], channel: usize) -> bool {
 /// The work of a branch: who goes to wait, and the place to go to.
 fn branch(instruction: &Instruction, state: &mut State) -> usize {
     let next = instruction.next_place();
-    let target = instruction.target_place().expect("a branch has a target") as usize;
+    let targets = instruction.target_places();
+    let target = targets[0] as usize;
     let holds: Vec<bool> =
         (0..CHANNELS).map(|n| predicate_holds(instruction.word, &state.flags, n)).collect();
     let awake: Vec<usize> = (0..CHANNELS).filter(|&channel| state.is_awake(channel)).collect();
@@ -61,6 +62,12 @@ fn branch(instruction: &Instruction, state: &mut State) -> usize {
         Operation::Else => {
             for channel in awake {
                 state.put_to_wait(channel, target);
+            }
+        }
+        // The first target is JIP, the second UIP.
+        Operation::Break | Operation::Cont => {
+            for channel in awake.into_iter().filter(|&channel| holds[channel]) {
+                state.put_to_wait(channel, targets[1] as usize);
             }
         }
         _ => {}

@@ -22,12 +22,14 @@ pub enum Operation {
     Else,
     Endif,
     While,
+    Break,
+    Cont,
 }
 
 use Operation::*;
 
 /// Every operation with its opcode.
-pub const OPCODES: [(Operation, u32); 19] = [
+pub const OPCODES: [(Operation, u32); 21] = [
     (Mov, 0x01),
     (Sel, 0x02),
     (Not, 0x04),
@@ -47,10 +49,12 @@ pub const OPCODES: [(Operation, u32); 19] = [
     (Else, 0x24),
     (Endif, 0x25),
     (While, 0x27),
+    (Break, 0x28),
+    (Cont, 0x29),
 ];
 
 /// The branches.
-pub const BRANCHES: [Operation; 5] = [Jmpi, If, Else, Endif, While];
+pub const BRANCHES: [Operation; 7] = [Jmpi, If, Else, Endif, While, Break, Cont];
 
 impl Operation {
     /// The operation of an opcode, if the opcode is listed.
@@ -66,6 +70,11 @@ impl Operation {
 
     pub fn is_branch(self) -> bool {
         BRANCHES.contains(&self)
+    }
+
+    /// break and cont, which have two distances.
+    pub fn leaves(self) -> bool {
+        matches!(self, Break | Cont)
     }
 
     pub fn is_logic(self) -> bool {
@@ -84,7 +93,7 @@ impl Operation {
     /// sense: it is judged on its own.
     pub fn source_count(self) -> usize {
         match self {
-            Nop | Jmpi | If | Else | Endif | While => 0,
+            Nop | Jmpi | If | Else | Endif | While | Break | Cont => 0,
             Mov | Not => 1,
             _ => 2,
         }

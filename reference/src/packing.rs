@@ -73,7 +73,7 @@ fn places_of(laid: &[Laid]) -> Vec<usize> {
     places
 }
 
-/// A branch's word with the distance that holds between the new places. Other words stay.
+/// A branch's word with the distances that hold between the new places. Other words stay.
 fn redirect(
     word: LongWord,
     instruction: &Instruction,
@@ -81,19 +81,29 @@ fn redirect(
     index: usize,
     places: &[usize],
 ) -> LongWord {
-    let Some(target) = instruction.target_place() else { return word };
-    let target_index = program.index_of(target as usize).unwrap_or(program.instructions.len());
+    if !instruction.operation.is_branch() {
+        return word;
+    }
     let base = match instruction.operation {
         Operation::Jmpi => places[index + 1],
         _ => places[index],
     };
-    with_distance(word, instruction.operation, places[target_index] as i64 - base as i64)
+    let distance = |target: i64| {
+        let number = program.index_of(target as usize).unwrap_or(program.instructions.len());
+        places[number] as i64 - base as i64
+    };
+    let distances: Vec<i64> = instruction.target_places().into_iter().map(distance).collect();
+    with_distances(word, instruction.operation, &distances)
 }
 
-/// A branch's word with another distance.
-pub fn with_distance(word: LongWord, operation: Operation, distance: i64) -> LongWord {
+/// A branch's word with other distances: of break and cont JIP and UIP, of the others one.
+pub fn with_distances(word: LongWord, operation: Operation, distances: &[i64]) -> LongWord {
+    let first = distances[0] as u32;
     match operation {
-        Operation::Jmpi => word.with_field(127, 96, distance as u32),
-        _ => word.with_field(63, 48, distance as u32),
+        Operation::Jmpi => word.with_field(127, 96, first),
+        Operation::Break | Operation::Cont => {
+            word.with_field(111, 96, first).with_field(127, 112, distances[1] as u32)
+        }
+        _ => word.with_field(63, 48, first),
     }
 }

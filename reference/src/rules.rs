@@ -37,19 +37,22 @@ impl Instruction {
         self.place + self.length()
     }
 
-    /// The place a branch may jump to: jmpi counts from its end, the others from their
-    /// start. None for an operation that is no branch.
-    pub fn target_place(&self) -> Option<i64> {
+    /// The places that a branch's distances lead to, in the order in which they are judged:
+    /// of break and cont JIP and then UIP, of the others one. jmpi counts from its end, the
+    /// others from their start. None for an operation that is no branch.
+    pub fn target_places(&self) -> Vec<i64> {
+        let from_start = |high, low| {
+            let distance = self.word.field(high, low) as u16 as i16;
+            self.place as i64 + distance as i64
+        };
         match self.operation {
             Operation::Jmpi => {
                 let distance = self.word.immediate() as i32;
-                Some(self.next_place() as i64 + distance as i64)
+                vec![self.next_place() as i64 + distance as i64]
             }
-            operation if operation.is_branch() => {
-                let distance = self.word.field(63, 48) as u16 as i16;
-                Some(self.place as i64 + distance as i64)
-            }
-            _ => None,
+            Operation::Break | Operation::Cont => vec![from_start(111, 96), from_start(127, 112)],
+            operation if operation.is_branch() => vec![from_start(63, 48)],
+            _ => Vec::new(),
         }
     }
 }
@@ -107,12 +110,13 @@ pub fn read_kernel(
     Ok(program)
 }
 
-/// Rule 12: every branch lands on an instruction's start or on the end.
+/// Rule 12: every distance of a branch leads to an instruction's start or to the end.
 fn judge_jumps(program: &Program) -> Result<(), Refusal> {
     for instruction in &program.instructions {
-        let Some(target) = instruction.target_place() else { continue };
-        if target < 0 || !program.is_start_or_end(target as usize) {
-            return Err(Refusal { number: 12, at: 8 * instruction.place });
+        for target in instruction.target_places() {
+            if target < 0 || !program.is_start_or_end(target as usize) {
+                return Err(Refusal { number: 12, at: 8 * instruction.place });
+            }
         }
     }
     Ok(())

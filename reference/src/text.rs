@@ -20,7 +20,7 @@ mod operands;
 use crate::assemble::{kernel_of, word, DictionaryBuilder, CHANNEL_COUNTS};
 use crate::dictionary::Dictionary;
 use crate::operations::{ElementType, Operation, OPCODES};
-use crate::packing::with_distance;
+use crate::packing::with_distances;
 use crate::words::LongWord;
 use operands::with_operands;
 use std::collections::BTreeMap;
@@ -122,7 +122,7 @@ fn instruction(line: &str, at: usize, labels: &Labels) -> Result<LongWord, Fault
         result = result.saturated();
     }
     match operation.is_branch() {
-        true => jump(result, operation, at, target(operands, labels)?),
+        true => jump(result, operation, at, &targets(operation, operands, labels)?),
         false => with_operands(result, operation, operands),
     }
 }
@@ -231,26 +231,42 @@ fn with_flags(
     Ok(word)
 }
 
-/// The instruction that a branch's only operand names.
-fn target(operands: &[&str], labels: &Labels) -> Result<usize, Fault> {
-    let [name] = operands else {
-        return Err(format!("a branch takes one label and has {} operands", operands.len()));
+/// The instructions that a branch's operands name: one, or JIP's and UIP's.
+fn targets(operation: Operation, operands: &[&str], labels: &Labels) -> Result<Vec<usize>, Fault> {
+    let (count, takes) = match operation.leaves() {
+        true => (2, "break and cont take two labels, JIP's and UIP's,"),
+        false => (1, "a branch takes one label"),
     };
-    let found = labels.get(name).map(|label| label.instruction);
-    found.ok_or_else(|| format!("there is no label {name}"))
+    if operands.len() != count {
+        return Err(format!("{takes} and has {} operands", operands.len()));
+    }
+    let find = |name: &&str| {
+        let found = labels.get(name).map(|label| label.instruction);
+        found.ok_or_else(|| format!("there is no label {name}"))
+    };
+    operands.iter().map(find).collect()
 }
 
-/// A branch to an instruction, from its own start or, for jmpi, from its end.
-fn jump(word: LongWord, operation: Operation, at: usize, target: usize) -> Result<LongWord, Fault> {
+/// A branch to instructions, from its own start or, for jmpi, from its end.
+fn jump(
+    word: LongWord,
+    operation: Operation,
+    at: usize,
+    targets: &[usize],
+) -> Result<LongWord, Fault> {
     let jmpi = operation == Operation::Jmpi;
     let word = if jmpi { word.immediate_source(1, ElementType::D, 0) } else { word };
-    let distance = 2 * (target as i64 - (at + jmpi as usize) as i64);
     let bits = if jmpi { 32 } else { 16 };
     let reach = 1 << (bits - 1);
-    match (-reach..reach).contains(&distance) {
-        true => Ok(with_distance(word, operation, distance)),
-        false => Err(format!("distance {distance} does not fit {bits} bits")),
-    }
+    let distance = |&target: &usize| {
+        let distance = 2 * (target as i64 - (at + jmpi as usize) as i64);
+        match (-reach..reach).contains(&distance) {
+            true => Ok(distance),
+            false => Err(format!("distance {distance} does not fit {bits} bits")),
+        }
+    };
+    let distances: Vec<i64> = targets.iter().map(distance).collect::<Result<_, Fault>>()?;
+    Ok(with_distances(word, operation, &distances))
 }
 
 /// A number of digits only.
@@ -307,12 +323,16 @@ mod tests {
     /// The farthest jumps that fit, and the next ones. A place is half an instruction.
     #[test]
     fn distances_fit_their_fields() {
-        let fits = |operation, at, target| jump(LongWord(0), operation, at, target).is_ok();
+        let fits = |operation, at, target| jump(LongWord(0), operation, at, &[target]).is_ok();
         let near = 1 << 14;
         assert!(fits(Operation::While, near, 0) && fits(Operation::If, 0, near - 1));
         assert!(!fits(Operation::While, near + 1, 0) && !fits(Operation::If, 0, near));
         let far = 1 << 30;
         assert!(fits(Operation::Jmpi, far - 1, 0) && fits(Operation::Jmpi, 0, far));
         assert!(!fits(Operation::Jmpi, far, 0) && !fits(Operation::Jmpi, 0, far + 1));
+        let leaves = |at, jip, uip| jump(LongWord(0), Operation::Break, at, &[jip, uip]).is_ok();
+        assert!(leaves(near, 0, near) && leaves(0, near - 1, 0) && leaves(0, 0, near - 1));
+        assert!(!leaves(near + 1, 0, near) && !leaves(near + 1, near, 0));
+        assert!(!leaves(0, near, 0) && !leaves(0, 0, near));
     }
 }

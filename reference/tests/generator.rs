@@ -7,7 +7,7 @@ use spokeshaver_reference::dictionary::{Dictionary, DICTIONARY_BYTES};
 use spokeshaver_reference::generate::{
     case, lent, perform, possible, Call, Case, Outcome, Reference,
 };
-use spokeshaver_reference::operations::Operation;
+use spokeshaver_reference::operations::{Operation, BRANCHES};
 use spokeshaver_reference::rules::{
     read_kernel, Accepts, Instruction, KERNEL_BYTES, KERNEL_INSTRUCTIONS,
 };
@@ -164,7 +164,7 @@ fn votes_come_up() {
             let second = seen.contains(&(control, operation, 1, inverse));
             assert_eq!(second, control < 10, "{control} {operation:?}, second quarter");
         }
-        for operation in [Operation::If, Operation::Else, Operation::Endif, Operation::While] {
+        for operation in BRANCHES.into_iter().filter(|&branch| branch != Operation::Jmpi) {
             assert!(seen.contains(&(control, operation, 0, inverse)), "{control} {operation:?}");
         }
     }
@@ -271,7 +271,8 @@ fn the_limits_come_up() {
             Ok(program) => {
                 counts.insert(program.instructions.len());
                 for made in &program.instructions {
-                    jumps.extend(made.target_place().map(|target| target - made.place as i64));
+                    let reached = made.target_places().into_iter();
+                    jumps.extend(reached.map(|target| target - made.place as i64));
                 }
             }
             Err(refusal) if refusal.number == 17 => drop(counts.insert(KERNEL_INSTRUCTIONS + 1)),

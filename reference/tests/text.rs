@@ -290,6 +290,20 @@ fn labels() {
     all_refused(&["while(16) End", "if(16) end:2", "else(16) 2"], &["there is no label"]);
     all_refused(&["if(16)"], &["one label", "0 operands"]);
     all_refused(&["jmpi(1) end end", "endif(16) end r4<1>:d"], &["one label", "2 operands"]);
+    all_refused(&["break(16) end", "(+f0.0) cont(16) end"], &["two labels", "1 operands"]);
+    all_refused(&["break(16) end nowhere", "cont(16) nowhere end"], &["no label nowhere"]);
+}
+
+/// break and cont have JIP's label first, then UIP's, each counted from the branch's own start.
+#[test]
+fn leaving() {
+    let text = "top:\nnop(1)\n(-f0.1.any4h) break(16) again out\ncont(16) again top\n\
+                again:\nwhile(16) top\nout:";
+    let (kernel, _) = assemble(text).expect("lines");
+    let word = |at: usize| u128::from_le_bytes(kernel[at..at + 16].try_into().expect("a word"));
+    assert_eq!((word(16) & 0x7F, word(16) >> 96 & 0xFFFF, word(16) >> 112), (0x28, 4, 6));
+    assert_eq!((word(16) >> 16 & 15, word(16) >> 20 & 1, word(16) >> 89 & 1), (6, 1, 1));
+    assert_eq!((word(32) & 0x7F, word(32) >> 96 & 0xFFFF, word(32) >> 112), (0x29, 2, 0xFFFC));
 }
 
 /// A line that ends in a colon is a label or a fault, never a line passed over.

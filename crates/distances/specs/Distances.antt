@@ -8,19 +8,22 @@ use Rattle.paper.specs.Jump as paper
 use Rattle.paper.specs.Jump.{placeOf}
 use Rattle.distances.specs.Reach.{saidOf, saidFrom, said-from}
 use Rattle.distances.specs.declared.distance.Distance.{Distance}
-use Rattle.distances.specs.declared.distance.Distance.the-variants.{Near, Far}
+use Rattle.distances.specs.declared.distance.Distance.the-variants.{Near, Far, Jip, Uip}
 use Rattle.distances.specs.declared.distance.Target.{Target}
 use Rattle.distances.specs.declared.distance.Target.the-variants.{Place, Below}
 use Rattle.distances.specs.declared.branch.Distances.{Distances}
-use Rattle.distances.specs.declared.branch.Distances.the-variants.{Nothing, One}
+use Rattle.distances.specs.declared.branch.Distances.the-variants.{Nothing, One, Two}
 
 abbrev pub distanceIs : Distance → paper.Distance
 distanceIs Near = record { lo = 48; width = 16; base = paper.ownStart }
 distanceIs Far = record { lo = 96; width = 32; base = paper.ownEnd }
+distanceIs Jip = paper.jip
+distanceIs Uip = paper.uip
 
 abbrev pub distancesIs : Distances → List paper.Distance
 distancesIs Nothing = []
 distancesIs (One d) = distanceIs d ∷ []
+distancesIs (Two d e) = distanceIs d ∷ distanceIs e ∷ []
 
 -- What the code says of where a jump leads.
 abbrev pub told : ℤ → Target

@@ -13,10 +13,11 @@ ghost use Rattle.words.specs.Operations.{branchIs, operationIs};
 ghost use Rattle.words.specs.Words.{toWord};
 ghost use Rattle.distances.specs.Distances.{distancesIs};
 
-// None, as of what is no branch, or one.
+// None, as of what is no branch, one or two, in the order in which they are judged.
 pub enum Distances {
     Nothing,
     One(Distance),
+    Two(Distance, Distance),
 }
 
 // A branch's.
@@ -29,6 +30,8 @@ fn of_branch(b: Branch) -> Distances
         Branch::Else => Distances::One(Distance::Near),
         Branch::Endif => Distances::One(Distance::Near),
         Branch::While => Distances::One(Distance::Near),
+        Branch::Break => Distances::Two(Distance::Jip, Distance::Uip),
+        Branch::Cont => Distances::Two(Distance::Jip, Distance::Uip),
     }
 }
 
@@ -53,5 +56,6 @@ pub fn blank(w: Word) -> Word
     match held {
         Distances::Nothing => w,
         Distances::One(d) => blanked(d, w),
+        Distances::Two(d, e) => blanked(e, blanked(d, w)),
     }
 }

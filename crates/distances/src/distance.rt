@@ -1,6 +1,8 @@
 // One distance in a word: read, followed, written, blanked.
 use words::bytes::Word;
+use words::fields::high_half;
 use words::fields::long_distance;
+use words::fields::low_half;
 use words::fields::short_distance;
 ghost use mathlib.Core.Path.{_≡_};
 ghost use Prim.Native.Nat.{_-_, _*_, _<_, _≤_, _^_};
@@ -10,10 +12,12 @@ ghost use Rattle.laws.specs.Moved.{aim};
 ghost use Rattle.words.specs.Words.{toWord};
 ghost use Rattle.distances.specs.Distances.{distanceIs, told, placeIn};
 
-// Where a distance stands and from where it counts: bits 63:48, from the instruction's own start; or 127:96, from its end.
+// Where a distance stands and from where it counts: bits 63:48, JIP's 111:96 or UIP's 127:112, from the instruction's own start; or 127:96, from its end.
 pub enum Distance {
     Near,
     Far,
+    Jip,
+    Uip,
 }
 
 // Where a jump leads: to a place, or to what lies below place 0.
@@ -29,6 +33,8 @@ fn field(d: Distance, w: Word) -> u64
     match d {
         Distance::Near => short_distance(w),
         Distance::Far => long_distance(w),
+        Distance::Jip => low_half(w),
+        Distance::Uip => high_half(w),
     }
 }
 
@@ -40,6 +46,8 @@ fn base(d: Distance, here: u64, next: u64) -> u64
     match d {
         Distance::Near => here,
         Distance::Far => next,
+        Distance::Jip => here,
+        Distance::Uip => here,
     }
 }
 
@@ -50,6 +58,8 @@ fn half(d: Distance) -> u64
     match d {
         Distance::Near => 0x8000,
         Distance::Far => 0x8000_0000,
+        Distance::Jip => 0x8000,
+        Distance::Uip => 0x8000,
     }
 }
 
@@ -102,6 +112,30 @@ fn with_far(w: Word, distance: u64) -> Word
     }
 }
 
+// The word with `distance` in bits 111:96.
+fn with_jip(w: Word, distance: u64) -> Word
+    requires { ⌜ distance < 2 ^ 16 ⌝ }
+    ensures { λ r. ⌜ toWord r ≡ put (toWord w) 96 16 distance ⌝ }
+{
+    let below = w.hi % 0x1_0000_0000;
+    let above = w.hi / 0x1_0000_0000_0000;
+    Word {
+        lo: w.lo,
+        hi: below + distance * 0x1_0000_0000 + above * 0x1_0000_0000_0000,
+    }
+}
+
+// The word with `distance` in bits 127:112.
+fn with_uip(w: Word, distance: u64) -> Word
+    requires { ⌜ distance < 2 ^ 16 ⌝ }
+    ensures { λ r. ⌜ toWord r ≡ put (toWord w) 112 16 distance ⌝ }
+{
+    Word {
+        lo: w.lo,
+        hi: w.hi % 0x1_0000_0000_0000 + distance * 0x1_0000_0000_0000,
+    }
+}
+
 // The word with other bits for the distance.
 fn with_field(d: Distance, w: Word, distance: u64) -> Word
     requires { ⌜ distance < 2 ^ distanceIs d .width ⌝ }
@@ -110,6 +144,8 @@ fn with_field(d: Distance, w: Word, distance: u64) -> Word
     match d {
         Distance::Near => with_near(w, distance),
         Distance::Far => with_far(w, distance),
+        Distance::Jip => with_jip(w, distance),
+        Distance::Uip => with_uip(w, distance),
     }
 }
 

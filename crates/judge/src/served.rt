@@ -176,6 +176,8 @@ pub fn own_needs(b: Branch, w: Word) -> bool
         Branch::Else => structured(w),
         Branch::Endif => structured(w),
         Branch::While => structured(w),
+        Branch::Break => structured(w),
+        Branch::Cont => structured(w),
     }
 }
 

@@ -30,6 +30,10 @@ pub lands-told : (land : ℕ → Bool) (z : ℤ) → landsIn land (told z) ≡ l
 lands-told land (pos p) = refl
 lands-told land (negsuc p) = refl
 
+-- It is the same of a whole number that the code tells.
+pub lands-at : (land : ℕ → Bool) (z : ℤ) (t : Target) → t ≡ told z → landsIn land t ≡ landsAt land z
+lands-at land z t e = ap (landsIn land) e ∙ lands-told land z
+
 -- Each target lands there.
 abbrev pub landBy : (ℕ → Bool) → List ℤ → Bool
 landBy land [] = true
@@ -75,11 +79,17 @@ module _ (land : ℕ → Bool) (here size w : ℕ) where
   pub none-lands : distances (operation w) ≡ [] → true ≡ landBy land (targetsOf (instrOf here size w))
   none-lands e = sym (ap (λ (fs : List Distance). landBy land (reached fs (instrOf here size w))) e)
 
-  -- One with one distance lands where that leads.
-  pub one-lands : (f : Distance) → distances (operation w) ≡ f ∷ [] → (t : Target) → t ≡ told (reach f w here (here + size))
-      → landsIn land t ≡ landBy land (targetsOf (instrOf here size w))
-  one-lands f e t h =
-      ap (landsIn land) h
-      ∙ lands-told land (reach f w here (here + size))
-      ∙ sym (and-true (landsAt land (reach f w here (here + size))))
+  -- Where one distance leads.
+  abbrev at : Distance → ℤ
+  at f = reach f w here (here + size)
+
+  -- One with one distance lands where that leads,
+  pub one-lands : (f : Distance) → distances (operation w) ≡ f ∷ [] → landsAt land (at f) ≡ landBy land (targetsOf (instrOf here size w))
+  one-lands f e = sym (and-true (landsAt land (at f))) ∙ sym (ap (λ (fs : List Distance). landBy land (reached fs (instrOf here size w))) e)
+
+  -- and one with two where both lead.
+  pub two-land : (f g : Distance) → distances (operation w) ≡ f ∷ g ∷ []
+      → (landsAt land (at f) && landsAt land (at g)) ≡ landBy land (targetsOf (instrOf here size w))
+  two-land f g e =
+      ap (λ (b : Bool). landsAt land (at f) && b) (sym (and-true (landsAt land (at g))))
       ∙ sym (ap (λ (fs : List Distance). landBy land (reached fs (instrOf here size w))) e)

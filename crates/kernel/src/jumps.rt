@@ -2,20 +2,22 @@
 use crate::fetch::word_at;
 use distances::branch::Distances;
 use distances::branch::distances_in;
+use distances::distance::Distance;
 use distances::distance::Target;
 use distances::distance::reach;
 use words::bytes::Word;
 use words::limits::PLACES;
 ghost use mathlib.Core.Path.{_≡_};
-ghost use Prim.Native.Nat.{_≤_, _<_};
+ghost use Prim.Native.Nat.{_+_, _≤_, _<_};
 ghost use lib.ListN.{length};
 ghost use Rattle.paper.specs.Limits.{dictionaryBytes, kernelBytes};
 ghost use Rattle.paper.specs.Dictionary.{dictionaryOf};
-ghost use Rattle.paper.specs.Jump.{targetsOf};
+ghost use Rattle.paper.specs.Jump.{reach, targetsOf};
 ghost use Rattle.words.specs.Words.{toWord};
+ghost use Rattle.distances.specs.Distances.{distanceIs};
 ghost use Rattle.kernel.specs.Marks.{placeCount, marked};
 ghost use Rattle.kernel.specs.Standing.{Standing};
-ghost use Rattle.kernel.specs.Jumps.{landsIn, landBy, instrOf, FirstOut};
+ghost use Rattle.kernel.specs.Jumps.{landsAt, landsIn, landBy, instrOf, FirstOut};
 
 // The byte offset of a branch that goes astray, if there is one.
 pub enum Astray {
@@ -44,6 +46,14 @@ fn target_lands(marks: &[u8; PLACES], t: Target) -> bool
     }
 }
 
+// The distance d in word w, an instruction of `size` places from place `here` on, leads to a mark.
+fn distance_lands(marks: &[u8; PLACES], d: Distance, w: Word, here: u64, size: u64) -> bool
+    requires { ⌜ (here < placeCount) × (size ≤ 2) ⌝ }
+    ensures { λ r. ⌜ r ≡ landsAt (marked (now (marks .entry))) (reach (distanceIs d) (toWord w) here (here + size)) ⌝ }
+{
+    target_lands(marks, reach(d, w, here, here + size))
+}
+
 // Each distance in word w, an instruction of `size` places from place `here` on, leads to a mark.
 pub(crate) fn jump_lands(marks: &[u8; PLACES], w: Word, here: u64, size: u64) -> bool
     requires { ⌜ (here < placeCount) × (size ≤ 2) ⌝ }
@@ -52,7 +62,12 @@ pub(crate) fn jump_lands(marks: &[u8; PLACES], w: Word, here: u64, size: u64) ->
     let held = distances_in(w);
     match held {
         Distances::Nothing => true,
-        Distances::One(d) => target_lands(marks, reach(d, w, here, here + size)),
+        Distances::One(d) => distance_lands(marks, d, w, here, size),
+        Distances::Two(d, e) => {
+            let first = distance_lands(marks, d, w, here, size);
+            let second = distance_lands(marks, e, w, here, size);
+            first & second
+        }
     }
 }
 

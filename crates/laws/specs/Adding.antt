@@ -20,11 +20,11 @@ use Rattle.paper.specs.Legal.{refusalOf}
 use Rattle.paper.specs.Kernel.{Instr, Forms, longAndShort, longOnly, takesShort, Judged, refused, passed, judgeShort, judgeLong, judgeAt, Parsed, bad, good, enter, walk, parse}
 use Rattle.paper.specs.Jump.{fetch, withJumps, firstAstray, astray}
 use Rattle.paper.specs.Machine.{State, Ways, waysOf, stepAt, stepOn, step, stops, runWith, run}
-use Rattle.paper.specs.State.{stateOf}
-use Rattle.paper.specs.Calls.{refusal, sized, judgedKernel, accepted, checkedAs, checkCall, relaid, packCall, unpackCall}
-use Rattle.paper.specs.Calls.{stepCall, runCall}
+use Rattle.paper.specs.State.{stateOf, stateLegal}
+use Rattle.paper.specs.Calls.{refusal, Changed, unchanged, onState, sized, judgedKernel, accepted, checkedAs, checkCall, relaid, packCall, unpackCall}
+use Rattle.paper.specs.Calls.{steppedAs, stepCall, ranAs, runCall}
 use Rattle.laws.specs.Walk.{Each, prepend-good}
-use Rattle.laws.specs.Otherwise.{judgeWordBy, judgeShortBy, judgeLongBy, judgeAtBy, parseBy, judgedKernelBy, acceptedBy, checkCallBy, packCallBy, unpackCallBy, stepOnBy, stepBy, runBy, stepCallBy, runCallBy}
+use Rattle.laws.specs.Otherwise.{Judgement, judgeWordBy, judgeShortBy, judgeLongBy, judgeAtBy, parseBy, judgedKernelBy, acceptedBy, checkCallBy, packCallBy, unpackCallBy, stepOnBy, stepBy, runBy, stepCallBy, runCallBy}
 
 -- ---- what a walk that accepts has gone over
 
@@ -87,11 +87,11 @@ passes-each judge end P brings {n} {from} (passing {size} {w} h j p) = (brings f
 -- ---- one instruction, by two rules
 
 -- No refusal of a word is a pass.
-not-passed {ℓ} : {A : Type ℓ} (n size w : ℕ) → refused n ≡ passed size w → A
+pub not-passed {ℓ} : {A : Type ℓ} (n size w : ℕ) → refused n ≡ passed size w → A
 not-passed n size w e = let z : _≡_ {A = ℕ} 0 1 = cc in absurd (omega arith)
 
 -- A word that passes has the rule's 0, and is the one that went in.
-word-passed : (rule : ℕ → ℕ) (n v size w : ℕ) → judgeWordBy rule n v ≡ passed size w → (rule v ≡ 0) × (passed n v ≡ passed size w) × (v ≡ w)
+pub word-passed : (rule : ℕ → ℕ) (n v size w : ℕ) → judgeWordBy rule n v ≡ passed size w → (rule v ≡ 0) × (passed n v ≡ passed size w) × (v ≡ w)
 word-passed rule n v size w = go (eqb (rule v) 0) refl
   where
     go : (t : Bool) → eqb (rule v) 0 ≡ t → cond t (passed n v) (refused (rule v)) ≡ passed size w → (rule v ≡ 0) × (passed n v ≡ passed size w) × (v ≡ w)
@@ -167,51 +167,109 @@ jumps-parsed (good l) k e = go (firstAstray l l) e
     go none e = e
     go (some from) e = not-good 12 from k e
 
-module _ (rule : ℕ → ℕ) (forms : Forms) (dictionary kernel : List ℕ) (k : List Instr) where
+module _ (judge : Judgement) (forms : Forms) (dictionary kernel : List ℕ) (k : List Instr) where
   abbrev D : Dictionary
   D = dictionaryOf dictionary
 
   -- What it takes to be accepted.
-  accepted-parts : acceptedBy rule forms dictionary kernel ≡ good k
-      → (sized dictionary kernel ≡ true) × (inRange D ≡ true) × (withJumps (parseBy rule forms D kernel) ≡ good k)
+  accepted-parts : acceptedBy judge forms dictionary kernel ≡ good k
+      → (sized dictionary kernel ≡ true) × (inRange D ≡ true) × (withJumps (parseBy judge forms D kernel) ≡ good k)
   unfolding acceptedBy judgedKernelBy
   accepted-parts = go (sized dictionary kernel) refl (inRange D) refl
     where
       go : (a : Bool) → sized dictionary kernel ≡ a → (b : Bool) → inRange D ≡ b
-          → cond a (cond b (withJumps (parseBy rule forms D kernel)) (bad 2 0)) (bad 1 0) ≡ good k
-          → (sized dictionary kernel ≡ true) × (inRange D ≡ true) × (withJumps (parseBy rule forms D kernel) ≡ good k)
+          → cond a (cond b (withJumps (parseBy judge forms D kernel)) (bad 2 0)) (bad 1 0) ≡ good k
+          → (sized dictionary kernel ≡ true) × (inRange D ≡ true) × (withJumps (parseBy judge forms D kernel) ≡ good k)
       go false p b q e = not-good 1 0 k e
       go true p false q e = not-good 2 0 k e
       go true p true q e = (p, q, e)
 
-  -- Its instructions are those of the kernel's own judgement,
-  pub judged-parts : acceptedBy rule forms dictionary kernel ≡ good k → judgedKernelBy rule forms dictionary kernel ≡ good k
-  unfolding acceptedBy
-  judged-parts e = rw (accepted-parts e .0) at e
-
-  -- and a walk over them accepts.
-  parsed-passes : acceptedBy rule forms dictionary kernel ≡ good k → Passes (judgeAtBy rule forms D kernel) (length kernel) instructionLimit 0 k
+  -- A walk over its instructions accepts,
+  parsed-passes : acceptedBy judge forms dictionary kernel ≡ good k → Passes (judge forms D kernel) (length kernel) instructionLimit 0 k
   unfolding parseBy
   parsed-passes e =
-      walk-passes (judgeAtBy rule forms D kernel) (length kernel) instructionLimit 0 k (jumps-parsed (parseBy rule forms D kernel) k (accepted-parts e .2))
+      walk-passes (judge forms D kernel) (length kernel) instructionLimit 0 k (jumps-parsed (parseBy judge forms D kernel) k (accepted-parts e .2))
 
-  -- Each word of what is accepted has the rule's 0;
-  pub accepted-each : acceptedBy rule forms dictionary kernel ≡ good k → Each (λ _ _ w. rule w ≡ 0) k
+  -- and each word has what passing brings.
+  pub accepted-brings : acceptedBy judge forms dictionary kernel ≡ good k → (P : ℕ → Type 0)
+      → ((from size w : ℕ) → judge forms D kernel from ≡ passed size w → P w) → Each (λ _ _ w. P w) k
+  accepted-brings e P brings = passes-each (judge forms D kernel) (length kernel) P brings (parsed-passes e)
+
+module _ (rule : ℕ → ℕ) (forms : Forms) (dictionary kernel : List ℕ) (k : List Instr) where
+  -- By a rule in the place of 6 to 11, each word of what is accepted has the rule's 0;
+  pub accepted-each : acceptedBy (judgeAtBy rule) forms dictionary kernel ≡ good k → Each (λ _ _ w. rule w ≡ 0) k
   accepted-each e =
-      passes-each (judgeAtBy rule forms D kernel) (length kernel) (λ w. rule w ≡ 0) (λ from. at-passed forms D kernel from rule) (parsed-passes e)
+      accepted-brings (judgeAtBy rule) forms dictionary kernel k e (λ w. rule w ≡ 0) (λ from. at-passed forms (dictionaryOf dictionary) kernel from rule)
 
   -- and a rule that lets these words pass too accepts the same instructions.
-  pub accepted-carried : acceptedBy rule forms dictionary kernel ≡ good k → (rule′ : ℕ → ℕ) → Each (λ _ _ w. rule w ≡ 0 → rule′ w ≡ 0) k
-      → acceptedBy rule′ forms dictionary kernel ≡ good k
+  pub accepted-carried : acceptedBy (judgeAtBy rule) forms dictionary kernel ≡ good k → (rule′ : ℕ → ℕ) → Each (λ _ _ w. rule w ≡ 0 → rule′ w ≡ 0) k
+      → acceptedBy (judgeAtBy rule′) forms dictionary kernel ≡ good k
   unfolding acceptedBy judgedKernelBy parseBy
   accepted-carried e rule′ a =
-      let p = accepted-parts e in
-      let parsed : parseBy rule forms D kernel ≡ good k = jumps-parsed (parseBy rule forms D kernel) k (p .2) in
-      let carried : parseBy rule′ forms D kernel ≡ good k =
+      let D : Dictionary = dictionaryOf dictionary in
+      let p = accepted-parts (judgeAtBy rule) forms dictionary kernel k e in
+      let parsed : parseBy (judgeAtBy rule) forms D kernel ≡ good k = jumps-parsed (parseBy (judgeAtBy rule) forms D kernel) k (p .2) in
+      let carried : parseBy (judgeAtBy rule′) forms D kernel ≡ good k =
       passes-walk (judgeAtBy rule′ forms D kernel) (length kernel)
       (passes-carried (judgeAtBy rule forms D kernel) (judgeAtBy rule′ forms D kernel) (length kernel) (λ w. rule w ≡ 0 → rule′ w ≡ 0)
-      (λ from. at-carried forms D kernel from rule rule′) (parsed-passes e) a) in
+      (λ from. at-carried forms D kernel from rule rule′) (parsed-passes (judgeAtBy rule) forms dictionary kernel k e) a) in
       rw (p .0, p .1) (ap withJumps (carried ∙ sym parsed) ∙ p .2)
+
+-- ---- a kernel that is judged alike, and acts alike if it is accepted
+
+-- check, unpack, step and run answer, and leave, what they do by another judgement and another step.
+pub record Stays (judge : Judgement) (act : ℕ → ℕ → Ways → State → State) (dictionary kernel : List ℕ) : Type 0 where
+  pub check : checkCall dictionary kernel ≡ checkCallBy judge dictionary kernel
+  pub unpack : (out : List ℕ) → unpackCall dictionary kernel out ≡ unpackCallBy judge dictionary kernel out
+  pub step : (registers bytes : List ℕ) → stepCall dictionary kernel registers bytes ≡ stepCallBy judge act dictionary kernel registers bytes
+  pub run : (budget : ℕ) (registers bytes : List ℕ)
+      → runCall dictionary kernel budget registers bytes ≡ runCallBy judge act dictionary kernel budget registers bytes
+
+-- What is done with an accepted kernel's instructions is what is done with those that are there.
+on-same : (registers bytes : List ℕ) (f g : List Instr → State → Changed) (q : Parsed) → ((k : List Instr) → q ≡ good k → (s : State) → f k s ≡ g k s)
+    → onState registers bytes f q ≡ onState registers bytes g q
+on-same registers bytes f g (bad number offset) e = refl
+on-same registers bytes f g (good k) e =
+    ap (λ (c : Changed). cond (stateLegal k registers bytes) c (unchanged (refusal 15 0) registers bytes)) (e k refl (stateOf registers bytes))
+
+module _ (judge : Judgement) (act : ℕ → ℕ → Ways → State → State) (dictionary kernel : List ℕ)
+    (same : accepted longAndShort dictionary kernel ≡ acceptedBy judge longAndShort dictionary kernel)
+    (acts : (k : List Instr) → acceptedBy judge longAndShort dictionary kernel ≡ good k → (s : State) → step k s ≡ stepBy judge act k s) where
+  -- The kernel's own judgement, without the sizes, is the same where these are right.
+  judged-same : sized dictionary kernel ≡ true → judgedKernel longAndShort dictionary kernel ≡ judgedKernelBy judge longAndShort dictionary kernel
+  unfolding accepted acceptedBy
+  judged-same e = rw e at same
+
+  -- So is what is done with it.
+  done-same : (registers bytes : List ℕ) (f g : List Instr → State → Changed)
+      → ((k : List Instr) → ((s : State) → step k s ≡ stepBy judge act k s) → (s : State) → f k s ≡ g k s) → sized dictionary kernel ≡ true
+      → onState registers bytes f (judgedKernel longAndShort dictionary kernel) ≡ onState registers bytes g (judgedKernelBy judge longAndShort dictionary kernel)
+  unfolding acceptedBy
+  done-same registers bytes f g alike e =
+      ap (onState registers bytes f) (judged-same e)
+      ∙ on-same registers bytes f g (judgedKernelBy judge longAndShort dictionary kernel) (λ k q. alike k (acts k (rw e q)))
+
+  pub stays-same : Stays judge act dictionary kernel
+  unfolding checkCall checkCallBy unpackCall unpackCallBy stepCall stepCallBy runCall runCallBy
+  stays-same =
+      record {
+        check = ap checkedAs same;
+        unpack = λ out. ap (relaid (λ _. none) out) same;
+        step = λ registers bytes. stepped registers bytes (sized dictionary kernel) refl;
+        run = λ budget registers bytes. ran budget registers bytes (sized dictionary kernel) refl;
+      }
+    where
+      stepped : (registers bytes : List ℕ) (t : Bool) → sized dictionary kernel ≡ t → stepCall dictionary kernel registers bytes ≡ stepCallBy judge act dictionary kernel registers bytes
+      stepped registers bytes false e = rw e
+      stepped registers bytes true e =
+          rw (done-same registers bytes (λ k s. steppedAs (stops k s) registers bytes (step k s)) (λ k s. steppedAs (stops k s) registers bytes (stepBy judge act k s))
+          (λ k q s. ap (steppedAs (stops k s) registers bytes) (q s)) e)
+
+      ran : (budget : ℕ) (registers bytes : List ℕ) (t : Bool) → sized dictionary kernel ≡ t → runCall dictionary kernel budget registers bytes ≡ runCallBy judge act dictionary kernel budget registers bytes
+      ran budget registers bytes false e = rw e
+      ran budget registers bytes true e =
+          rw (done-same registers bytes (λ k s. ranAs (run k budget s)) (λ k s. ranAs (runBy judge act k budget s))
+          (λ k q s. ap (λ (f : State → State). ranAs (runWith (stops k) f budget s)) (λ i t. q t i)) e)
 
 -- ---- rules that only add
 
@@ -221,7 +279,7 @@ pub record Adds (rule : ℕ → ℕ) (act : ℕ → ℕ → Ways → State → S
   pub acts : (w : ℕ) → rule w ≡ 0 → (here : ℕ) (ways : Ways) (s : State) → act w here ways s ≡ stepAt w here ways s
 
 -- What holds of each word of a kernel holds of the one at a place.
-each-fetched : (P : ℕ → Type 0) (k : List Instr) (p : ℕ) → Each (λ _ _ w. P w) k → (i : Instr) → fetch k p ≡ some i → P (i .word)
+pub each-fetched : (P : ℕ → Type 0) (k : List Instr) (p : ℕ) → Each (λ _ _ w. P w) k → (i : Instr) → fetch k p ≡ some i → P (i .word)
 unfolding Each fetch
 each-fetched P [] p a i e = absurd (Option·some-ne-none i (sym e))
 each-fetched P (j ∷ k) p a i e = go (eqb (j .place) p) (each-fetched P k p (a .1) i) e
@@ -239,57 +297,35 @@ each-map P Q f (i ∷ k) a = (f (i .word) (a .0), each-map P Q f k (a .1))
 module _ (rule : ℕ → ℕ) (act : ℕ → ℕ → Ways → State → State) (adds : Adds rule act) where
   -- A kernel that these rules accept makes the same steps by the paper's, and the same runs.
   module _ (k : List Instr) (each : Each (λ _ _ w. rule w ≡ 0) k) where
-    pub steps-same : (s : State) → stepBy rule act k s ≡ step k s
+    pub steps-same : (s : State) → stepBy (judgeAtBy rule) act k s ≡ step k s
     unfolding stepOnBy stepOn
     steps-same s = go (fetch k (s .place)) refl
       where
-        go : (o : Option Instr) → fetch k (s .place) ≡ o → stepOnBy rule act o s ≡ stepOn o s
+        go : (o : Option Instr) → fetch k (s .place) ≡ o → stepOnBy (judgeAtBy rule) act o s ≡ stepOn o s
         go none e = refl
         go (some i) e = adds .acts (i .word) (each-fetched (λ w. rule w ≡ 0) k (s .place) each i e) (i .place) (waysOf i) s
 
-    pub runs-same : (n : ℕ) (s : State) → runBy rule act k n s ≡ run k n s
+    pub runs-same : (n : ℕ) (s : State) → runBy (judgeAtBy rule) act k n s ≡ run k n s
     runs-same n s = ap (λ (f : State → State). runWith (stops k) f n s) (λ i s. steps-same s i)
 
   -- What these rules accept is accepted, as the same instructions.
-  pub accepted-stays : (forms : Forms) (dictionary kernel : List ℕ) (k : List Instr) → acceptedBy rule forms dictionary kernel ≡ good k
+  pub accepted-stays : (forms : Forms) (dictionary kernel : List ℕ) (k : List Instr) → acceptedBy (judgeAtBy rule) forms dictionary kernel ≡ good k
       → accepted forms dictionary kernel ≡ good k
   unfolding judgeShortBy judgeLongBy judgeAtBy parseBy judgedKernelBy acceptedBy judgeShort judgeLong judgeAt parse judgedKernel accepted
   accepted-stays forms dictionary kernel k e =
       accepted-carried rule forms dictionary kernel k e refusalOf
       (each-map (λ w. rule w ≡ 0) (λ w. rule w ≡ 0 → refusalOf w ≡ 0) (λ w h _. adds .accepts w h) k (accepted-each rule forms dictionary kernel k e))
 
-  -- So it is with the kernel's own judgement, without the sizes.
-  judged-stays : (forms : Forms) (dictionary kernel : List ℕ) (k : List Instr) → acceptedBy rule forms dictionary kernel ≡ good k
-      → judgedKernel forms dictionary kernel ≡ good k
-  unfolding accepted
-  judged-stays forms dictionary kernel k e =
-      rw (accepted-parts rule forms dictionary kernel k e .0) at (accepted-stays forms dictionary kernel k e)
-
   -- check, unpack, step and run of a kernel that these rules accept answer, and leave, what they do by them.
-  pub record Stays (dictionary kernel : List ℕ) : Type 0 where
-    pub check : checkCall dictionary kernel ≡ checkCallBy rule dictionary kernel
-    pub unpack : (out : List ℕ) → unpackCall dictionary kernel out ≡ unpackCallBy rule dictionary kernel out
-    pub step : (registers bytes : List ℕ) → stepCall dictionary kernel registers bytes ≡ stepCallBy rule act dictionary kernel registers bytes
-    pub run : (budget : ℕ) (registers bytes : List ℕ)
-        → runCall dictionary kernel budget registers bytes ≡ runCallBy rule act dictionary kernel budget registers bytes
-
-  pub stays : (dictionary kernel : List ℕ) (k : List Instr) → acceptedBy rule longAndShort dictionary kernel ≡ good k → Stays dictionary kernel
-  unfolding checkCall checkCallBy unpackCall unpackCallBy stepCall stepCallBy runCall runCallBy
+  pub stays : (dictionary kernel : List ℕ) (k : List Instr) → acceptedBy (judgeAtBy rule) longAndShort dictionary kernel ≡ good k
+      → Stays (judgeAtBy rule) act dictionary kernel
   stays dictionary kernel k e =
-      let now = accepted-stays longAndShort dictionary kernel k e in
-      let each = accepted-each rule longAndShort dictionary kernel k e in
-      let before = judged-parts rule longAndShort dictionary kernel k e in
-      let after = judged-stays longAndShort dictionary kernel k e in
-      record {
-        check = ap checkedAs (now ∙ sym e);
-        unpack = λ out. ap (relaid (λ _. none) out) (now ∙ sym e);
-        step = λ registers bytes. rw (before, after, steps-same k each (stateOf registers bytes));
-        run = λ budget registers bytes. rw (before, after, runs-same k each budget (stateOf registers bytes));
-      }
+      stays-same (judgeAtBy rule) act dictionary kernel (accepted-stays longAndShort dictionary kernel k e ∙ sym e)
+      (λ l f s. sym (steps-same l (accepted-each rule longAndShort dictionary kernel l f) s))
 
   -- So does pack of a kernel of long words.
-  pub pack-stays : (dictionary kernel : List ℕ) (k : List Instr) → acceptedBy rule longOnly dictionary kernel ≡ good k
-      → (out : List ℕ) → packCall dictionary kernel out ≡ packCallBy rule dictionary kernel out
+  pub pack-stays : (dictionary kernel : List ℕ) (k : List Instr) → acceptedBy (judgeAtBy rule) longOnly dictionary kernel ≡ good k
+      → (out : List ℕ) → packCall dictionary kernel out ≡ packCallBy (judgeAtBy rule) dictionary kernel out
   unfolding packCall packCallBy
   pack-stays dictionary kernel k e out =
       ap (relaid (shorten (dictionaryOf dictionary)) out) (accepted-stays longOnly dictionary kernel k e ∙ sym e)

@@ -5,7 +5,7 @@ use Prim.Native.Nat.{ℕ, _+_, _≤_}
 use native.Mathlib.Omega.{arith}
 use lib.Dec.{eqb, leb}
 use Rattle.paper.specs.Bits.{bits}
-use Rattle.paper.specs.Operation.{Branch, jmpi, if, else, endif, while, Operation, branch, operationOf, operation, isBranch}
+use Rattle.paper.specs.Operation.{Branch, jmpi, if, else, endif, while, break, cont, Operation, branch, operationOf, operation, isBranch}
 use Rattle.paper.specs.Legal.{reservedSet, controlServed, branchServed, ownNeeds, later, refusalOf}
 
 -- Two words have the same fields below bit 48.
@@ -35,6 +35,8 @@ module _ (v w : ℕ) (same : SameBelow48 v w) where
   needs-kept else = rw (same 21 3 (omega arith), same 12 2 (omega arith), same 9 1 (omega arith))
   needs-kept endif = rw (same 21 3 (omega arith), same 12 2 (omega arith), same 9 1 (omega arith))
   needs-kept while = rw (same 21 3 (omega arith), same 12 2 (omega arith), same 9 1 (omega arith))
+  needs-kept break = rw (same 21 3 (omega arith), same 12 2 (omega arith), same 9 1 (omega arith))
+  needs-kept cont = rw (same 21 3 (omega arith), same 12 2 (omega arith), same 9 1 (omega arith))
 
   served-kept : (b : Branch) → branchServed b v ≡ branchServed b w
   unfolding branchServed

@@ -10,7 +10,7 @@ use lib.Dec.{eqb}
 use lib.ListN.{length, getD, length-map}
 use borrow.Author.Tests.{eq-eqb, eqb-true}
 use Rattle.paper.specs.Word.{flagChoice}
-use Rattle.paper.specs.Operation.{Plain, Branch, jmpi, if, else, endif, while, Operation, plain, nop, branch, unlisted, operation, traits}
+use Rattle.paper.specs.Operation.{Plain, Branch, jmpi, if, else, endif, while, break, cont, Operation, plain, nop, branch, unlisted, operation, traits}
 use Rattle.paper.specs.Store.{Store}
 use Rattle.paper.specs.Enable.{chosenFlag, holds, ofBits, flagAfter}
 use Rattle.paper.specs.Effect.{registersAfter, comparedFlag, plainEffect, effect}
@@ -127,6 +127,8 @@ act-holds endif w n c ways st cs h l = record { store = h; count = l }
 act-holds while w n c ways st cs h l =
     cond-at (Holds n c) (someone (λ m d. isAwake d && holds w st m) 0 cs) _ _ (record { store = h; count = each-length _ 0 cs ∙ l }) (record { store = h; count = l })
 act-holds jmpi w n c ways st cs h l = record { store = h; count = l }
+act-holds break w n c ways st cs h l = record { store = h; count = each-length _ 0 cs ∙ l }
+act-holds cont w n c ways st cs h l = record { store = h; count = each-length _ 0 cs ∙ l }
 
 perform-holds : (o : Operation) (w n c : ℕ) (ways : Ways) (st : Store) (cs : List Channel) → Fit n st → length cs ≡ c → Holds n c (perform o w ways st cs)
 unfolding perform

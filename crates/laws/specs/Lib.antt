@@ -39,3 +39,5 @@ pub mod Otherwise
 pub mod Adding
 pub mod VotesBefore
 pub mod Votes
+pub mod LeavingBefore
+pub mod Leaving

@@ -14,9 +14,9 @@ use lib.Dec.{eqb, ltb, leb}
 use lib.IntN.{ℤ, pos, _+ℤ_}
 use borrow.Author.Tests.{eq-eqb, ltb-true, ltb-false, leb-true, leb-false, lt-ltb, le-ltb}
 use Rattle.paper.specs.Bits.{bits, put}
-use Rattle.paper.specs.Operation.{Branch, jmpi, if, else, endif, while, Operation, plain, nop, branch, unlisted, operationOf, operation, isBranch}
+use Rattle.paper.specs.Operation.{Branch, jmpi, if, else, endif, while, break, cont, Operation, plain, nop, branch, unlisted, operationOf, operation, isBranch}
 use Rattle.paper.specs.Kernel.{Instr}
-use Rattle.paper.specs.Jump.{Base, ownStart, ownEnd, Distance, distancesOf, distances, baseOf, signedOf, reach, reached, targetsOf, placeOf}
+use Rattle.paper.specs.Jump.{Base, ownStart, ownEnd, Distance, jip, uip, distancesOf, distances, baseOf, signedOf, reach, reached, targetsOf, placeOf}
 use Rattle.paper.specs.Jump.{fetch, endFrom, endOf, found, lands, targetsLand}
 use Rattle.paper.specs.Packing.{index, Piece, Form, piece, placesTaken, newSize, startOf, distanceTo, newTargets, aimed, rewritten}
 use Rattle.laws.specs.Names.{Laid, AllLand, Sound, blanked, blank, goalOf, Line, lineOf, program, piecesOf, newEnd, movedTo, moved, relaidBy}
@@ -54,6 +54,16 @@ near-clear = record { low = omega arith; wide = omega arith; top = omega arith; 
 far-clear : Clear (record { lo = 96; width = 32; base = ownEnd })
 far-clear = record { low = omega arith; wide = omega arith; top = omega arith; beside = inr (omega arith) }
 
+-- So are JIP's 111:96 and UIP's 127:112, side by side.
+jip-clear : Clear jip
+jip-clear = record { low = omega arith; wide = omega arith; top = omega arith; beside = inr (omega arith) }
+
+uip-clear : Clear uip
+uip-clear = record { low = omega arith; wide = omega arith; top = omega arith; beside = inr (omega arith) }
+
+leaving-clear : Clears (jip ∷ uip ∷ [])
+leaving-clear = clear-more {f = jip} {fs = uip ∷ []} jip-clear (inl (omega arith), tt) (clear-more uip-clear tt clear-none)
+
 -- So the distances of every branch stand so, and what is no branch has none.
 pub clear : (b : Branch) → Clears (distancesOf b)
 clear jmpi = clear-more far-clear tt clear-none
@@ -61,6 +71,8 @@ clear if = clear-more near-clear tt clear-none
 clear else = clear-more near-clear tt clear-none
 clear endif = clear-more near-clear tt clear-none
 clear while = clear-more near-clear tt clear-none
+clear break = leaving-clear
+clear cont = leaving-clear
 
 pub clears : (o : Operation) → Clears (distances o)
 clears (plain p) = clear-none

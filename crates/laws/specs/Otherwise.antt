@@ -1,5 +1,5 @@
--- The bench with other rules for one word: another refusal in the place of 6 to 11, and another step in the place of an instruction's. Each definition is the
--- paper's of the same name with those two put in (`ours`). Assumes nothing.
+-- The bench with other rules for one instruction: another judgement in the place of 3 to 11, or only another refusal in the place of 6 to 11, and another step.
+-- Each definition is the paper's of the same name with those put in (`ours`). Assumes nothing.
 use mathlib.Core.Bool.{not, cond, _||_}
 use mathlib.Core.List.{List}
 use mathlib.Core.Option.{Option, none, some}
@@ -21,7 +21,7 @@ use Rattle.paper.specs.Calls.{Answer, refusal, Written, Changed, sized, judgedK
 use Rattle.paper.specs.Calls.{allSized, unchanged, onState, steppedAs, stepCall, ranAs, runCall}
 use Rattle.laws.specs.Walk.{Each}
 
--- ---- the bench, by its rules for one word
+-- ---- an instruction's judgement, by a rule in the place of 6 to 11
 
 module _ (rule : ℕ → ℕ) where
   abbrev pub judgeWordBy : ℕ → ℕ → Judged
@@ -44,8 +44,15 @@ module _ (rule : ℕ → ℕ) where
       (cond (isShort s) (judgeShortBy forms D s)
       (cond (ltb left 16) (refused 3) (judgeLongBy (numberAt kernel from 16))))
 
+-- ---- the bench, by its judgement of an instruction and by its step
+
+-- A judgement of the instruction that starts at a byte of a kernel.
+abbrev pub Judgement : Type 0
+Judgement = Forms → Dictionary → List ℕ → ℕ → Judged
+
+module _ (judge : Judgement) where
   unfoldable pub parseBy : Forms → Dictionary → List ℕ → Parsed
-  parseBy forms D kernel = walk (judgeAtBy forms D kernel) (length kernel) instructionLimit 0
+  parseBy forms D kernel = walk (judge forms D kernel) (length kernel) instructionLimit 0
 
   unfoldable pub judgedKernelBy : Forms → List ℕ → List ℕ → Parsed
   judgedKernelBy forms dictionary kernel =
@@ -89,15 +96,16 @@ module _ (rule : ℕ → ℕ) where
         (cond (ltb budgetLimit budget) (unchanged (refusal 16 0) registers bytes)
         (onState registers bytes (λ k s. ranAs (runBy k budget s)) judged))
 
--- ---- with the paper's two rules it is the paper's bench
+-- ---- with the paper's rules it is the paper's bench
 
 pub record Ours : Type 1 where
-  pub check : checkCallBy refusalOf ≡ checkCall
-  pub pack : packCallBy refusalOf ≡ packCall
-  pub unpack : unpackCallBy refusalOf ≡ unpackCall
-  pub step : stepCallBy refusalOf stepAt ≡ stepCall
-  pub run : runCallBy refusalOf stepAt ≡ runCall
+  pub judge : judgeAtBy refusalOf ≡ judgeAt
+  pub check : checkCallBy judgeAt ≡ checkCall
+  pub pack : packCallBy judgeAt ≡ packCall
+  pub unpack : unpackCallBy judgeAt ≡ unpackCall
+  pub step : stepCallBy judgeAt stepAt ≡ stepCall
+  pub run : runCallBy judgeAt stepAt ≡ runCall
 
 pub ours : Ours
 unfolding judgeShortBy judgeLongBy judgeAtBy parseBy judgedKernelBy acceptedBy checkCallBy packCallBy unpackCallBy stepOnBy stepCallBy runCallBy judgeShort judgeLong judgeAt parse judgedKernel accepted checkCall packCall unpackCall stepOn stepCall runCall
-ours = record { check = refl; pack = refl; unpack = refl; step = refl; run = refl }
+ours = record { judge = refl; check = refl; pack = refl; unpack = refl; step = refl; run = refl }

@@ -5,12 +5,12 @@ use mathlib.Core.Bool.{Bool, true, false, not, _&&_, _||_, cond}
 use mathlib.Core.List.{List, [], _∷_, map}
 use Prim.Native.Nat.{ℕ, suc}
 use lib.Dec.{eqb}
-use Rattle.paper.specs.Operation.{Branch, jmpi, if, else, endif, while, Operation, plain, nop, branch, unlisted, operation}
+use Rattle.paper.specs.Operation.{Branch, jmpi, if, else, endif, while, break, cont, Operation, plain, nop, branch, unlisted, operation}
 use Rattle.paper.specs.Store.{Store}
 use Rattle.paper.specs.Enable.{holds}
 use Rattle.paper.specs.Effect.{effect}
 use Rattle.paper.specs.Machine.{Channel, off, awake, waiting, State, Ways, wake, park, isAwake, waitsAt, each, someone}
-use Rattle.paper.specs.Machine.{onward, fork, act, pass, perform, stepAt, lastOf, leads}
+use Rattle.paper.specs.Machine.{onward, fork, leave, act, pass, perform, stepAt, lastOf, leads}
 use Rattle.laws.specs.Names.{renameC, rename}
 
 -- A function of a choice is the choice of the function's values.
@@ -182,6 +182,10 @@ module _ (P : ℕ → Type 0) where
   fork-at ways a st cs v =
       record { current = cond-at P (someone (λ _ c. isAwake c || waitsAt (ways .next) c) 0 cs) _ _ (a .next) (a .jump); waits = v }
 
+  -- So does leaving.
+  leave-at : (w : ℕ) (ways : Ways) → AtWays P ways → (st : Store) (cs : List Channel) → AtChannels P cs → AtState P (leave w ways st cs)
+  leave-at w ways a st cs v = fork-at ways a st _ (each-at (holds w st) (ways .wait) (a .wait) 0 cs v)
+
   -- So does every branch.
   act-at : (b : Branch) (w : ℕ) (ways : Ways) → AtWays P ways → (st : Store) (cs : List Channel) → AtChannels P cs
       → AtState P (act b w ways st cs)
@@ -193,6 +197,8 @@ module _ (P : ℕ → Type 0) where
       cond-at (AtState P) (someone (λ n c. isAwake c && holds w st n) 0 cs) _ _
       (record { current = a .jump; waits = each-at (λ m. not (holds w st m)) (ways .next) (a .next) 0 cs v })
       (record { current = a .next; waits = v })
+  act-at break w ways a st cs v = leave-at w ways a st cs v
+  act-at cont w ways a st cs v = leave-at w ways a st cs v
   act-at jmpi w ways a st cs v = record { current = cond-at P (holds w st 0) _ _ (a .jump) (a .next); waits = v }
 
   -- So does every instruction.
@@ -209,7 +215,13 @@ module _ (P : ℕ → Type 0) where
   stepAt-at w here ways a s v = perform-at (operation w) w ways a (s .store) _ (wakes-at here (s .channels) (v .waits))
 
 module _ (φ : ℕ → ℕ) (P : ℕ → Type 0) (apart : (p q : ℕ) → P p → P q → eqb (φ p) (φ q) ≡ eqb p q) where
-  -- A branch commutes with renaming.
+  -- Leaving commutes with renaming.
+  leave-rename : (w : ℕ) (ways : Ways) → AtWays P ways → (st : Store) (cs : List Channel) → AtChannels P cs
+      → rename φ (leave w ways st cs) ≡ leave w (renameWays φ ways) st (map (renameC φ) cs)
+  leave-rename w ways a st cs v =
+      fork-rename φ P apart ways a st _ _ (each-at P (holds w st) (ways .wait) (a .wait) 0 cs v) (each-park φ (holds w st) (ways .wait) 0 cs)
+
+  -- So does every branch.
   act-rename : (b : Branch) (w : ℕ) (ways : Ways) → AtWays P ways → (st : Store) (cs : List Channel) → AtChannels P cs
       → rename φ (act b w ways st cs) ≡ act b w (renameWays φ ways) st (map (renameC φ) cs)
   unfolding act
@@ -223,6 +235,8 @@ module _ (φ : ℕ → ℕ) (P : ℕ → Type 0) (apart : (p q : ℕ) → P p �
       cond-two (rename φ) _ _ _ _ (some-awake φ (holds w st) 0 cs)
       (λ i. record { store = st; channels = each-park φ (λ m. not (holds w st m)) (ways .next) 0 cs i; place = φ (ways .jump) })
       refl
+  act-rename break w ways a st cs v = leave-rename w ways a st cs v
+  act-rename cont w ways a st cs v = leave-rename w ways a st cs v
   act-rename jmpi w ways a st cs v =
       λ i. record { store = st; channels = map (renameC φ) cs; place = cond-ap φ (holds w st 0) (ways .jump) (ways .next) i }
 

@@ -10,7 +10,7 @@ use lib.ListN.{getElem?}
 use lib.Pow.{pow-pos}
 use lib.Dec.{eqb}
 use Rattle.paper.specs.Bits.{bits, bit, put}
-use Rattle.paper.specs.Operation.{Branch, jmpi, if, else, endif, while, Operation, plain, nop, branch, unlisted, operationOf, operation}
+use Rattle.paper.specs.Operation.{Branch, jmpi, if, else, endif, while, break, cont, Operation, plain, nop, branch, unlisted, operationOf, operation}
 use Rattle.paper.specs.Store.{Store}
 use Rattle.paper.specs.Enable.{predicate, holds}
 use Rattle.paper.specs.Kernel.{Instr}
@@ -69,6 +69,8 @@ act-alike while v w ways st cs e =
     ap {B = State} (λ (f : ℕ → Bool). cond (someone (λ n c. isAwake c && f n) 0 cs)
     (record { store = st; channels = each (λ n. park (not (f n)) (ways .next)) 0 cs; place = ways .jump })
     (record { store = st; channels = cs; place = ways .next })) e
+act-alike break v w ways st cs e = ap (λ (f : ℕ → Bool). fork ways st (each (λ n. park (f n) (ways .wait)) 0 cs)) e
+act-alike cont v w ways st cs e = ap (λ (f : ℕ → Bool). fork ways st (each (λ n. park (f n) (ways .wait)) 0 cs)) e
 act-alike jmpi v w ways st cs e =
     ap {B = State} (λ (f : ℕ → Bool). record { store = st; channels = cs; place = cond (f 0) (ways .jump) (ways .next) }) e
 

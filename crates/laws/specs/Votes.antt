@@ -193,7 +193,7 @@ votes-add =
 
 -- And a kernel of words with PredCtrl 0 or 1 that is accepted was accepted.
 pub single-accepted : (forms : Forms) (dictionary kernel : List ℕ) (k : List Instr) → accepted forms dictionary kernel ≡ good k
-    → Each (λ _ _ w. predCtrl w ≤ 1) k → acceptedBy refusalBefore forms dictionary kernel ≡ good k
+    → Each (λ _ _ w. predCtrl w ≤ 1) k → acceptedBy (judgeAtBy refusalBefore) forms dictionary kernel ≡ good k
 unfolding judgeShortBy judgeLongBy judgeAtBy parseBy judgedKernelBy acceptedBy judgeShort judgeLong judgeAt parse judgedKernel accepted
 single-accepted forms dictionary kernel k e a =
     accepted-carried refusalOf forms dictionary kernel k e refusalBefore (each-map (λ w. predCtrl w ≤ 1) _ (λ w h z. refusal-before w h ∙ z) k a)

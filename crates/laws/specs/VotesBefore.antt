@@ -1,4 +1,5 @@
--- The rules as they stood before groups of channels could vote (02 §2): 7, 8 and the predicate, and what follows from them for one word. Assumes nothing.
+-- The rules as they stood before groups of channels could vote (02 §2): 7, 8 and the predicate, and what follows from them for one word, of every operation that
+-- is listed now. Assumes nothing.
 use mathlib.Core.Bool.{Bool, true, false, not, cond, _&&_, _||_}
 use mathlib.Core.List.{List, map}
 use mathlib.Core.Path.{_≡_, refl}
@@ -6,7 +7,7 @@ use Prim.Native.Nat.{ℕ}
 use lib.Dec.{eqb, leb}
 use Rattle.paper.specs.Bits.{bit}
 use Rattle.paper.specs.Word.{src0, src1, accessMode, accWrCtrl, execSize, predCtrl, predInv, condModifier, saturate, dstType, isNull}
-use Rattle.paper.specs.Operation.{Plain, Branch, jmpi, if, else, endif, while, Operation, plain, nop, branch, unlisted, operation, traits, sources}
+use Rattle.paper.specs.Operation.{Plain, Branch, jmpi, if, else, endif, while, break, cont, Operation, plain, nop, branch, unlisted, operation, traits, sources}
 use Rattle.paper.specs.Element.{made}
 use Rattle.paper.specs.Region.{channels, dstElement, dstSize}
 use Rattle.paper.specs.Store.{Store}
@@ -107,6 +108,8 @@ module _ (holding : Store → ℕ → Bool) where
       cond (someone (λ n c. isAwake c && holding st n) 0 cs)
       (record { store = st; channels = each (λ n. park (not (holding st n)) (ways .next)) 0 cs; place = ways .jump })
       (record { store = st; channels = cs; place = ways .next })
+  actBy break w ways st cs = fork ways st (each (λ n. park (holding st n) (ways .wait)) 0 cs)
+  actBy cont w ways st cs = fork ways st (each (λ n. park (holding st n) (ways .wait)) 0 cs)
   actBy jmpi w ways st cs = record { store = st; channels = cs; place = cond (holding st 0) (ways .jump) (ways .next) }
 
   abbrev pub passBy : ℕ → Ways → Store → List Channel → State
@@ -133,6 +136,8 @@ step-ours w here ways s = same (operation w) (s .store) (map (wake here) (s .cha
     same (branch else) st cs = refl
     same (branch endif) st cs = refl
     same (branch while) st cs = refl
+    same (branch break) st cs = refl
+    same (branch cont) st cs = refl
     same (branch jmpi) st cs = refl
     same unlisted st cs = refl
 

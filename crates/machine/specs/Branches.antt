@@ -9,7 +9,7 @@ use borrow.Author.Tests.{ne-eqb}
 use lib.ListN.{length, getD, set, length-set}
 use lib.Seq.{ext-getD}
 use Rattle.paper.specs.Bits.{bit}
-use Rattle.paper.specs.Operation.{Branch, jmpi, if, else, endif, while}
+use Rattle.paper.specs.Operation.{Branch, jmpi, if, else, endif, while, break, cont}
 use Rattle.paper.specs.Store.{Store}
 use Rattle.paper.specs.Enable.{holds}
 use Rattle.paper.specs.Machine.{Channel, off, State, Ways, isAwake, waitsAt, park, each, someone, onward, fork, act}
@@ -40,6 +40,8 @@ actBy while f ways st cs =
     cond (someone (λ n c. isAwake c && f n) 0 cs)
     (record { store = st; channels = each (λ n. park (not (f n)) (ways .next)) 0 cs; place = ways .jump })
     (record { store = st; channels = cs; place = ways .next })
+actBy break f ways st cs = fork ways st (each (λ n. park (f n) (ways .wait)) 0 cs)
+actBy cont f ways st cs = fork ways st (each (λ n. park (f n) (ways .wait)) 0 cs)
 actBy jmpi f ways st cs = record { store = st; channels = cs; place = cond (f 0) (ways .jump) (ways .next) }
 
 -- It is the paper's branch, by the paper's predicate.
@@ -49,6 +51,8 @@ act-by if w ways st cs = refl
 act-by else w ways st cs = refl
 act-by endif w ways st cs = refl
 act-by while w ways st cs = refl
+act-by break w ways st cs = refl
+act-by cont w ways st cs = refl
 act-by jmpi w ways st cs = refl
 
 -- Sixteen channels are those that their numbers have.
@@ -79,6 +83,8 @@ same-acts h f g e else ways st = refl
 same-acts h f g e endif ways st = refl
 same-acts h f g e while ways st =
     rw (someone-same h f g e, each-same h (λ k. not (f k)) (λ k. not (g k)) (λ k q. ap not (e k q)) (ways .next))
+same-acts h f g e break ways st = ap (fork ways st) (each-same h f g e (ways .wait))
+same-acts h f g e cont ways st = ap (fork ways st) (each-same h f g e (ways .wait))
 same-acts h f g e jmpi ways st = rw (e 0 (omega arith))
 
 -- By the mask of the predicate a branch is the paper's.
@@ -101,6 +107,8 @@ act-store while f ways st cs = go (someone (λ n c. isAwake c && f n) 0 cs)
         → cond {A = State} t (record { store = st; channels = each (λ n. park (not (f n)) (ways .next)) 0 cs; place = ways .jump }) (record { store = st; channels = cs; place = ways .next }) .store ≡ st
     go true = refl
     go false = refl
+act-store break f ways st cs = refl
+act-store cont f ways st cs = refl
 act-store jmpi f ways st cs = refl
 
 -- ---- what the masks tell of the channels
@@ -162,6 +170,19 @@ module _ (ways : Ways) (up : ℕ) (here : List ℕ) where
       → ActsBy else predicate ways up here r after
   unfolding actBy
   acts-else predicate h r after ea eh ep = parks-onward 65535 (λ _. true) (λ n q. bit-ones 16 n q) h r after ea eh ep
+
+  pub acts-break : (predicate : ℕ) → ways .wait < length here
+      → (r : Forked) (after : List ℕ) → r .awake ≡ withoutMask up predicate
+      → after ≡ set here (ways .wait) (eitherMask (getD here (ways .wait) 0) (bothMask up predicate))
+      → r .place ≡ cond (not (eqb (eitherMask (r .awake) (getD after (ways .next) 0)) 0)) (ways .next) (ways .jump)
+      → ActsBy break predicate ways up here r after
+  unfolding actBy
+  acts-break predicate h r after ea eh ep = parks-onward predicate (bit predicate) (λ n q. refl) h r after ea eh ep
+
+  -- cont acts as break does.
+  pub acts-cont : (predicate : ℕ) (r : Forked) (after : List ℕ) → ActsBy break predicate ways up here r after → ActsBy cont predicate ways up here r after
+  unfolding actBy
+  acts-cont predicate r after a = a
 
   -- None waits, and the kernel goes on.
   pub acts-endif : (predicate : ℕ) (r : Forked) → r .awake ≡ up

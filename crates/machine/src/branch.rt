@@ -10,7 +10,7 @@ ghost use mathlib.Core.Bool.{cond};
 ghost use Prim.Native.Nat.{ℕ, _<_};
 ghost use lib.ListN.{length, getD};
 ghost use Rattle.paper.specs.Bits.{bit};
-ghost use Rattle.paper.specs.Operation.{while};
+ghost use Rattle.paper.specs.Operation.{while, break};
 ghost use Rattle.words.specs.Operations.{branchIs};
 ghost use Rattle.machine.specs.Branches.{waysIs, Within, ActsBy};
 
@@ -54,6 +54,20 @@ fn repeat(up: u64, predicate: u64, ways: Ways, here: &mut [u16]) -> Forked
     }
 }
 
+// break and cont, which act alike: awake channels whose predicate holds wait; then to the next place, or to the jump if no channel is awake and none waits at the
+// next place.
+fn leave(up: u64, predicate: u64, ways: Ways, here: &mut [u16]) -> Forked
+    requires { ⌜ (up < 65536) × (predicate < 65536) × Within (length (now here)) (waysIs ways) × ((p : ℕ) → getD (now here) p 0 < 65536) ⌝ }
+    ensures { λ r. ⌜ ActsBy break predicate (waysIs ways) up (now (here .entry)) r (now (here .exit)) × (length (now (here .exit)) ≡ length (now (here .entry))) ⌝ }
+{
+    let after = post(up, predicate, ways.wait, here);
+    let place = onward(after, ways, here);
+    Forked {
+        awake: after,
+        place: place,
+    }
+}
+
 // A branch, by the mask of the channels whose predicate holds, once the channels that wait at its place are awake.
 pub(crate) fn act(b: Branch, predicate: u64, ways: Ways, up: u64, here: &mut [u16]) -> Forked
     requires { ⌜ (up < 65536) × (predicate < 65536) × Within (length (now here)) (waysIs ways) × ((p : ℕ) → getD (now here) p 0 < 65536) ⌝ }
@@ -85,5 +99,7 @@ pub(crate) fn act(b: Branch, predicate: u64, ways: Ways, up: u64, here: &mut [u1
             }
         }
         Branch::While => repeat(up, predicate, ways, here),
+        Branch::Break => leave(up, predicate, ways, here),
+        Branch::Cont => leave(up, predicate, ways, here),
     }
 }

@@ -41,9 +41,13 @@ PlacedTo form k news q = (p : ℕ) → lands k p ≡ true → index k p < index 
 abbrev pub newPlaces : List ℕ → Instr → List ℕ
 newPlaces news i = map (λ z. getD news (placeOf z) 0) (targetsOf i)
 
--- They are there.
+-- The new place of place p is there.
+abbrev pub ReachesAt : List ℕ → ℕ → Type 0
+ReachesAt news p = (p < placeCount) × (getD news p 0 < placeCount)
+
+-- They all are.
 abbrev pub Reaches : List ℕ → Instr → Type 0
-Reaches news i = AtPlaces (λ p. (p < placeCount) × (getD news p 0 < placeCount)) (map placeOf (targetsOf i))
+Reaches news i = AtPlaces (ReachesAt news) (map placeOf (targetsOf i))
 
 -- A pass stands at byte `from`, where an instruction starts or the kernel ends, and that comes to stand at place `to`.
 pub record Stage (form : Form) (k : List Instr) (from to : ℕ) : Type 0 where

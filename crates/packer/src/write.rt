@@ -3,6 +3,7 @@ use crate::form::SHORTS;
 use crate::form::places_taken;
 use distances::branch::Distances;
 use distances::branch::distances_in;
+use distances::distance::Distance;
 use distances::distance::aim;
 use distances::distance::place_of;
 use distances::distance::reach;
@@ -14,16 +15,18 @@ use words::limits::PLACES;
 ghost use mathlib.Core.List.{_++_};
 ghost use mathlib.Core.Path.{_≡_};
 ghost use Prim.Native.Nat.{_+_, _*_, _<_, _≤_};
-ghost use lib.ListN.{length, take, drop};
+ghost use lib.ListN.{length, take, drop, getD};
 ghost use Rattle.paper.specs.Dictionary.{dictionaryOf};
 ghost use Rattle.paper.specs.Operation.{operation};
 ghost use Rattle.paper.specs.Jump.{distances};
 ghost use Rattle.paper.specs.Packing.{placesTaken, encode, aimed};
 ghost use Rattle.words.specs.Words.{toWord};
+ghost use Rattle.distances.specs.Distances.{distanceIs};
 ghost use Rattle.kernel.specs.Marks.{placeCount};
 ghost use Rattle.kernel.specs.Jumps.{instrOf};
 ghost use Rattle.packer.specs.Forms.{formOf, recalled, kernelOf, Taken, resultOf, resultEnd};
-ghost use Rattle.packer.specs.Stages.{Placed, newPlaces, Reaches};
+ghost use Rattle.packer.specs.Stages.{Placed, newPlaces, ReachesAt, Reaches};
+ghost use Rattle.packer.specs.Rewriting.{oldPlace};
 ghost use Rattle.packer.specs.Keeping.{AllKept};
 
 // Stores a word in its form from byte `from` on.
@@ -39,6 +42,15 @@ fn write_word(short: u64, w: Word, out: &mut [u8], from: usize)
     }
 }
 
+// The place at which comes to stand what the distance d of word w, an instruction of `size` places from the old place `here` on, leads to.
+fn new_place(places: &[u16; PLACES], d: Distance, w: Word, here: u64, size: u64) -> u64
+    requires { ⌜ (here < placeCount) × (size ≤ 2) × ReachesAt (now places) (oldPlace (distanceIs d) (toWord w) here size) ⌝ }
+    ensures { λ r. ⌜ (r ≡ getD (now (places .entry)) (oldPlace (distanceIs d) (toWord w) here size) 0) × (r < placeCount) ⌝ }
+{
+    let old = place_of(reach(d, w, here, here + size)) as usize;
+    places[old] as u64
+}
+
 // The word w of an instruction of `size` places from the old place `here` on, which comes to stand from `to` to `next`, with its distances rewritten.
 fn rewrite(places: &[u16; PLACES], w: Word, here: u64, size: u64, to: u64, next: u64) -> Word
     requires { ⌜ (here < placeCount) × (size ≤ 2) × (to < placeCount) × (next < placeCount) × Reaches (now places) (instrOf here size (toWord w)) ⌝ }
@@ -47,10 +59,11 @@ fn rewrite(places: &[u16; PLACES], w: Word, here: u64, size: u64, to: u64, next:
     let held = distances_in(w);
     match held {
         Distances::Nothing => w,
-        Distances::One(d) => {
-            let old = place_of(reach(d, w, here, here + size)) as usize;
-            let new = places[old] as u64;
-            aim(d, w, to, next, new)
+        Distances::One(d) => aim(d, w, to, next, new_place(places, d, w, here, size)),
+        Distances::Two(d, e) => {
+            let first = new_place(places, d, w, here, size);
+            let second = new_place(places, e, w, here, size);
+            aim(e, aim(d, w, to, next, first), to, next, second)
         }
     }
 }

@@ -41,6 +41,10 @@ structuredTo code distance = op code 4 + distance at 48
 unfoldable pub jmpiTo : ℕ → ℕ
 jmpiTo distance = op 0x20 0 + immediate1 1 distance
 
+-- break (0x28) or cont (0x29) with the distances JIP and UIP, of 16 bits each.
+unfoldable pub leaveTo : ℕ → ℕ → ℕ → ℕ
+leaveTo code jip uip = op code 4 + jip at 96 + uip at 112
+
 unfoldable pub nopWord : ℕ
 nopWord = 0x7E
 

@@ -6,7 +6,7 @@ use Prim.Native.Nat.{ℕ, zero, suc, _+_, _-_, _*_, _^_}
 use lib.Dec.{eqb, ltb}
 use lib.IntN.{ℤ, pos, negsuc, subℕ, _+ℤ_}
 use Rattle.paper.specs.Bits.{bits}
-use Rattle.paper.specs.Operation.{Branch, jmpi, if, else, endif, while, Operation, plain, nop, branch, unlisted, operation}
+use Rattle.paper.specs.Operation.{Branch, jmpi, if, else, endif, while, break, cont, Operation, plain, nop, branch, unlisted, operation}
 use Rattle.paper.specs.Kernel.{Instr, Parsed, bad, good}
 
 -- The place after an instruction.
@@ -23,14 +23,23 @@ pub record Distance : Type 0 where
   pub width : ℕ
   pub base : Base
 
+-- JIP and UIP, the two distances of break and cont: bits 111:96 and 127:112, from their own start.
+abbrev pub jip : Distance
+jip = record { lo = 96; width = 16; base = ownStart }
+
+abbrev pub uip : Distance
+uip = record { lo = 112; width = 16; base = ownStart }
+
 -- The distances of a branch, in the order in which 12 judges them: of if, else, endif and while bits 63:48 from their own start, of jmpi 127:96 from
--- its end.
+-- its end, of break and cont JIP first.
 abbrev pub distancesOf : Branch → List Distance
 distancesOf jmpi = record { lo = 96; width = 32; base = ownEnd } ∷ []
 distancesOf if = record { lo = 48; width = 16; base = ownStart } ∷ []
 distancesOf else = record { lo = 48; width = 16; base = ownStart } ∷ []
 distancesOf endif = record { lo = 48; width = 16; base = ownStart } ∷ []
 distancesOf while = record { lo = 48; width = 16; base = ownStart } ∷ []
+distancesOf break = jip ∷ uip ∷ []
+distancesOf cont = jip ∷ uip ∷ []
 
 -- What is no branch has none.
 abbrev pub distances : Operation → List Distance

@@ -10,7 +10,7 @@ use Rattle.paper.specs.Word.{Source, src0, src1, accessMode, weCtrl, qtr
 use Rattle.paper.specs.Word.{dstFile, dstType, dstSubregister, dstRegister, dstStride, dstAddrMode}
 use Rattle.paper.specs.Word.{srcFile, srcType, srcSubregister, srcModifier, srcAddrMode, srcField}
 use Rattle.paper.specs.Word.{grf, isNull, isImmediate, immediateForm}
-use Rattle.paper.specs.Operation.{Plain, Branch, jmpi, if, else, endif, while, Operation, plain, nop, branch, unlisted, operation, isBranch, traits, sources}
+use Rattle.paper.specs.Operation.{Plain, Branch, jmpi, if, else, endif, while, break, cont, Operation, plain, nop, branch, unlisted, operation, isBranch, traits, sources}
 use Rattle.paper.specs.Value.{isSigned}
 use Rattle.paper.specs.Enable.{groupOf}
 use Rattle.paper.specs.Region.{Region, countOf, strideOf, channels, elementAt, srcRegion, dstOrigin, dstSize, dstElement}
@@ -70,7 +70,7 @@ plainServed p w =
     controlServed (traits p .compares) (traits p .saturates) w
     && (dstServed w && not (anyOf (λ x. not (srcServed w x)) (sources p)))
 
--- if, else, endif and while need size 16, quarter 0, WECtrl 0.
+-- if, else, endif, while, break and cont need size 16, quarter 0, WECtrl 0.
 abbrev pub structured : ℕ → Bool
 structured w = eqb (execSize w) 4 && (eqb (qtrCtrl w) 0 && eqb (weCtrl w) 0)
 
@@ -81,6 +81,8 @@ ownNeeds if w = structured w
 ownNeeds else w = structured w
 ownNeeds endif w = structured w
 ownNeeds while w = structured w
+ownNeeds break w = structured w
+ownNeeds cont w = structured w
 
 -- Branches have no operand but jmpi's src1.
 unfoldable pub branchServed : Branch → ℕ → Bool

@@ -26,4 +26,5 @@ pub mod Sheet
 pub mod SheetMore
 pub mod SheetRefusals
 pub mod SheetVotes
+pub mod SheetLeaving
 pub mod SheetHolds

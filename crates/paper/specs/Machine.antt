@@ -5,7 +5,7 @@ use mathlib.Core.Option.{Option, none, some}
 use Prim.Native.Nat.{ℕ, zero, suc}
 use lib.Dec.{eqb}
 use Rattle.paper.specs.Bits.{bit}
-use Rattle.paper.specs.Operation.{Branch, jmpi, if, else, endif, while, Operation, plain, nop, branch, unlisted, operation}
+use Rattle.paper.specs.Operation.{Branch, jmpi, if, else, endif, while, break, cont, Operation, plain, nop, branch, unlisted, operation}
 use Rattle.paper.specs.Store.{Store}
 use Rattle.paper.specs.Enable.{holds}
 use Rattle.paper.specs.Effect.{effect}
@@ -72,6 +72,11 @@ onward ways cs = cond (someone (λ _ c. isAwake c || waitsAt (ways .next) c) 0 c
 abbrev pub fork : Ways → Store → List Channel → State
 fork ways st cs = record { store = st; channels = cs; place = onward ways cs }
 
+-- break and cont, which act alike: awake channels whose predicate holds wait at UIP; then to the next place, or to JIP if no channel is awake and none waits
+-- at the next place.
+abbrev pub leave : ℕ → Ways → Store → List Channel → State
+leave w ways st cs = fork ways st (each (λ n. park (holds w st n) (ways .wait)) 0 cs)
+
 -- A branch, once the channels that wait at its place are awake.
 unfoldable pub act : Branch → ℕ → Ways → Store → List Channel → State
 -- awake channels whose predicate fails wait at the target
@@ -85,6 +90,8 @@ act while w ways st cs =
     cond (someone (λ n c. isAwake c && holds w st n) 0 cs)
     (record { store = st; channels = each (λ n. park (not (holds w st n)) (ways .next)) 0 cs; place = ways .jump })
     (record { store = st; channels = cs; place = ways .next })
+act break w ways st cs = leave w ways st cs
+act cont w ways st cs = leave w ways st cs
 -- taken if it has no predicate or flag bit 0, after inversion, is 1; it looks at no mask
 act jmpi w ways st cs = record { store = st; channels = cs; place = cond (holds w st 0) (ways .jump) (ways .next) }
 
@@ -109,8 +116,8 @@ abbrev pub lastOf : ℕ → List ℕ → ℕ
 lastOf t [] = t
 lastOf t (u ∷ ts) = lastOf u ts
 
--- The ways of an instruction with these targets: it jumps to the first, and the channels that it parks wait at the last. One that has none leads to the
--- next place alone, and the other two are written 0.
+-- The ways of an instruction with these targets: it jumps to the first, of break and cont JIP, and the channels that it parks wait at the last, UIP. One that
+-- has none leads to the next place alone, and the other two are written 0.
 abbrev pub leads : ℕ → List ℕ → Ways
 leads next [] = record { next = next; jump = 0; wait = 0 }
 leads next (t ∷ ts) = record { next = next; jump = t; wait = lastOf t ts }

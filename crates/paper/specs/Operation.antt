@@ -10,7 +10,7 @@ pub data Plain : Type 0 where
   mov sel not and or xor shr shl asr cmp add mul avg : Plain
 
 pub data Branch : Type 0 where
-  jmpi if else endif while : Branch
+  jmpi if else endif while break cont : Branch
 
 pub data Operation : Type 0 where
   plain : Plain → Operation
@@ -40,7 +40,9 @@ operationOf n =
     (cond (eqb n 0x24) (branch else)
     (cond (eqb n 0x25) (branch endif)
     (cond (eqb n 0x27) (branch while)
-    unlisted))))))))))))))))))
+    (cond (eqb n 0x28) (branch break)
+    (cond (eqb n 0x29) (branch cont)
+    unlisted))))))))))))))))))))
 
 abbrev pub operation : ℕ → Operation
 operation w = operationOf (opcode w)

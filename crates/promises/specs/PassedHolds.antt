@@ -10,10 +10,12 @@ use Rattle.paper.specs.Shorten.{shorten}
 use Rattle.paper.specs.Packing.{Form}
 use Rattle.paper.specs.Calls.{verdict, refusal, asNumber, Written, Changed, checkedAs, relaid, packCall}
 use Rattle.contracts.specs.Contracts.{Wrote, Left}
-use Rattle.laws.specs.Otherwise.{acceptedBy, checkCallBy, packCallBy}
-use Rattle.laws.specs.Adding.{Adds, stays, pack-stays}
+use Rattle.laws.specs.Otherwise.{judgeAtBy, Judgement, acceptedBy, checkCallBy, packCallBy}
+use Rattle.laws.specs.Adding.{Stays, Adds, stays, pack-stays}
 use Rattle.laws.specs.VotesBefore.{refusalBefore, stepAtBefore}
 use Rattle.laws.specs.Votes.{votes-add}
+use Rattle.laws.specs.LeavingBefore.{formerJudge, formerStep}
+use Rattle.laws.specs.Leaving.{leaving-stays, leaving-packs}
 use Rattle.promises.specs.Promises.{AsBy, PassedBefore}
 
 -- No refusal is a verdict.
@@ -30,30 +32,39 @@ relaid-good : (form : Form) (out : List ℕ) (q : Parsed) (n : ℕ) → relaid f
 relaid-good form out (bad number offset) n e = not-verdict number offset 0 n e
 relaid-good form out (good k) n e = (k, refl)
 
--- Rules that only add.
-module _ (rule : ℕ → ℕ) (act : ℕ → ℕ → Ways → State → State) (adds : Adds rule act) where
-  calls-kept : (dictionary kernel : List ℕ) (n : ℕ) → checkCallBy rule dictionary kernel ≡ verdict 0 n → AsBy rule act dictionary kernel
-  unfolding checkCallBy
-  calls-kept dictionary kernel n e =
-      let g = checked-good (acceptedBy rule longAndShort dictionary kernel) n e in
-      let s = stays rule act adds dictionary kernel (g .0) (g .1) in
-      record {
-        check = λ r p. p ∙ ap asNumber (s .check);
-        unpack = λ out r out′ p. subst (λ (c : Written). Wrote c r out′) (s .unpack out) p;
-        step = λ registers state r registers′ state′ p. subst (λ (c : Changed). Left c r registers′ state′) (s .step registers state) p;
-        run = λ budget registers state r registers′ state′ p. subst (λ (c : Changed). Left c r registers′ state′) (s .run budget registers state) p;
-      }
+-- What holds of the paper's calls holds of the exported ones.
+calls-kept : (judge : Judgement) (act : ℕ → ℕ → Ways → State → State) (dictionary kernel : List ℕ) → Stays judge act dictionary kernel
+    → AsBy judge act dictionary kernel
+calls-kept judge act dictionary kernel s =
+    record {
+      check = λ r p. p ∙ ap asNumber (s .check);
+      unpack = λ out r out′ p. subst (λ (c : Written). Wrote c r out′) (s .unpack out) p;
+      step = λ registers state r registers′ state′ p. subst (λ (c : Changed). Left c r registers′ state′) (s .step registers state) p;
+      run = λ budget registers state r registers′ state′ p. subst (λ (c : Changed). Left c r registers′ state′) (s .run budget registers state) p;
+    }
 
-  pack-kept : (dictionary kernel out : List ℕ) (n : ℕ) → packCallBy rule dictionary kernel out .answer ≡ verdict 0 n
-      → (r : ℕ) (out′ : List ℕ) → Wrote (packCall dictionary kernel out) r out′ → Wrote (packCallBy rule dictionary kernel out) r out′
+-- Rules that only add to 6 to 11.
+module _ (rule : ℕ → ℕ) (act : ℕ → ℕ → Ways → State → State) (adds : Adds rule act) where
+  accepted-kept : (dictionary kernel : List ℕ) (n : ℕ) → checkCallBy (judgeAtBy rule) dictionary kernel ≡ verdict 0 n
+      → AsBy (judgeAtBy rule) act dictionary kernel
+  unfolding checkCallBy
+  accepted-kept dictionary kernel n e =
+      let g = checked-good (acceptedBy (judgeAtBy rule) longAndShort dictionary kernel) n e in
+      calls-kept (judgeAtBy rule) act dictionary kernel (stays rule act adds dictionary kernel (g .0) (g .1))
+
+  pack-kept : (dictionary kernel out : List ℕ) (n : ℕ) → packCallBy (judgeAtBy rule) dictionary kernel out .answer ≡ verdict 0 n
+      → (r : ℕ) (out′ : List ℕ) → Wrote (packCall dictionary kernel out) r out′ → Wrote (packCallBy (judgeAtBy rule) dictionary kernel out) r out′
   unfolding packCallBy
   pack-kept dictionary kernel out n e r out′ p =
-      let g = relaid-good (shorten (dictionaryOf dictionary)) out (acceptedBy rule longOnly dictionary kernel) n e in
+      let g = relaid-good (shorten (dictionaryOf dictionary)) out (acceptedBy (judgeAtBy rule) longOnly dictionary kernel) n e in
       subst (λ (c : Written). Wrote c r out′) (pack-stays rule act adds dictionary kernel (g .0) (g .1) out) p
 
 pub passed-before : PassedBefore
 passed-before =
     record {
-      votes = calls-kept refusalBefore stepAtBefore votes-add;
+      votes = accepted-kept refusalBefore stepAtBefore votes-add;
       votesPacked = pack-kept refusalBefore stepAtBefore votes-add;
+      leaving = λ dictionary kernel others. calls-kept formerJudge formerStep dictionary kernel (leaving-stays dictionary kernel others);
+      leavingPacked = λ dictionary kernel out others r out′ p.
+          subst (λ (c : Written). Wrote c r out′) (leaving-packs dictionary kernel out others) p;
     }

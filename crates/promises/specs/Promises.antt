@@ -19,12 +19,14 @@ use Rattle.paper.specs.Kernel.{Instr, Forms, longAndShort, longOnly, good}
 use Rattle.paper.specs.Machine.{Ways, State}
 use Rattle.paper.specs.State.{half, channelsIn, stateLegal}
 use Rattle.paper.specs.Packing.{index}
-use Rattle.paper.specs.Calls.{Answer, verdict, asNumber, accepted, checkCall, packCall, unpackCall, shortenCall, expandCall, decodeCall, decodePart, startCall, stepCall, runCall, numberOf, offsetOf, countOf}
+use Rattle.paper.specs.Calls.{Answer, verdict, refusal, asNumber, accepted, checkCall, packCall, unpackCall, shortenCall, expandCall, decodeCall, decodePart, startCall, stepCall, runCall, numberOf, offsetOf, countOf}
 use Rattle.laws.specs.Names.{renameC, program}
 use Rattle.laws.specs.Items.{Item, allBytes, instrsFrom}
 use Rattle.laws.specs.Packing.{AllShortest}
-use Rattle.laws.specs.Otherwise.{checkCallBy, packCallBy, unpackCallBy, stepCallBy, runCallBy}
+use Rattle.laws.specs.Otherwise.{judgeAtBy, Judgement, checkCallBy, packCallBy, unpackCallBy, stepCallBy, runCallBy}
 use Rattle.laws.specs.VotesBefore.{refusalBefore, stepAtBefore}
+use Rattle.laws.specs.LeavingBefore.{formerJudge, formerStep}
+use Rattle.laws.specs.Leaving.{Leaves, wordAt}
 use Rattle.laws.specs.Longer.{bytesBefore, instructionsBefore, Settled, sizedWithin, acceptedWithin, checkWithin, packWithin, unpackWithin, decodeWithin, stepWithin, runWithin}
 use Rattle.contracts.specs.Contracts.{numberIn, offsetIn, countIn, Wrote, Left, CheckPromise, PackPromise, UnpackPromise, ShortenPromise, ExpandPromise}
 use Rattle.contracts.specs.Contracts.{DecodePromise, StartPromise, StepPromise, RunPromise}
@@ -271,25 +273,34 @@ pub record Demand3 : Type 0 where
 
 -- ==== kernels that passed before
 
--- check, unpack, step and run of a kernel answer, and leave, what they do by other rules for one word: `rule` in the place of refusals 6 to 11, `act` in the
--- place of a step (Otherwise of `laws`).
-pub record AsBy (rule : ℕ → ℕ) (act : ℕ → ℕ → Ways → State → State) (dictionary kernel : List ℕ) : Type 0 where
-  pub check : (r : ℕ) → CheckPromise dictionary kernel r → r ≡ asNumber (checkCallBy rule dictionary kernel)
-  pub unpack : (out : List ℕ) (r : ℕ) (out′ : List ℕ) → UnpackPromise dictionary kernel out r out′ → Wrote (unpackCallBy rule dictionary kernel out) r out′
+-- check, unpack, step and run of a kernel answer, and leave, what they do by other rules for one instruction: `judge` in the place of refusals 3 to 11, `act` in
+-- the place of a step (Otherwise of `laws`).
+pub record AsBy (judge : Judgement) (act : ℕ → ℕ → Ways → State → State) (dictionary kernel : List ℕ) : Type 0 where
+  pub check : (r : ℕ) → CheckPromise dictionary kernel r → r ≡ asNumber (checkCallBy judge dictionary kernel)
+  pub unpack : (out : List ℕ) (r : ℕ) (out′ : List ℕ) → UnpackPromise dictionary kernel out r out′ → Wrote (unpackCallBy judge dictionary kernel out) r out′
   pub step : (registers state : List ℕ) (r : ℕ) (registers′ state′ : List ℕ) → StepPromise dictionary kernel registers state r registers′ state′
-      → Left (stepCallBy rule act dictionary kernel registers state) r registers′ state′
+      → Left (stepCallBy judge act dictionary kernel registers state) r registers′ state′
   pub run : (budget : ℕ) (registers state : List ℕ) (r : ℕ) (registers′ state′ : List ℕ)
       → RunPromise dictionary kernel budget registers state r registers′ state′
-      → Left (runCallBy rule act dictionary kernel budget registers state) r registers′ state′
+      → Left (runCallBy judge act dictionary kernel budget registers state) r registers′ state′
 
--- 02 §2 only adds: `refusalBefore` and `stepAtBefore` are the rules before groups of channels could vote (VotesBefore of `laws`).
+-- 02 §2 and §9 only add. `refusalBefore` and `stepAtBefore` are the rules before groups of channels could vote (VotesBefore of `laws`), `formerJudge` and
+-- `formerStep` those before break and cont were listed (LeavingBefore of `laws`).
 pub record PassedBefore : Type 0 where
-  -- A kernel that check accepted by them is accepted, and is checked, unpacked, stepped and run as it was.
-  pub votes : (dictionary kernel : List ℕ) (n : ℕ) → checkCallBy refusalBefore dictionary kernel ≡ verdict 0 n
-      → AsBy refusalBefore stepAtBefore dictionary kernel
+  -- A kernel that check accepted without votes is accepted, and is checked, unpacked, stepped and run as it was.
+  pub votes : (dictionary kernel : List ℕ) (n : ℕ) → checkCallBy (judgeAtBy refusalBefore) dictionary kernel ≡ verdict 0 n
+      → AsBy (judgeAtBy refusalBefore) stepAtBefore dictionary kernel
   -- One that pack accepted is packed to the same bytes.
-  pub votesPacked : (dictionary kernel out : List ℕ) (n : ℕ) → packCallBy refusalBefore dictionary kernel out .answer ≡ verdict 0 n
-      → (r : ℕ) (out′ : List ℕ) → PackPromise dictionary kernel out r out′ → Wrote (packCallBy refusalBefore dictionary kernel out) r out′
+  pub votesPacked : (dictionary kernel out : List ℕ) (n : ℕ) → packCallBy (judgeAtBy refusalBefore) dictionary kernel out .answer ≡ verdict 0 n
+      → (r : ℕ) (out′ : List ℕ) → PackPromise dictionary kernel out r out′ → Wrote (packCallBy (judgeAtBy refusalBefore) dictionary kernel out) r out′
+  -- Without break and cont: whatever check answered, unless it was 4 at an instruction with one of their opcodes, it answers now, and the kernel is unpacked,
+  -- stepped and run, or refused, as it was.
+  pub leaving : (dictionary kernel : List ℕ) → ((at : ℕ) → checkCallBy formerJudge dictionary kernel ≡ refusal 4 at → Leaves (wordAt kernel at) → ⊥)
+      → AsBy formerJudge formerStep dictionary kernel
+  -- So it is with pack.
+  pub leavingPacked : (dictionary kernel out : List ℕ)
+      → ((at : ℕ) → packCallBy formerJudge dictionary kernel out .answer ≡ refusal 4 at → Leaves (wordAt kernel at) → ⊥)
+      → (r : ℕ) (out′ : List ℕ) → PackPromise dictionary kernel out r out′ → Wrote (packCallBy formerJudge dictionary kernel out) r out′
 
 -- ==== longer kernels: what passed under lower limits is answered as it was
 

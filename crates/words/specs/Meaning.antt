@@ -62,3 +62,5 @@ pub record Means (r : Decoded) (w : ℕ) : Type 0 where
   pub second : InputMeans (r .second) src1 w
   pub near : r .near ≡ bits w 48 16
   pub far : r .far ≡ bits w 96 32
+  pub jip : r .jip ≡ bits w 96 16
+  pub uip : r .uip ≡ bits w 112 16

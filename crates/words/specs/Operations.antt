@@ -4,7 +4,7 @@ use Rattle.words.specs.declared.operation.Plain.{Plain}
 use Rattle.words.specs.declared.operation.Branch.{Branch}
 use Rattle.words.specs.declared.operation.Operation.{Operation}
 use Rattle.words.specs.declared.operation.Plain.the-variants.{Mov, Sel, Not, And, Or, Xor, Shr, Shl, Asr, Cmp, Add, Mul, Avg}
-use Rattle.words.specs.declared.operation.Branch.the-variants.{Jmpi, If, Else, Endif, While}
+use Rattle.words.specs.declared.operation.Branch.the-variants.{Jmpi, If, Else, Endif, While, Break, Cont}
 use Rattle.words.specs.declared.operation.Operation.the-variants.{Makes, Nop, Jumps, Unlisted}
 
 abbrev pub plainIs : Plain → paper.Plain
@@ -28,6 +28,8 @@ branchIs If = paper.if
 branchIs Else = paper.else
 branchIs Endif = paper.endif
 branchIs While = paper.while
+branchIs Break = paper.break
+branchIs Cont = paper.cont
 
 abbrev pub operationIs : Operation → paper.Operation
 operationIs (Makes p) = paper.plain (plainIs p)

@@ -12,7 +12,9 @@ use crate::fields::dst_file;
 use crate::fields::dst_type;
 use crate::fields::exec_size;
 use crate::fields::flag_choice;
+use crate::fields::high_half;
 use crate::fields::long_distance;
+use crate::fields::low_half;
 use crate::fields::operation;
 use crate::fields::pred_ctrl;
 use crate::fields::pred_inv;
@@ -72,7 +74,7 @@ pub struct Input {
     pub operand: Operand,
 }
 
-// A word, taken apart. `near` is the distance of if, else, endif and while, `far` is jmpi's.
+// A word, taken apart. `near` is the distance of if, else, endif and while, `far` is jmpi's, `jip` and `uip` are those of break and cont.
 pub struct Decoded {
     pub operation: Operation,
     pub control: Control,
@@ -82,6 +84,8 @@ pub struct Decoded {
     pub second: Input,
     pub near: u64,
     pub far: u64,
+    pub jip: u64,
+    pub uip: u64,
 }
 
 // A word's control fields.
@@ -151,6 +155,8 @@ pub fn decode(w: Word) -> Decoded
     let second = input_of(Source::Second, w);
     let near = short_distance(w);
     let far = long_distance(w);
+    let jip = low_half(w);
+    let uip = high_half(w);
     Decoded {
         operation: o,
         control: control,
@@ -160,5 +166,7 @@ pub fn decode(w: Word) -> Decoded
         second: second,
         near: near,
         far: far,
+        jip: jip,
+        uip: uip,
     }
 }

@@ -347,14 +347,14 @@ pub fn bits_121(w: Word) -> u64
     high(w, 57, 7)
 }
 
-// Bits 111:96, the low half of an immediate.
+// Bits 111:96, the low half of an immediate, and JIP.
 pub fn low_half(w: Word) -> u64
     ensures { λ r. ⌜ (r ≡ bits (toWord w) 96 16) × (r < 65536) ⌝ }
 {
     high(w, 32, 16)
 }
 
-// Bits 127:112, its high half.
+// Bits 127:112, its high half, and UIP.
 pub fn high_half(w: Word) -> u64
     ensures { λ r. ⌜ (r ≡ bits (toWord w) 112 16) × (r < 65536) ⌝ }
 {

@@ -26,6 +26,8 @@ pub enum Branch {
     Else,
     Endif,
     While,
+    Break,
+    Cont,
 }
 
 pub enum Operation {
@@ -59,6 +61,8 @@ pub fn operation_of(code: u64) -> Operation
         0x24 => Operation::Jumps(Branch::Else),
         0x25 => Operation::Jumps(Branch::Endif),
         0x27 => Operation::Jumps(Branch::While),
+        0x28 => Operation::Jumps(Branch::Break),
+        0x29 => Operation::Jumps(Branch::Cont),
         _ => Operation::Unlisted,
     }
 }

@@ -5,7 +5,7 @@ use super::instructions::legal_word;
 use super::kernels::{branch_word, finish, legal_pair, plan, Laying, Pair, Planned};
 use crate::assemble;
 use crate::operations::{Operation, BRANCHES};
-use crate::packing::with_distance;
+use crate::packing::with_distances;
 use crate::random::Random;
 use crate::rules::{judge_word, KERNEL_BYTES, KERNEL_INSTRUCTIONS};
 use crate::words::{LongWord, SHORT_BIT};
@@ -96,11 +96,15 @@ fn stray_jump(random: &mut Random, laying: Laying) -> Pair {
     finish(random, &plan, laying)
 }
 
-/// A branch whose distance most likely leads nowhere.
+/// A branch whose distance, or one of whose two, most likely leads nowhere.
 fn stray_branch(random: &mut Random) -> Vec<u8> {
     let operation = random.pick(&BRANCHES);
     let off = random.pick(&[-1_000, -3, -1, 1, 3, 24, 1_000, 32_767, -32_768]);
-    with_distance(branch_word(random, operation), operation, off).to_bytes().to_vec()
+    let mut distances = [off, random.pick(&[off, 0, 2])];
+    if operation.leaves() && random.once_in(2) {
+        distances.reverse();
+    }
+    with_distances(branch_word(random, operation), operation, &distances).to_bytes().to_vec()
 }
 
 /// Two faults, of which the rules' order and the kernel's say which one is named: a jump that
@@ -166,7 +170,7 @@ pub fn unlisted_opcode(random: &mut Random) -> u32 {
 
 /// A short word with the opcode of a branch.
 pub fn short_branch(random: &mut Random) -> Vec<u8> {
-    let opcode = random.pick(&[0x20, 0x22, 0x24, 0x25, 0x27u64]);
+    let opcode = random.pick(&BRANCHES).opcode() as u64;
     let noise = if random.once_in(2) { random.number() & !0x7F } else { 0 };
     (noise | opcode | 1 << SHORT_BIT).to_le_bytes().to_vec()
 }

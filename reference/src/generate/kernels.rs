@@ -4,10 +4,10 @@
 use super::damage;
 use super::dictionaries::dictionary_for;
 use super::instructions::{legal_word, legal_word_of, vote, with_other_registers};
-use crate::assemble::{branch, jmpi};
+use crate::assemble::{branch, jmpi, leave};
 use crate::dictionary::Dictionary;
 use crate::operations::{Operation, BRANCHES};
-use crate::packing::with_distance;
+use crate::packing::with_distances;
 use crate::random::Random;
 use crate::rules::KERNEL_INSTRUCTIONS;
 use crate::words::{expand, shorten, LongWord, ShortWord};
@@ -17,8 +17,9 @@ use crate::words::{expand, shorten, LongWord, ShortWord};
 pub enum Planned {
     /// No branch; laid long or short.
     Plain(LongWord),
-    /// A branch to the instruction of that number; the end is one past the last.
-    Branch { word: LongWord, operation: Operation, target: usize },
+    /// A branch to the instructions of these numbers, of break and cont JIP's and UIP's, of the
+    /// others one; the end is one past the last.
+    Branch { word: LongWord, operation: Operation, targets: Vec<usize> },
     /// Bytes to lay down as they are.
     Raw(Vec<u8>),
 }
@@ -112,16 +113,16 @@ fn jump_across(random: &mut Random, plan: &mut [Planned]) {
     let last = plan.len() - 1;
     let (ahead, back) = (random.pick(&BRANCHES), random.pick(&BRANCHES));
     let far = last + random.below(2);
-    plan[0] = branch_to(random, ahead, far);
-    plan[last] = branch_to(random, back, 0);
+    plan[0] = branch_to(random, ahead, far, far);
+    plan[last] = branch_to(random, back, 0, 0);
 }
 
 /// A cut plan may have lost the instructions that jumps name: those go to the end.
 fn keep_targets_inside(plan: &mut [Planned]) {
     let end = plan.len();
     for planned in plan {
-        if let Planned::Branch { target, .. } = planned {
-            *target = (*target).min(end);
+        if let Planned::Branch { targets, .. } = planned {
+            targets.iter_mut().for_each(|target| *target = (*target).min(end));
         }
     }
 }
@@ -144,25 +145,33 @@ fn draw(random: &mut Random, palette: &[LongWord]) -> LongWord {
 /// A branch of any kind to any instruction, mostly one nearby.
 fn stray_branch(random: &mut Random, own: usize, length: usize) -> Planned {
     let operation = random.pick(&BRANCHES);
-    let target = match random.below(8) {
+    let mut target = || match random.below(8) {
         0 => random.between(0, length),
         1 => length,
         2 => own,
         3 | 4 => own.saturating_sub(random.between(1, 6)),
         _ => (own + random.between(1, 6)).min(length),
     };
-    branch_to(random, operation, target)
+    let (jip, uip) = (target(), target());
+    branch_to(random, operation, jip, uip)
 }
 
-/// A branch to an instruction.
-pub fn branch_to(random: &mut Random, operation: Operation, target: usize) -> Planned {
-    Planned::Branch { word: branch_word(random, operation), operation, target }
+/// A branch to an instruction. Only break and cont have a second target, UIP.
+pub fn branch_to(random: &mut Random, operation: Operation, target: usize, uip: usize) -> Planned {
+    let targets = if operation.leaves() { vec![target, uip] } else { vec![target] };
+    Planned::Branch { word: branch_word(random, operation), operation, targets }
+}
+
+/// A branch with one target.
+fn jump_to(random: &mut Random, operation: Operation, target: usize) -> Planned {
+    branch_to(random, operation, target, target)
 }
 
 /// A branch of distance 0 with what it may carry: predicate, and fields that aren't judged.
 pub fn branch_word(random: &mut Random, operation: Operation) -> LongWord {
     let mut word = match operation {
         Operation::Jmpi => jmpi(0),
+        Operation::Break | Operation::Cont => leave(operation, 0, 0),
         _ => branch(operation, 0),
     };
     if !random.once_in(4) {
@@ -176,36 +185,76 @@ pub fn branch_word(random: &mut Random, operation: Operation) -> LongWord {
         word = word.with_field(95, 64, random.bits(32)).with_field(47, 47, random.bits(1));
         word = match operation {
             Operation::Jmpi => word.with_field(9, 9, 1).with_field(63, 48, random.bits(16)),
+            Operation::Break | Operation::Cont => word.with_field(63, 32, random.bits(32)),
             _ => word.with_field(127, 96, random.bits(32)).with_field(46, 32, random.bits(15)),
         };
     }
     word
 }
 
-/// Adds an if, an if with an else, a loop or a jump over a few instructions.
+/// Adds an if, an if with an else, a loop, a jump over a few instructions, or two loops, one in
+/// the other, that are left early.
 fn block(random: &mut Random, palette: &[LongWord], plan: &mut Vec<Planned>) {
     let first = plan.len();
     let arm = random.between(0, 3);
-    let kind = random.below(4);
+    let kind = random.below(5);
+    if kind == 4 {
+        return nested_loops(random, palette, plan, arm);
+    }
     plan.push(Planned::Plain(legal_word_of(random, Operation::Cmp)));
     if kind != 2 {
         let opening = if kind == 3 { Operation::Jmpi } else { Operation::If };
-        plan.push(branch_to(random, opening, first + arm + 2 + (kind == 1) as usize));
+        plan.push(jump_to(random, opening, first + arm + 2 + (kind == 1) as usize));
     }
     for _ in 0..arm {
         plan.push(Planned::Plain(draw(random, palette)));
     }
     match kind {
-        0 => plan.push(branch_to(random, Operation::Endif, first + arm + 3)),
+        0 => plan.push(jump_to(random, Operation::Endif, first + arm + 3)),
         1 => {
-            plan.push(branch_to(random, Operation::Else, first + 2 * arm + 3));
+            plan.push(jump_to(random, Operation::Else, first + 2 * arm + 3));
             for _ in 0..arm {
                 plan.push(Planned::Plain(draw(random, palette)));
             }
-            plan.push(branch_to(random, Operation::Endif, first + 2 * arm + 4));
+            plan.push(jump_to(random, Operation::Endif, first + 2 * arm + 4));
         }
-        2 => plan.push(branch_to(random, Operation::While, first)),
+        2 => plan.push(jump_to(random, Operation::While, first)),
         _ => plan.push(Planned::Plain(draw(random, palette))),
+    }
+}
+
+/// Two loops, one in the other, with a few instructions around each branch: the inner one is
+/// left by break, goes on by cont, and is left together with the outer one, so that JIP and UIP
+/// lie side by side or far apart.
+fn nested_loops(random: &mut Random, palette: &[LongWord], plan: &mut Vec<Planned>, arm: usize) {
+    let outer = plan.len();
+    plan.push(Planned::Plain(legal_word_of(random, Operation::Cmp)));
+    let inner = plan.len();
+    let gap = arm + 1;
+    let inner_while = inner + 4 * gap;
+    let outer_while = inner_while + 1 + gap;
+    let leaving = [
+        (Operation::Cont, inner_while),
+        (Operation::Break, inner_while + 1),
+        (random.pick(&[Operation::Break, Operation::Cont]), outer_while + random.below(2)),
+    ];
+    for (operation, uip) in leaving {
+        plan.push(Planned::Plain(legal_word_of(random, Operation::Cmp)));
+        fill(random, palette, plan, arm.saturating_sub(1));
+        if arm > 0 {
+            plan.push(branch_to(random, operation, inner_while, uip));
+        }
+    }
+    fill(random, palette, plan, inner_while - plan.len());
+    plan.push(jump_to(random, Operation::While, inner));
+    fill(random, palette, plan, gap);
+    plan.push(jump_to(random, Operation::While, outer));
+}
+
+/// Adds so many instructions that are no branches.
+fn fill(random: &mut Random, palette: &[LongWord], plan: &mut Vec<Planned>, count: usize) {
+    for _ in 0..count {
+        plan.push(Planned::Plain(draw(random, palette)));
     }
 }
 
@@ -233,10 +282,11 @@ pub fn lay(
             (Planned::Raw(bytes), _) => kernel.extend(bytes),
             (_, Some(short)) => kernel.extend(short.to_bytes()),
             (Planned::Plain(word), None) => kernel.extend(word.to_bytes()),
-            (Planned::Branch { word, operation, target }, None) => {
+            (Planned::Branch { word, operation, targets }, None) => {
                 let base = places[index + (*operation == Operation::Jmpi) as usize];
-                let distance = places[*target] as i64 - base as i64;
-                kernel.extend(with_distance(*word, *operation, distance).to_bytes());
+                let distance = |&target: &usize| places[target] as i64 - base as i64;
+                let distances: Vec<i64> = targets.iter().map(distance).collect();
+                kernel.extend(with_distances(*word, *operation, &distances).to_bytes());
             }
         }
     }

@@ -9,6 +9,7 @@ use crate::operations::Operation;
 pub fn step_of(decoded: &Decoded, next: usize) -> Step {
     let holding = Holding::of(&decoded.predicate);
     let target = decoded.target as usize;
+    let wait = decoded.wait as usize;
     match decoded.operation {
         Operation::Jmpi => Box::new(move |machine| match holding.mask(machine) & 1 {
             1 => target,
@@ -19,10 +20,16 @@ pub fn step_of(decoded: &Decoded, next: usize) -> Step {
         }
         Operation::If => Box::new(move |machine| {
             let failing = machine.awake & !holding.mask(machine);
-            part(machine, failing, target, next)
+            part(machine, failing, wait, target, next)
         }),
-        Operation::Else => Box::new(move |machine| part(machine, machine.awake, target, next)),
-        Operation::Endif => Box::new(move |machine| part(machine, 0, target, next)),
+        Operation::Else => {
+            Box::new(move |machine| part(machine, machine.awake, wait, target, next))
+        }
+        Operation::Endif => Box::new(move |machine| part(machine, 0, wait, target, next)),
+        Operation::Break | Operation::Cont => Box::new(move |machine| {
+            let leaving = machine.awake & holding.mask(machine);
+            part(machine, leaving, wait, target, next)
+        }),
         other => unreachable!("{other:?} is no branch"),
     }
 }
@@ -37,11 +44,11 @@ fn repeat(machine: &mut Machine, holding: u16, target: usize, next: usize) -> us
     target
 }
 
-/// if, else and endif: the leaving channels wait at the target, and all go there if no channel
-/// is awake and none waits behind.
+/// if, else, endif, break and cont: the leaving channels wait, and the target is taken if no
+/// channel is awake and none waits behind.
 #[inline]
-fn part(machine: &mut Machine, leaving: u16, target: usize, next: usize) -> usize {
-    machine.put_to_wait(leaving, target);
+fn part(machine: &mut Machine, leaving: u16, wait: usize, target: usize, next: usize) -> usize {
+    machine.put_to_wait(leaving, wait);
     if machine.awake == 0 && !machine.waits_at(next) {
         target
     } else {

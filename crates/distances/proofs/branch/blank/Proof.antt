@@ -1,4 +1,4 @@
--- The distances are those of the word, none or one. Assumes nothing.
+-- The distances are those of the word, none, one or two. Assumes nothing.
 use mathlib.Core.List.{List}
 use mathlib.Core.Path.{sym, ap, _∙_}
 use Rattle.paper.specs.Jump.{Distance}
@@ -21,15 +21,46 @@ enum-known-held c = search needs
 blanked-requires : tie.Need-blanked-requires
 blanked-requires c κs = search needs
 
+enum-known-held-2 : tie.Need-enum-known-held-2
+enum-known-held-2 c = search needs
+
+blanked-requires-2 : tie.Need-blanked-requires-2
+blanked-requires-2 c κs = search needs
+
+blanked-requires-3 : tie.Need-blanked-requires-3
+blanked-requires-3 c κs = search needs
+
 returns : tie.Need-returns
 unfolding blanked
-returns c = ap (λ (fs : List Distance). blanked fs (toWord (c .before .before .before .args .w))) (ap distancesIs (sym (c .enum-told .given .1)) ∙ c .before .before .distances-in .ensures)
+returns c =
+    let s = c .before .before in
+    ap (λ (fs : List Distance). blanked fs (toWord (s .before .args .w))) (ap distancesIs (sym (c .enum-told .given .1)) ∙ s .distances-in .ensures)
 
 returns-2 : tie.Need-returns-2
 unfolding blanked
-returns-2 c = c .blanked .ensures ∙ ap (λ (fs : List Distance). blanked fs (toWord (c .before .before .before .before .before .args .w))) (ap distancesIs (sym (c .before .before .held .given .1)) ∙ c .before .before .before .before .distances-in .ensures)
+returns-2 c =
+    let s = c .before .before .before .before in
+    c .blanked .ensures
+    ∙ ap (λ (fs : List Distance). blanked fs (toWord (s .before .args .w))) (ap distancesIs (sym (c .before .before .held .given .1)) ∙ s .distances-in .ensures)
+
+returns-3 : tie.Need-returns-3
+unfolding blanked
+returns-3 c =
+    let s = c .before .before .before .before .before in
+    rw (c .blanked3 .ensures, c .before .blanked2 .ensures)
+    (ap (λ (fs : List Distance). blanked fs (toWord (s .before .args .w))) (ap distancesIs (sym (c .before .before .before .held2 .given .1)) ∙ s .distances-in .ensures))
 
 pub blank-spec : {M : Type 1} → statement M
 blank-spec =
     tie.close
-    (tie.spec distances-in-requires enum-told enum-known-held blanked-requires returns returns-2)
+    (tie.spec
+    distances-in-requires
+    enum-told
+    enum-known-held
+    blanked-requires
+    enum-known-held-2
+    blanked-requires-2
+    blanked-requires-3
+    returns
+    returns-2
+    returns-3)

@@ -33,6 +33,18 @@ enum-told-5 c = search needs
 structured-requires-4 : tie.Need-structured-requires-4
 structured-requires-4 c κs = search needs
 
+enum-told-6 : tie.Need-enum-told-6
+enum-told-6 c = search needs
+
+structured-requires-5 : tie.Need-structured-requires-5
+structured-requires-5 c κs = search needs
+
+enum-told-7 : tie.Need-enum-told-7
+enum-told-7 c = search needs
+
+structured-requires-6 : tie.Need-structured-requires-6
+structured-requires-6 c κs = search needs
+
 returns : tie.Need-returns
 returns c = cc
 
@@ -48,6 +60,12 @@ returns-4 c = cc
 returns-5 : tie.Need-returns-5
 returns-5 c = cc
 
+returns-6 : tie.Need-returns-6
+returns-6 c = cc
+
+returns-7 : tie.Need-returns-7
+returns-7 c = cc
+
 pub own-needs-spec : {M : Type 1} → statement M
 own-needs-spec =
     tie.close
@@ -62,8 +80,14 @@ own-needs-spec =
     structured-requires-3
     enum-told-5
     structured-requires-4
+    enum-told-6
+    structured-requires-5
+    enum-told-7
+    structured-requires-6
     returns
     returns-2
     returns-3
     returns-4
-    returns-5)
+    returns-5
+    returns-6
+    returns-7)

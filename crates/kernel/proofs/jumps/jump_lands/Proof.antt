@@ -1,8 +1,10 @@
 -- By the distances that the word holds. Assumes nothing.
 use mathlib.Core.Path.{sym, ap, _∙_}
 use borrow.Author.Needs.{needs}
-use Rattle.distances.specs.Distances.{distancesIs}
-use Rattle.kernel.specs.Jumps.{none-lands, one-lands}
+use Rattle.words.specs.Words.{toWord}
+use Rattle.distances.specs.Distances.{distanceIs, distancesIs}
+use Rattle.kernel.specs.Marks.{marked}
+use Rattle.kernel.specs.Jumps.{none-lands, one-lands, two-land}
 use Rattle.kernel.proofs.jumps.jump_lands.Statement.{statement}
 use Rattle.kernel.proofs.jumps.jump_lands.Tie as tie
 
@@ -15,20 +17,38 @@ enum-told c = search needs
 enum-known-held : tie.Need-enum-known-held
 enum-known-held c = search needs
 
-add-reach : tie.Need-add-reach
-add-reach c = search needs
+distance-lands-requires : tie.Need-distance-lands-requires
+distance-lands-requires c κs = search needs
 
-reach-requires : tie.Need-reach-requires
-reach-requires c κs = search needs
+enum-known-held-2 : tie.Need-enum-known-held-2
+enum-known-held-2 c = search needs
 
-target-lands-requires : tie.Need-target-lands-requires
-target-lands-requires c κs = search needs
+distance-lands-requires-2 : tie.Need-distance-lands-requires-2
+distance-lands-requires-2 c κs = search needs
+
+distance-lands-requires-3 : tie.Need-distance-lands-requires-3
+distance-lands-requires-3 c κs = search needs
 
 returns : tie.Need-returns
 returns c = none-lands _ _ _ _ (sym (c .before .before .distances-in .ensures) ∙ ap distancesIs (c .enum-told .given .1))
 
 returns-2 : tie.Need-returns-2
-returns-2 c = c .target-lands .ensures ∙ one-lands _ _ _ _ _ (sym (c .before .before .before .before .before .distances-in .ensures) ∙ ap distancesIs (c .before .before .before .held .given .1)) _ (c .before .reach .ensures)
+returns-2 c =
+    let s = c .before .before .before .before in
+    let a = s .before .args in
+    let held = c .before .before .held in
+    c .distance-lands .ensures
+    ∙ one-lands (marked (a .marks .now)) (a .here) (a .size) (toWord (a .w)) (distanceIs (held .given .0 .0))
+    (sym (s .distances-in .ensures) ∙ ap distancesIs (held .given .1))
+
+returns-3 : tie.Need-returns-3
+returns-3 c =
+    let s = c .before .before .before .before .before in
+    let a = s .before .args in
+    let held = c .before .before .before .held2 in
+    rw (c .distance-lands3 .ensures, c .before .distance-lands2 .ensures)
+    (two-land (marked (a .marks .now)) (a .here) (a .size) (toWord (a .w)) (distanceIs (held .given .0 .0)) (distanceIs (held .given .0 .1 .0))
+    (sym (s .distances-in .ensures) ∙ ap distancesIs (held .given .1)))
 
 pub jump-lands-spec : {M : Type 1} → statement M
 jump-lands-spec =
@@ -37,8 +57,10 @@ jump-lands-spec =
     distances-in-requires
     enum-told
     enum-known-held
-    add-reach
-    reach-requires
-    target-lands-requires
+    distance-lands-requires
+    enum-known-held-2
+    distance-lands-requires-2
+    distance-lands-requires-3
     returns
-    returns-2)
+    returns-2
+    returns-3)

@@ -6,7 +6,7 @@ use native.Mathlib.Omega.{arith}
 use lib.ListN.{length-set}
 use Rattle.machine.specs.Together.{withoutMask-less, eitherMask-less}
 use Rattle.machine.specs.Posts.{set-small}
-use Rattle.machine.specs.Branches.{waysIs, acts-jmpi, acts-if, acts-else, acts-endif}
+use Rattle.machine.specs.Branches.{waysIs, acts-jmpi, acts-if, acts-else, acts-endif, acts-cont}
 use borrow.Author.Needs.{needs}
 use Rattle.machine.proofs.branch.act.Statement.{statement}
 use Rattle.machine.proofs.branch.act.Tie as tie
@@ -70,6 +70,18 @@ enum-told-5 c = search needs
 repeat-requires : tie.Need-repeat-requires
 repeat-requires c κs = search needs
 
+enum-told-6 : tie.Need-enum-told-6
+enum-told-6 c = search needs
+
+leave-requires : tie.Need-leave-requires
+leave-requires c κs = search needs
+
+enum-told-7 : tie.Need-enum-told-7
+enum-told-7 c = search needs
+
+leave-requires-2 : tie.Need-leave-requires-2
+leave-requires-2 c κs = search needs
+
 returns : tie.Need-returns
 returns c =
     let s = c .before .before .before .before in
@@ -109,6 +121,22 @@ same-length-4 c = search needs
 returns-5 : tie.Need-returns-5
 returns-5 c = rw (c .before .before .before .before .enum-told5 .given .1) (c .before .before .repeat .ensures)
 
+same-length-5 : tie.Need-same-length-5
+same-length-5 c = search needs
+
+returns-6 : tie.Need-returns-6
+returns-6 c = rw (c .before .before .before .before .enum-told6 .given .1) (c .before .before .leave .ensures)
+
+same-length-6 : tie.Need-same-length-6
+same-length-6 c = search needs
+
+returns-7 : tie.Need-returns-7
+returns-7 c =
+    let s = c .before .before .before .before .before .before .before in
+    let e = c .before .before .leave2 .ensures in
+    rw (c .before .before .before .before .enum-told7 .given .1)
+    (acts-cont (waysIs (s .args .ways)) (s .args .up) (s .args .here .now) (s .args .predicate) _ _ (e .0), e .1)
+
 pub act-spec : {M : Type 1} → statement M
 act-spec =
     tie.close
@@ -126,6 +154,10 @@ act-spec =
     onward-requires-3
     enum-told-5
     repeat-requires
+    enum-told-6
+    leave-requires
+    enum-told-7
+    leave-requires-2
     returns
     same-length
     returns-2
@@ -134,4 +166,8 @@ act-spec =
     same-length-3
     returns-4
     same-length-4
-    returns-5)
+    returns-5
+    same-length-5
+    returns-6
+    same-length-6
+    returns-7)
