@@ -30,6 +30,8 @@ pub(crate) fn operation_here(code: u64) -> Operation
         0x24 => Operation::Jumps(Branch::Else),
         0x25 => Operation::Jumps(Branch::Endif),
         0x27 => Operation::Jumps(Branch::While),
+        0x28 => Operation::Jumps(Branch::Break),
+        0x29 => Operation::Jumps(Branch::Cont),
         _ => Operation::Unlisted,
     }
 }
