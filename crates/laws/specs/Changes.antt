@@ -8,7 +8,7 @@ use mathlib.Core.Path.{_≡_, refl, ap, sym, _∙_, subst}
 use Prim.Native.Nat.{ℕ, zero, suc, _+_, _-_, _*_, _<_, _≤_}
 use native.Mathlib.Omega.{arith}
 use lib.Dec.{eqb, ltb, leb}
-use lib.ListN.{getD}
+use lib.ListN.{length, getD}
 use borrow.Author.Tests.{eqb-true, eqb-false, leb-true, ltb-true}
 use Rattle.paper.specs.Bits.{bit}
 use Rattle.paper.specs.Word.{weCtrl, qtrCtrl, flagChoice, isNull}
@@ -25,7 +25,7 @@ use Rattle.laws.specs.Masks.{bit-ofBits}
 use Rattle.laws.specs.Places.{At, here, there, at, fetch-here, fetch-there}
 use Rattle.laws.specs.Regions.{LegalPlain, legal-plain}
 use Rattle.laws.specs.Relay.{Sane, AllSane}
-use Rattle.laws.specs.Scatter.{registers-changed, element-kept}
+use Rattle.laws.specs.Scatter.{registers-length, registers-changed, element-kept}
 use Rattle.laws.specs.Truth.{both-true}
 
 -- ---- registers
@@ -76,6 +76,17 @@ module _ (w : ℕ) (woken : List Bool) (st : Store) where
       go nop e h = absurd (h refl)
       go (branch c) e h = absurd (h refl)
       go unlisted e h = absurd (h refl)
+
+  -- There are as many register bytes as there were.
+  pub effect-length : length (effect w woken st .registers) ≡ length (st .registers)
+  unfolding effect plainEffect
+  effect-length = go (operation w)
+    where
+      go : (o : Operation) → length (effectOf o .registers) ≡ length (st .registers)
+      go (plain p) = registers-length p w woken st
+      go nop = refl
+      go (branch b) = refl
+      go unlisted = refl
 
   -- The element of a channel that is not enabled stays as it was.
   pub effect-keeps : refusalOf w ≡ 0 → (p : Plain) → operation w ≡ plain p → isNull w ≡ false → (n : ℕ) → isOn p w woken st n ≡ false
