@@ -1,6 +1,6 @@
 -- A second pass over a kernel's instructions, for any answer to a list of them: what is left of it from where the code's loop stands. Rule 12 goes by it, and
 -- so does the question whether jumps go forward. Assumes nothing.
-use mathlib.Core.Bool.{Bool, true, false, _&&_}
+use mathlib.Core.Bool.{Bool, true, false}
 use mathlib.Core.List.{List, [], _∷_}
 use mathlib.Core.Option.{none, some}
 use mathlib.Core.Path.{_≡_, refl, sym, ap, _∙_}

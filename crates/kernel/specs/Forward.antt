@@ -7,10 +7,10 @@ use lib.Dec.{ltb}
 use lib.IntN.{ℤ, pos, negsuc}
 use Rattle.paper.specs.Dictionary.{Dictionary, dictionaryOf}
 use Rattle.paper.specs.Enable.{digit}
-use Rattle.paper.specs.Kernel.{Instr, Forms, longAndShort, bad, good}
+use Rattle.paper.specs.Kernel.{Instr, Forms, longAndShort}
 use Rattle.paper.specs.Operation.{operation}
 use Rattle.paper.specs.Jump.{Distance, distances, reach, targetsOf}
-use Rattle.paper.specs.Forward.{liesAfter, lieAfter, forward}
+use Rattle.paper.specs.Forward.{lieAfter, forward}
 use Rattle.paper.specs.Calls.{verdict, accepted, forwardAs, forwardCall}
 use Rattle.words.specs.Answer.{answerIs}
 use Rattle.words.specs.declared.answer.Answer.{Answer}

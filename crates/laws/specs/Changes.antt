@@ -3,27 +3,27 @@
 use mathlib.Core.Bool.{Bool, true, false, cond, _&&_, _||_, false≢true}
 use mathlib.Core.List.{List, [], _∷_, map}
 use mathlib.Core.Logic.{_⊎_, inl, inr}
-use mathlib.Core.Option.{some, Option·none-ne-some, Option·some-injective}
-use mathlib.Core.Path.{_≡_, refl, ap, sym, _∙_, subst}
-use Prim.Native.Nat.{ℕ, zero, suc, _+_, _-_, _*_, _<_, _≤_}
+use mathlib.Core.Option.{some}
+use mathlib.Core.Path.{_≡_, refl, ap, sym, _∙_}
+use Prim.Native.Nat.{ℕ, zero, suc, _+_, _-_, _<_, _≤_}
 use native.Mathlib.Omega.{arith}
 use lib.Dec.{eqb, ltb, leb}
 use lib.ListN.{length, getD}
 use borrow.Author.Tests.{eqb-true, eqb-false, leb-true, ltb-true}
 use Rattle.paper.specs.Bits.{bit}
-use Rattle.paper.specs.Word.{weCtrl, qtrCtrl, flagChoice, isNull}
+use Rattle.paper.specs.Word.{weCtrl, flagChoice, isNull}
 use Rattle.paper.specs.Operation.{Plain, Operation, plain, nop, branch, unlisted, operation, traits}
 use Rattle.paper.specs.Region.{channels, dstSize, dstElement}
 use Rattle.paper.specs.Store.{Store}
 use Rattle.paper.specs.Enable.{chosenFlag, channelOf, enabled, flagBit, flagAfter}
-use Rattle.paper.specs.Effect.{isOn, registersAfter, finds, comparedFlag, plainEffect, effect}
+use Rattle.paper.specs.Effect.{isOn, finds, comparedFlag, plainEffect, effect}
 use Rattle.paper.specs.Kernel.{Instr}
 use Rattle.paper.specs.Jump.{fetch}
 use Rattle.paper.specs.Legal.{refusalOf}
 use Rattle.paper.specs.Machine.{Channel, off, awake, waiting, wake, isAwake}
 use Rattle.laws.specs.Masks.{bit-ofBits}
-use Rattle.laws.specs.Places.{At, here, there, at, fetch-here, fetch-there}
-use Rattle.laws.specs.Regions.{LegalPlain, legal-plain}
+use Rattle.laws.specs.Places.{of-fetched}
+use Rattle.laws.specs.Regions.{legal-plain}
 use Rattle.laws.specs.Relay.{Sane, AllSane}
 use Rattle.laws.specs.Scatter.{registers-length, registers-changed, element-kept}
 use Rattle.laws.specs.Truth.{both-true}
@@ -205,10 +205,5 @@ found-awake p (c ∷ cs) (suc m) e = found-awake p cs m e
 
 -- Each instruction of an accepted kernel is a legal word.
 pub sane-at : (k : List Instr) (p : ℕ) (i : Instr) → AllSane k → fetch k p ≡ some i → Sane (i .word)
-unfolding AllSane fetch
-sane-at [] p i a e = absurd (Option·none-ne-some i e)
-sane-at (j ∷ k) p i a e =
-    elim (at j p) [
-      | here h ↦ subst (λ (x : Instr). Sane (x .word)) (Option·some-injective j i (sym (fetch-here j k p h) ∙ e)) (a .0)
-      | there h ↦ sane-at k p i (a .1) (sym (fetch-there j k p h) ∙ e)
-    ]
+unfolding AllSane
+sane-at = of-fetched AllSane (λ i. Sane (i .word)) (λ j k a. a)

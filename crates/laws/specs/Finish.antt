@@ -1,8 +1,8 @@
 -- When a kernel must finish (02 §14): where every jump goes forward, each step leads to an instruction of a higher number, or to the end; and what a step does to
 -- registers and flags. Assumes nothing.
-use mathlib.Core.Bool.{Bool, true, false, not, cond, _&&_, _||_, false≢true}
+use mathlib.Core.Bool.{Bool, true, _&&_, _||_, false≢true}
 use mathlib.Core.List.{List, [], _∷_, map}
-use mathlib.Core.Option.{Option, none, some, Option·none-ne-some, Option·some-ne-none, Option·some-injective}
+use mathlib.Core.Option.{Option, none, some}
 use mathlib.Core.Path.{_≡_, refl, ap, sym, _∙_, subst}
 use Prim.Native.Nat.{ℕ, zero, suc, _+_, _<_, _≤_}
 use native.Mathlib.Omega.{arith}
@@ -16,13 +16,13 @@ use Rattle.paper.specs.Enable.{holds}
 use Rattle.paper.specs.Effect.{plainEffect, effect}
 use Rattle.paper.specs.Kernel.{Instr}
 use Rattle.paper.specs.Jump.{nextOf, distancesOf, distances, reached, targetsOf, placeOf, fetch}
-use Rattle.paper.specs.Forward.{liesAfter, lieAfter, forward}
-use Rattle.paper.specs.Machine.{Channel, State, Ways, wake, isAwake, waitsAt, someone, onward, act, perform, leads, waysOf, stepAt, stepOn, step, stopsOn, stops, Outcome, run}
+use Rattle.paper.specs.Forward.{lieAfter, forward}
+use Rattle.paper.specs.Machine.{Channel, State, Ways, wake, isAwake, waitsAt, someone, onward, act, perform, leads, stepOn, step, stopsOn, stops, Outcome, run}
 use Rattle.paper.specs.Packing.{index}
 use Rattle.laws.specs.Names.{Laid}
-use Rattle.laws.specs.Places.{At, here, there, at, fetch-here, fetch-there, index-le, found, none-length}
+use Rattle.laws.specs.Places.{index-le, found, of-fetched}
 use Rattle.laws.specs.Rename.{cond-at, AtPlaces}
-use Rattle.laws.specs.Runs.{still, orSpent, run-zero, run-stop, run-on, more}
+use Rattle.laws.specs.Runs.{run-zero, run-stop, run-on}
 use Rattle.laws.specs.Forward.{later-number}
 use Rattle.laws.specs.Truth.{both-true}
 
@@ -93,14 +93,10 @@ step-store k s i e = step-leads (λ _. Unit {0}) k s i e tt (everywhere (targets
 
 -- Where every instruction's targets lie after it, those of each that is fetched do.
 forward-at : (k : List Instr) (p : ℕ) (i : Instr) → forward k ≡ true → fetch k p ≡ some i → lieAfter (i .place) (targetsOf i) ≡ true
-unfolding forward fetch
-forward-at [] p i f e = absurd (Option·none-ne-some i e)
-forward-at (j ∷ k) p i f e =
-    let b = both-true (lieAfter (j .place) (targetsOf j)) (forward k) f in
-    elim (at j p) [
-      | here h ↦ subst (λ (x : Instr). lieAfter (x .place) (targetsOf x) ≡ true) (Option·some-injective j i (sym (fetch-here j k p h) ∙ e)) (b .0)
-      | there h ↦ forward-at k p i (b .1) (sym (fetch-there j k p h) ∙ e)
-    ]
+unfolding forward
+forward-at =
+    of-fetched (λ k. forward k ≡ true) (λ i. lieAfter (i .place) (targetsOf i) ≡ true)
+    (λ j k f. both-true (lieAfter (j .place) (targetsOf j)) (forward k) f)
 
 module _ (k : List Instr) (laid : Laid 0 k) where
   -- Targets after an instruction have higher numbers.

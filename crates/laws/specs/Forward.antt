@@ -2,7 +2,7 @@
 use mathlib.Core.Bool.{Bool, true, false, _&&_, false≢true}
 use mathlib.Core.List.{List, [], _∷_, map}
 use mathlib.Core.Path.{_≡_, refl, ap, ap₂, sym, _∙_}
-use Prim.Native.Nat.{ℕ, zero, suc, _+_, _<_, _≤_}
+use Prim.Native.Nat.{ℕ, suc, _+_, _<_, _≤_}
 use native.Mathlib.Omega.{arith}
 use lib.Dec.{ltb, eqb}
 use lib.IntN.{ℤ, pos, negsuc}
@@ -10,10 +10,10 @@ use lib.ListN.{length}
 use borrow.Author.Tests.{eqb-true, eqb-false, ltb-true, ltb-false, lt-ltb, le-ltb}
 use Rattle.paper.specs.Kernel.{Instr}
 use Rattle.paper.specs.Jump.{nextOf, endFrom, jumpLands, targetsLand, targetsOf}
-use Rattle.paper.specs.Forward.{liesAfter, lieAfter, forward}
+use Rattle.paper.specs.Forward.{lieAfter, forward}
 use Rattle.paper.specs.Packing.{index}
 use Rattle.laws.specs.Names.{Laid, AllLand, Sound, goalOf, Line, lineOf, program}
-use Rattle.laws.specs.Places.{At, here, there, at, index-here, index-there, index-le, Names, start-zero, lands-names}
+use Rattle.laws.specs.Places.{here, there, at, index-here, index-there, index-le, Names, lands-names, end-after}
 use Rattle.laws.specs.Truth.{both-true}
 
 -- ---- numbers are in the order of places
@@ -24,15 +24,11 @@ unfolding Laid index endFrom
 inside-between a [] p l h = absurd (omega arith)
 inside-between a (i ∷ k) p l h =
     elim (at i p) [
-      | here e ↦ (omega (arith, l .0), omega (arith, l .1, ends (nextOf i) k (l .2)))
+      | here e ↦ (omega (arith, l .0), omega (arith, l .1, end-after (nextOf i) k (l .2)))
       | there e ↦
           let b = inside-between (nextOf i) k p (l .2) (omega (arith, index-there i k p e)) in
           (omega (arith, l .0, l .1, b .0), b .1)
     ]
-  where
-    ends : (b : ℕ) (r : List Instr) → Laid b r → b ≤ endFrom b r
-    ends b [] l = omega arith
-    ends b (j ∷ r) l = omega (arith, l .0, l .1, ends (nextOf j) r (l .2))
 
 -- An instruction's number is less than that of any later place, be it a start or not.
 pub later-number : (a : ℕ) (k : List Instr) (p q : ℕ) → Laid a k → index k p < length k → p < q → index k p < index k q

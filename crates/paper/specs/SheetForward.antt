@@ -1,7 +1,6 @@
 -- Jumps that go forward, and runs that end at their bound or never: rows worked out from 02 §14 by hand. Assumes nothing.
 use mathlib.Core.List.{List, [], _∷_}
-use Prim.Native.Nat.{ℕ, _+_, _-_, _^_}
-use Rattle.paper.specs.Bits.{_at_}
+use Prim.Native.Nat.{ℕ, _-_, _^_}
 use Rattle.paper.specs.Calls.{forwardCall}
 use Rattle.paper.specs.Assembler.{structuredTo, jmpiTo, nopWord, long, blankDictionary, begin}
 use Rattle.paper.specs.Sheet.{Row, _gives_, shown}

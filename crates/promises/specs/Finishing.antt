@@ -12,7 +12,7 @@ use Rattle.paper.specs.Limits.{budgetLimit}
 use Rattle.paper.specs.Bits.{bit}
 use Rattle.paper.specs.Word.{weCtrl, flagChoice, isNull}
 use Rattle.paper.specs.Operation.{Plain, plain, operation}
-use Rattle.paper.specs.Region.{channels, dstSize, dstElement}
+use Rattle.paper.specs.Region.{dstSize, dstElement}
 use Rattle.paper.specs.Store.{Store}
 use Rattle.paper.specs.Enable.{channelOf, digit}
 use Rattle.paper.specs.Kernel.{Instr, longAndShort, good}

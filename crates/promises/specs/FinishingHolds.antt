@@ -3,27 +3,25 @@ use mathlib.Core.Bool.{Bool, true, false}
 use mathlib.Core.List.{List, map}
 use mathlib.Core.Option.{Option, none, some, Option·some-ne-none}
 use mathlib.Core.Path.{_≡_, refl, sym, ap, _∙_, subst}
-use Prim.Native.Nat.{ℕ, zero, suc, _+_, _-_, _<_, _≤_}
+use Prim.Native.Nat.{ℕ, zero, suc, _-_, _<_, _≤_}
 use native.Mathlib.Omega.{arith}
 use lib.ListN.{length, getD, length-map}
 use lib.Pow.{areBytes}
-use Rattle.paper.specs.Limits.{registerBytes, budgetLimit}
+use Rattle.paper.specs.Limits.{budgetLimit}
 use Rattle.paper.specs.Bits.{bit}
 use Rattle.paper.specs.Dictionary.{dictionaryOf}
 use Rattle.paper.specs.Shorten.{shorten}
-use Rattle.paper.specs.Word.{weCtrl, isNull}
-use Rattle.paper.specs.Operation.{Plain, plain, operation}
-use Rattle.paper.specs.Region.{dstSize, dstElement}
+use Rattle.paper.specs.Word.{weCtrl}
+use Rattle.paper.specs.Operation.{Plain}
 use Rattle.paper.specs.Store.{Store}
-use Rattle.paper.specs.Enable.{channelOf, digit, enabled}
+use Rattle.paper.specs.Enable.{channelOf, digit}
 use Rattle.paper.specs.Effect.{isOn, effect}
 use Rattle.paper.specs.Kernel.{Instr, longAndShort, longOnly, Parsed, bad, good}
 use Rattle.paper.specs.Jump.{fetch}
 use Rattle.paper.specs.Forward.{forward}
-use Rattle.paper.specs.Machine.{State, wake, isAwake, stopsOn, stops, step, Outcome, run}
+use Rattle.paper.specs.Machine.{State, wake, isAwake, stopsOn, step}
 use Rattle.paper.specs.State.{half, channelsIn, stateOf}
-use Rattle.paper.specs.Packing.{index}
-use Rattle.paper.specs.Calls.{Answer, verdict, asNumber, accepted, checkedAs, checkCall, forwardAs, forwardCall, Changed, stepCall, numberOf, offsetOf, countOf}
+use Rattle.paper.specs.Calls.{verdict, asNumber, accepted, checkedAs, checkCall, forwardAs, forwardCall, numberOf, offsetOf, countOf}
 use Rattle.laws.specs.Names.{lineOf, program, relaidBy, longForm}
 use Rattle.laws.specs.Places.{found}
 use Rattle.laws.specs.Forward.{forward-same}
@@ -32,7 +30,7 @@ use Rattle.laws.specs.Changes.{Writes, effect-writes, effect-length, effect-kee
 use Rattle.laws.specs.Packing.{kernel-of, long-accepted, packed-accepted, packed-program, unpacked-accepted, unpacked-program}
 use Rattle.contracts.specs.Contracts.{numberIn, offsetIn, countIn, CheckPromise, ForwardPromise, PackPromise, UnpackPromise, StepPromise, RunPromise}
 use Rattle.contracts.specs.OneOutcomeHolds.{one-outcome}
-use Rattle.promises.specs.Promises.{result, Steps, nothing, onward, Begun, Legal}
+use Rattle.promises.specs.Promises.{result, Steps, nothing, onward, Legal}
 use Rattle.promises.specs.Finishing.{Ahead, Ends, EndsFromStart, Up, wokenIn, storeIn, Stepped, Finishing}
 use Rattle.promises.specs.OutcomesHold.{answers}
 use Rattle.promises.specs.PackingHolds.{Relaid, check-counts, pack-wrote, unpack-wrote, relaid-bytes}
