@@ -51,7 +51,7 @@ extern "C" {
 /* An answer is one number; these take it apart.
  *   NUMBER  a verdict or a refusal, below
  *   OFFSET  of a refused instruction, in bytes from the kernel's start; 0 for 1, 2, 13 to 16, decode's 3 at or past the end, and every verdict
- *   COUNT   instructions (check); bytes of the result (pack, unpack, shorten, expand) or of the instruction (decode); steps made (run);
+ *   COUNT   instructions (check); 1 or 0 (forward); bytes of the result (pack, unpack, shorten, expand) or of the instruction (decode); steps made (run);
  *           0 for start, step and every refusal */
 #define SPOKESHAVER_NUMBER(answer) ((unsigned)((uint64_t)(answer) & 0xFF))
 #define SPOKESHAVER_OFFSET(answer) ((uint32_t)((uint64_t)(answer) >> 8 & 0xFFFFFF))
@@ -84,6 +84,11 @@ extern "C" {
 /* Is the kernel accepted? ACCEPTED with its instructions as count; or 1, 2, 3 to 12, 17. */
 uint64_t spokeshaver_check(const uint8_t *dictionary, size_t dictionary_len, const uint8_t *kernel, size_t kernel_len);
 
+/* Is the kernel accepted, and does every jump go forward? ACCEPTED with count 1 if every target lies after its branch, with 0 if one does not; or what check
+ * refuses. With count 1 every run from a start, whatever the registers, flags and mask, with a budget from the kernel's instructions to 1,000,000 gives ENDED,
+ * within as many steps as there are instructions; and so it is with the packed kernel, of which this call answers the same. */
+uint64_t spokeshaver_forward(const uint8_t *dictionary, size_t dictionary_len, const uint8_t *kernel, size_t kernel_len);
+
 /* Packs a kernel of long words: each that can be is shortened, each jump still reaches the same instruction. The result stands at the front of `out`;
  * kernel_len bytes are always enough for it. ACCEPTED with the result's bytes as count; or what check refuses (but 1 for 4,097 long words, which are too many
  * bytes), 5 for a short word, 14. */
@@ -112,7 +117,8 @@ uint64_t spokeshaver_step(const uint8_t *dictionary, size_t dictionary_len, cons
                           uint8_t *registers, size_t registers_len, uint8_t *state, size_t state_len);
 
 /* Judges the kernel and the state once, then makes the budget's steps unless the end comes first. ENDED or SPENT with the steps made as count; or
- * what check refuses, 15, 16. After SPENT a further run goes on where this one stopped. */
+ * what check refuses, 15, 16. After SPENT a further run goes on where this one stopped. If a run of at least one step gives SPENT and leaves registers and state
+ * as they were, no run from there ever ends. */
 uint64_t spokeshaver_run(const uint8_t *dictionary, size_t dictionary_len, const uint8_t *kernel, size_t kernel_len, uint64_t budget,
                          uint8_t *registers, size_t registers_len, uint8_t *state, size_t state_len);
 

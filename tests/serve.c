@@ -69,6 +69,7 @@ static uint64_t call(const uint64_t *number) {
     case 6: return spokeshaver_start((uint16_t)number[FIRST], (uint16_t)number[SECOND], (uint16_t)number[THIRD], state, s);
     case 7: return spokeshaver_step(dictionary, d, kernel, k, out, o, state, s);
     case 8: return spokeshaver_run(dictionary, d, kernel, k, number[FIRST], out, o, state, s);
+    case 9: return spokeshaver_forward(dictionary, d, kernel, k);
     default: return UINT64_MAX;
     }
 }

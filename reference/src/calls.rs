@@ -1,4 +1,4 @@
-//! The nine calls of the C boundary, on slices (include/spokeshaver.h tells them for C).
+//! The calls of the C boundary, on slices (include/spokeshaver.h tells them for C).
 //! Every call judges in the table's order, writes only when nothing refuses, and gives the
 //! packed answer.
 
@@ -36,6 +36,16 @@ pub fn check(dictionary: &[u8], kernel: &[u8]) -> u64 {
 fn check_outcome(dictionary: &[u8], kernel: &[u8]) -> Outcome {
     let (_, program) = judged_kernel(dictionary, kernel, Accepts::LongAndShort)?;
     Ok((ACCEPTED, program.instructions.len()))
+}
+
+/// Judges a kernel as check does. The count is 1 if every jump goes forward, else 0.
+pub fn forward(dictionary: &[u8], kernel: &[u8]) -> u64 {
+    answer(forward_outcome(dictionary, kernel))
+}
+
+fn forward_outcome(dictionary: &[u8], kernel: &[u8]) -> Outcome {
+    let (_, program) = judged_kernel(dictionary, kernel, Accepts::LongAndShort)?;
+    Ok((ACCEPTED, usize::from(program.goes_forward())))
 }
 
 /// Packs a kernel of long words. The count is the result's bytes.

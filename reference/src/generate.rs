@@ -9,10 +9,11 @@ mod instructions;
 mod kernels;
 mod states;
 
+use crate::answers::Answer;
 use crate::calls;
 use std::collections::BTreeSet;
 
-pub use cases::case;
+pub use cases::{case, CALLS};
 
 /// One call with all its inputs. Vectors that the call may write are lent as they stand here.
 #[derive(Clone, PartialEq, Eq, Debug)]
@@ -23,7 +24,7 @@ pub struct Case {
     pub call: Call,
 }
 
-/// The nine calls.
+/// The calls.
 #[derive(Clone, PartialEq, Eq, Debug)]
 pub enum Call {
     Check { kernel: Vec<u8> },
@@ -35,6 +36,7 @@ pub enum Call {
     Start { mask: u16, flag0: u16, flag1: u16, state: Vec<u8> },
     Step { kernel: Vec<u8>, registers: Vec<u8>, state: Vec<u8> },
     Run { kernel: Vec<u8>, budget: u64, registers: Vec<u8>, state: Vec<u8> },
+    Forward { kernel: Vec<u8> },
 }
 
 impl Call {
@@ -49,6 +51,7 @@ impl Call {
             Call::Start { .. } => "start",
             Call::Step { .. } => "step",
             Call::Run { .. } => "run",
+            Call::Forward { .. } => "forward",
         }
     }
 }
@@ -89,6 +92,7 @@ impl Bench for Reference {
             Call::Run { kernel, budget, .. } => {
                 calls::run(dictionary, kernel, *budget, registers, state)
             }
+            Call::Forward { kernel } => calls::forward(dictionary, kernel),
         }
     }
 }
@@ -113,18 +117,30 @@ pub fn lent(case: &Case) -> Outcome {
             before.registers = registers.clone();
             before.state = state.clone();
         }
-        Call::Check { .. } | Call::Decode { .. } => {}
+        Call::Check { .. } | Call::Decode { .. } | Call::Forward { .. } => {}
     }
     before
 }
 
-/// The numbers that a call can answer at all, by its name. Packing never answers 17: as many
+/// The name under which an answer is counted: the call's, and `ahead` where forward counts 1.
+pub fn counted_as(case: &Case, answer: u64) -> &'static str {
+    match case.call {
+        Call::Forward { .. } if Answer::of(answer).count == 1 => "ahead",
+        _ => case.call.name(),
+    }
+}
+
+/// How many names answers are counted under.
+pub const NAMES: usize = CALLS as usize + 1;
+
+/// The numbers that can come up at all, by the name under which they are counted. Packing never answers 17: as many
 /// long words as a kernel may have fill its bytes, so one more is 1 already.
 pub fn possible(name: &str) -> BTreeSet<u8> {
     let kernel = [1, 2, 3, 4, 5, 6, 7, 8, 9, 10, 11, 12];
     let with = |more: &[u8]| kernel.iter().chain(more).copied().collect();
     match name {
-        "check" => with(&[0, 17]),
+        "check" | "forward" => with(&[0, 17]),
+        "ahead" => [0].into(),
         "pack" => with(&[0, 14]),
         "unpack" => with(&[0, 14, 17]),
         "shorten" => [0, 1, 2, 4, 5, 13, 14].into(),

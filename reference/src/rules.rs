@@ -76,6 +76,14 @@ impl Program {
         self.instructions.get(number).map_or(self.end, |instruction| instruction.place)
     }
 
+    /// Whether every jump goes forward: its target lies after the branch itself (02 §14).
+    pub fn goes_forward(&self) -> bool {
+        self.instructions.iter().all(|instruction| {
+            let target = instruction.target_place();
+            target.is_none_or(|target| target > instruction.place as i64)
+        })
+    }
+
     /// Whether an instruction starts at the place, or it is the end.
     pub fn is_start_or_end(&self, place: usize) -> bool {
         place == self.end || self.index_of(place).is_some()

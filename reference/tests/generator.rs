@@ -5,7 +5,7 @@ use spokeshaver_reference::answers::Answer;
 use spokeshaver_reference::calls;
 use spokeshaver_reference::dictionary::{Dictionary, DICTIONARY_BYTES};
 use spokeshaver_reference::generate::{
-    case, lent, perform, possible, Call, Case, Outcome, Reference,
+    case, counted_as, lent, perform, possible, Call, Case, Outcome, Reference, CALLS, NAMES,
 };
 use spokeshaver_reference::operations::{Operation, BRANCHES};
 use spokeshaver_reference::rules::{
@@ -14,7 +14,7 @@ use spokeshaver_reference::rules::{
 use spokeshaver_reference::state::State;
 use std::collections::{BTreeMap, BTreeSet};
 
-const SEEDS: u64 = 27_000;
+const SEEDS: u64 = 3_000 * CALLS;
 
 fn outcome(case: &Case) -> Outcome {
     perform(case, &mut Reference)
@@ -25,10 +25,11 @@ fn every_answer_comes_up_and_no_other() {
     let mut seen: BTreeMap<&str, BTreeMap<u8, usize>> = BTreeMap::new();
     for seed in 0..SEEDS {
         let case = case(seed);
-        let number = Answer::of(outcome(&case).answer).number;
-        *seen.entry(case.call.name()).or_default().entry(number).or_default() += 1;
+        let answer = outcome(&case).answer;
+        let number = Answer::of(answer).number;
+        *seen.entry(counted_as(&case, answer)).or_default().entry(number).or_default() += 1;
     }
-    assert_eq!(seen.len(), 9);
+    assert_eq!(seen.len(), NAMES);
     for (name, numbers) in &seen {
         println!("{name}: {numbers:?}");
         let found: BTreeSet<u8> = numbers.keys().copied().collect();
@@ -74,7 +75,7 @@ fn cases_depend_on_the_seed_alone() {
 /// The state must equal that many single steps, whichever way they are made.
 #[test]
 fn runs_are_so_many_steps() {
-    for seed in (8..SEEDS).step_by(9) {
+    for seed in (8..SEEDS).step_by(CALLS as usize) {
         let case = case(seed);
         let Call::Run { kernel, registers, state, .. } = &case.call else { continue };
         let after = outcome(&case);
@@ -111,7 +112,7 @@ fn stepped(case: &Case) -> Option<(Instruction, State)> {
 #[test]
 fn masked_compares_of_set_flags_come_up() {
     let mut seen: BTreeMap<(&str, u32, u32), usize> = BTreeMap::new();
-    let cases = (7..SEEDS).step_by(9).filter_map(|seed| stepped(&case(seed)));
+    let cases = (7..SEEDS).step_by(CALLS as usize).filter_map(|seed| stepped(&case(seed)));
     for (instruction, state) in cases.filter(|(made, _)| made.operation == Operation::Cmp) {
         let word = instruction.word;
         let (quarter, choice) = (word.quarter_control(), word.flag_choice());
@@ -134,6 +135,7 @@ fn masked_compares_of_set_flags_come_up() {
 fn kernel_of(case: &Case) -> Option<&[u8]> {
     match &case.call {
         Call::Check { kernel } | Call::Decode { kernel, .. } => Some(kernel),
+        Call::Forward { kernel } => Some(kernel),
         Call::Pack { kernel, .. } | Call::Unpack { kernel, .. } => Some(kernel),
         Call::Step { kernel, .. } | Call::Run { kernel, .. } => Some(kernel),
         _ => None,
@@ -145,7 +147,7 @@ fn kernel_of(case: &Case) -> Option<&[u8]> {
 #[test]
 fn votes_come_up() {
     let mut seen: BTreeSet<(u32, Operation, u32, u32)> = BTreeSet::new();
-    for case in (8..SEEDS).step_by(9).map(case) {
+    for case in (8..SEEDS).step_by(CALLS as usize).map(case) {
         if Answer::of(outcome(&case).answer).number < 20 {
             continue;
         }
@@ -175,7 +177,7 @@ fn votes_come_up() {
 #[test]
 fn groups_that_differ_come_up() {
     let mut seen: BTreeSet<(u32, bool)> = BTreeSet::new();
-    let cases = (7..2 * SEEDS).step_by(9).filter_map(|seed| stepped(&case(seed)));
+    let cases = (7..2 * SEEDS).step_by(CALLS as usize).filter_map(|seed| stepped(&case(seed)));
     for (instruction, state) in cases {
         let word = instruction.word;
         let control = word.predicate_control();
@@ -230,7 +232,7 @@ fn refused_votes_come_up() {
 /// Packing and unpacking again gives the first kernel back.
 #[test]
 fn packing_and_back() {
-    for seed in (1..SEEDS).step_by(9) {
+    for seed in (1..SEEDS).step_by(CALLS as usize) {
         let case = case(seed);
         let Call::Pack { kernel, .. } = &case.call else { continue };
         let after = outcome(&case);
@@ -260,7 +262,7 @@ fn judged_kernel_of(case: &Case) -> Option<&[u8]> {
 #[test]
 fn the_limits_come_up() {
     let (mut counts, mut lengths, mut jumps) = (BTreeSet::new(), BTreeSet::new(), BTreeSet::new());
-    for case in (0..SEEDS).filter(|seed| seed % 9 < 3).map(case) {
+    for case in (0..SEEDS).filter(|seed| seed % CALLS < 3).map(case) {
         let Some(kernel) = judged_kernel_of(&case) else { continue };
         lengths.insert(kernel.len());
         if case.dictionary.len() != DICTIONARY_BYTES || kernel.len() > KERNEL_BYTES {

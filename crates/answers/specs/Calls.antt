@@ -18,16 +18,19 @@ use Rattle.paper.specs.Operation.{operation, isListed, isBranch}
 use Rattle.paper.specs.Kernel.{Instr, longAndShort, longOnly, Judged, refused, passed, judgeAt, Parsed, bad, good}
 use Rattle.paper.specs.Machine.{State, step, stops, stopsOn, run}
 use Rattle.paper.specs.Jump.{fetch}
+use Rattle.paper.specs.Forward.{forward}
+use Rattle.paper.specs.Enable.{digit}
 use Rattle.paper.specs.State.{stateOf, stateLegal}
 use Rattle.paper.specs.Packing.{Form, relay}
-use Rattle.paper.specs.Calls.{Answer, verdict, refusal, numberOf, Written, deliver, sized, accepted, judgedKernel, checkedAs, checkCall, relaid, packCall, unpackCall}
+use Rattle.paper.specs.Calls.{Answer, verdict, refusal, numberOf, Written, deliver, sized, accepted, judgedKernel, checkedAs, checkCall, forwardAs, forwardCall, relaid, packCall, unpackCall}
 use Rattle.paper.specs.Calls.{oneWord, shortened, shortenCall, expandCall, judgedAs, decodeAt, decodedAs, decodeCall, startCall}
 use Rattle.paper.specs.Calls.{Changed, allSized, onState, steppedAs, stepCall, ranAs, runCall}
 use Rattle.laws.specs.Bytes.{length-bytesOf}
 use Rattle.laws.specs.Relay.{relay-length, newEnd-near}
 use Rattle.laws.specs.Runs.{ran}
 use Rattle.laws.specs.Calls.{run-verdict}
-use Rattle.answers.specs.Numbers.{oneTo, checkNumbers, packNumbers, unpackNumbers, shortenNumbers, expandNumbers, decodeNumbers, startNumbers, stepNumbers, runNumbers}
+use Rattle.laws.specs.Masks.{digit-less}
+use Rattle.answers.specs.Numbers.{oneTo, checkNumbers, forwardNumbers, packNumbers, unpackNumbers, shortenNumbers, expandNumbers, decodeNumbers, startNumbers, stepNumbers, runNumbers}
 use Rattle.answers.specs.Small.{Small, small-refusal, small-verdict}
 use Rattle.answers.specs.Judging.{Modest, modest-number, modest-above, modest-size, judged-modest}
 use Rattle.answers.specs.Kernels.{KernelNo, Near, near-refused, near-number, near-few, near-more, sized-most, judged-near, accepted-near, Few, few-number, long-few}
@@ -82,6 +85,17 @@ check-fine dictionary kernel = go (accepted longAndShort dictionary kernel) (acc
     go : (q : Parsed) → Near kernelBytes instructionLimit q → Fine checkNumbers (checkedAs q)
     go (bad number offset) h = fine-bad (λ n. eqb n 0 || eqb n 17) number offset (λ _. refl) h
     go (good k) h = let f = near-few kernelBytes instructionLimit k h in fine-told checkNumbers 0 (length k) refl (omega arith) (omega arith)
+
+-- ---- forward
+
+-- The count is 0 or 1.
+pub forward-fine : (dictionary kernel : List ℕ) → Fine forwardNumbers (forwardCall dictionary kernel)
+unfolding forwardCall
+forward-fine dictionary kernel = go (accepted longAndShort dictionary kernel) (accepted-near longAndShort dictionary kernel)
+  where
+    go : (q : Parsed) → Near kernelBytes instructionLimit q → Fine forwardNumbers (forwardAs q)
+    go (bad number offset) h = fine-bad (λ n. eqb n 0 || eqb n 17) number offset (λ _. refl) h
+    go (good k) h = fine-told forwardNumbers 0 (digit (forward k)) refl (omega arith) (omega (arith, digit-less (forward k)))
 
 -- ---- results
 

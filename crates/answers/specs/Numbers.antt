@@ -11,6 +11,10 @@ oneTo m n = leb 1 n && leb n m
 abbrev pub checkNumbers : ℕ → Bool
 checkNumbers n = oneTo 12 n || (eqb n 0 || eqb n 17)
 
+-- Forward: what check answers.
+abbrev pub forwardNumbers : ℕ → Bool
+forwardNumbers n = checkNumbers n
+
 -- Pack: 14 too, and never 17: one long word too many is too many bytes, which is 1.
 abbrev pub packNumbers : ℕ → Bool
 packNumbers n = oneTo 12 n || (eqb n 0 || eqb n 14)

@@ -3,13 +3,15 @@
 use mathlib.Core.List.{List}
 use mathlib.Core.Path.{_≡_}
 use Prim.Native.Nat.{ℕ}
-use Rattle.paper.specs.Calls.{checkCall, packCall, unpackCall, shortenCall, expandCall, decodeCall, startCall, stepCall, runCall}
+use Rattle.paper.specs.Calls.{checkCall, forwardCall, packCall, unpackCall, shortenCall, expandCall, decodeCall, startCall, stepCall, runCall}
 use Rattle.words.specs.declared.answer.Answer.{Answer}
 use Rattle.words.specs.Answer.{answerIs, Wrote, Left, one-answer, one-written, one-changed}
 
--- `check`, `pack`, `unpack`, `shorten_word`, `expand_word`, `decode_size`, `start`, `step` and `run`.
+-- `check`, `forward`, `pack`, `unpack`, `shorten_word`, `expand_word`, `decode_size`, `start`, `step` and `run`.
 pub record OneAnswer : Type 0 where
   pub check : (dictionary kernel : List ℕ) (r s : Answer) → answerIs r ≡ checkCall dictionary kernel → answerIs s ≡ checkCall dictionary kernel → r ≡ s
+  pub forward : (dictionary kernel : List ℕ) (r s : Answer)
+      → answerIs r ≡ forwardCall dictionary kernel → answerIs s ≡ forwardCall dictionary kernel → r ≡ s
   pub pack : (dictionary kernel out : List ℕ) (r s : Answer) (out′ out″ : List ℕ)
       → Wrote (packCall dictionary kernel out) r out′ → Wrote (packCall dictionary kernel out) s out″ → (r ≡ s) × (out′ ≡ out″)
   pub unpack : (dictionary kernel out : List ℕ) (r s : Answer) (out′ out″ : List ℕ)
@@ -33,6 +35,7 @@ pub one-outcome : OneAnswer
 one-outcome =
     record {
       check = λ dictionary kernel. one-answer (checkCall dictionary kernel);
+      forward = λ dictionary kernel. one-answer (forwardCall dictionary kernel);
       pack = λ dictionary kernel out. one-written (packCall dictionary kernel out);
       unpack = λ dictionary kernel out. one-written (unpackCall dictionary kernel out);
       shorten = λ dictionary word out. one-written (shortenCall dictionary word out);

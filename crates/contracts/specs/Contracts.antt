@@ -4,7 +4,7 @@
 use mathlib.Core.Path.{_≡_}
 use mathlib.Core.List.{List}
 use Prim.Native.Nat.{ℕ, _/_, _%_, _^_}
-use Rattle.paper.specs.Calls.{asNumber, Written, Changed, checkCall, packCall, unpackCall, shortenCall, expandCall, decodeCall, startCall, stepCall, runCall}
+use Rattle.paper.specs.Calls.{asNumber, Written, Changed, checkCall, forwardCall, packCall, unpackCall, shortenCall, expandCall, decodeCall, startCall, stepCall, runCall}
 
 -- ---- an answer taken apart, as the header's macros do
 
@@ -30,10 +30,13 @@ Wrote w r out′ = (r ≡ asNumber (w .answer)) × (out′ ≡ w .output)
 abbrev pub Left : Changed → ℕ → List ℕ → List ℕ → Type 0
 Left c r registers′ state′ = (r ≡ asNumber (c .answer)) × (registers′ ≡ c .registers) × (state′ ≡ c .state)
 
--- ---- the nine calls
+-- ---- the ten calls
 
 abbrev pub CheckPromise : List ℕ → List ℕ → ℕ → Type 0
 CheckPromise dictionary kernel r = r ≡ asNumber (checkCall dictionary kernel)
+
+abbrev pub ForwardPromise : List ℕ → List ℕ → ℕ → Type 0
+ForwardPromise dictionary kernel r = r ≡ asNumber (forwardCall dictionary kernel)
 
 abbrev pub PackPromise : List ℕ → List ℕ → List ℕ → ℕ → List ℕ → Type 0
 PackPromise dictionary kernel out r out′ = Wrote (packCall dictionary kernel out) r out′

@@ -3,12 +3,13 @@
 use mathlib.Core.List.{List}
 use mathlib.Core.Path.{_≡_}
 use Prim.Native.Nat.{ℕ}
-use Rattle.contracts.specs.Contracts.{CheckPromise, PackPromise, UnpackPromise, ShortenPromise, ExpandPromise}
+use Rattle.contracts.specs.Contracts.{CheckPromise, ForwardPromise, PackPromise, UnpackPromise, ShortenPromise, ExpandPromise}
 use Rattle.contracts.specs.Contracts.{DecodePromise, StartPromise, StepPromise, RunPromise}
 
 -- The contract of each call admits one outcome only: one answer, and one final content of each buffer that is lent for writing.
 pub record OneOutcome : Type 0 where
   pub check : (dictionary kernel : List ℕ) (r s : ℕ) → CheckPromise dictionary kernel r → CheckPromise dictionary kernel s → r ≡ s
+  pub forward : (dictionary kernel : List ℕ) (r s : ℕ) → ForwardPromise dictionary kernel r → ForwardPromise dictionary kernel s → r ≡ s
   pub pack : (dictionary kernel out : List ℕ) (r s : ℕ) (out′ out″ : List ℕ)
       → PackPromise dictionary kernel out r out′ → PackPromise dictionary kernel out s out″ → (r ≡ s) × (out′ ≡ out″)
   pub unpack : (dictionary kernel out : List ℕ) (r s : ℕ) (out′ out″ : List ℕ)

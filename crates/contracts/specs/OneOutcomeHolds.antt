@@ -18,6 +18,7 @@ pub one-outcome : OneOutcome
 one-outcome =
     record {
       check = λ dictionary kernel r s p q. p ∙ sym q;
+      forward = λ dictionary kernel r s p q. p ∙ sym q;
       pack = λ dictionary kernel out. one-written (packCall dictionary kernel out);
       unpack = λ dictionary kernel out. one-written (unpackCall dictionary kernel out);
       shorten = λ dictionary word out. one-written (shortenCall dictionary word out);

@@ -1,6 +1,6 @@
 -- What the code writes and what flag it leaves are the paper's effect. Assumes nothing.
 use mathlib.Core.Path.{_≡_, refl, sym, ap, ap₂, _∙_, subst}
-use mathlib.Core.Bool.{Bool, true, false, cond, false≢true}
+use mathlib.Core.Bool.{Bool, true, false, cond}
 use mathlib.Core.List.{List}
 use Prim.Native.Nat.{ℕ, _%_, _^_, _<_}
 use lib.ListN.{getD}
@@ -12,6 +12,7 @@ use Rattle.paper.specs.Word.{isNull}
 use Rattle.paper.specs.Store.{Store}
 use Rattle.paper.specs.Enable.{chosenFlag, channelOf, flagAfter}
 use Rattle.paper.specs.Effect.{scattered, channelStores, isOn, registersAfter, finds, comparedFlag, plainEffect, withFlag, effect}
+use Rattle.laws.specs.Changes.{only-cmp}
 use Rattle.laws.specs.Regions.{LegalPlain}
 use Rattle.laws.specs.Values.{size-patterns}
 use Rattle.laws.specs.Scatter.{scattered-same}
@@ -46,22 +47,6 @@ effect-plain : (p : Plain) (w : ℕ) (awake : List Bool) (st : Store) → operat
 unfolding effect
 effect-plain p w awake st o =
     ap (λ (q : Operation). elim q [ plain p ↦ plainEffect p w awake st | nop ↦ st | branch b ↦ st | unlisted ↦ st ]) o
-
--- Only cmp compares.
-only-cmp : (p : Plain) → traits p .compares ≡ true → p ≡ Plain.cmp
-only-cmp Plain.mov e = absurd (false≢true e)
-only-cmp Plain.sel e = absurd (false≢true e)
-only-cmp Plain.not e = absurd (false≢true e)
-only-cmp Plain.and e = absurd (false≢true e)
-only-cmp Plain.or e = absurd (false≢true e)
-only-cmp Plain.xor e = absurd (false≢true e)
-only-cmp Plain.shr e = absurd (false≢true e)
-only-cmp Plain.shl e = absurd (false≢true e)
-only-cmp Plain.asr e = absurd (false≢true e)
-only-cmp Plain.cmp e = refl
-only-cmp Plain.add e = absurd (false≢true e)
-only-cmp Plain.mul e = absurd (false≢true e)
-only-cmp Plain.avg e = absurd (false≢true e)
 
 -- What an instruction's channels have made, by the mask that its predicate makes.
 abbrev pub MadeOf : Plain → ℕ → Store → List ℕ → Type 0

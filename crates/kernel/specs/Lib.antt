@@ -5,3 +5,4 @@ pub mod Marks
 pub mod Jumps
 pub mod Accepting
 pub mod Answers
+pub mod Forward

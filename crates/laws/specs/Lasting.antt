@@ -22,7 +22,7 @@ use Rattle.laws.specs.Masks.{ofBits-less}
 use Rattle.laws.specs.Scatter.{registers-length}
 use Rattle.laws.specs.Names.{Laid, Sound}
 use Rattle.laws.specs.Rename.{cond-at, AtChannel, AtChannels, AtState}
-use Rattle.laws.specs.Places.{At, here, there, at, fetch-here, fetch-there, Names, none-length, lands-names}
+use Rattle.laws.specs.Places.{At, here, there, at, fetch-here, fetch-there, Names, none-length, lands-names, end-after}
 use Rattle.laws.specs.Runs.{iterate, ran}
 use Rattle.laws.specs.Same.{step-names, state-names}
 use Rattle.laws.specs.StateBytes.{Storable}
@@ -49,11 +49,6 @@ pub state-lands : (k : List Instr) (s : State) → AtState (Names k) s → state
 state-lands k s v = rw (names-lands k (s .place) (v .current)) (waits-land k (s .channels) (v .waits))
 
 -- No place of a kernel lies past its end.
-end-after : (a : ℕ) (k : List Instr) → Laid a k → a ≤ endFrom a k
-unfolding Laid endFrom
-end-after a [] l = omega arith
-end-after a (i ∷ k) l = omega (arith, l .0, l .1, end-after (nextOf i) k (l .2))
-
 fetch-before : (a : ℕ) (k : List Instr) (p : ℕ) (i : Instr) → Laid a k → fetch k p ≡ some i → p ≤ endFrom a k
 unfolding Laid endFrom fetch
 fetch-before a [] p i l e = absurd (Option·none-ne-some i e)

@@ -13,6 +13,8 @@ pub mod Places
 pub mod Runs
 pub mod Moved
 pub mod Same
+pub mod Forward
+pub mod Finish
 pub mod Back
 pub mod Bytes
 pub mod Walk
@@ -32,6 +34,7 @@ pub mod Halfwords
 pub mod StateBytes
 pub mod Calls
 pub mod Lasting
+pub mod Changes
 pub mod KeptFlags
 pub mod Longer
 pub mod Demands

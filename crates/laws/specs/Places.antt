@@ -183,15 +183,27 @@ lands-names k l p e = go (fetch k p) refl
 pub next-names : (k : List Instr) (p : ℕ) (i : Instr) → Found 0 k p i → Names k (nextOf i)
 next-names k p i f = record { last = f .last }
 
+-- What Q of some instructions says of each, P, it says of the one that starts at a place.
+pub of-fetched : (Q : List Instr → Type 0) (P : Instr → Type 0) → ((j : Instr) (r : List Instr) → Q (j ∷ r) → P j × Q r)
+    → (r : List Instr) (p : ℕ) (i : Instr) → Q r → fetch r p ≡ some i → P i
+unfolding fetch
+of-fetched Q P each [] p i q e = absurd (Option·none-ne-some i e)
+of-fetched Q P each (j ∷ r) p i q e =
+    elim (at j p) [
+      | here h ↦ subst P (Option·some-injective j i (sym (fetch-here j r p h) ∙ e)) (each j r q .0)
+      | there h ↦ of-fetched Q P each r p i (each j r q .1) (sym (fetch-there j r p h) ∙ e)
+    ]
+
 -- Each instruction that starts at some place has targets that land, if all have.
 pub jump-lands : (k r : List Instr) (p : ℕ) (i : Instr) → AllLand k r → fetch r p ≡ some i → targetsLand k (targetsOf i) ≡ true
-unfolding AllLand fetch
-jump-lands k [] p i l e = absurd (Option·none-ne-some i e)
-jump-lands k (j ∷ r) p i l e =
-    elim (at j p) [
-      | here h ↦ subst (λ x. targetsLand k (targetsOf x) ≡ true) (Option·some-injective j i (sym (fetch-here j r p h) ∙ e)) (l .0)
-      | there h ↦ jump-lands k r p i (l .1) (sym (fetch-there j r p h) ∙ e)
-    ]
+unfolding AllLand
+jump-lands k = of-fetched (AllLand k) (λ i. targetsLand k (targetsOf i) ≡ true) (λ j r l. l)
+
+-- A kernel ends no earlier than it begins.
+pub end-after : (a : ℕ) (k : List Instr) → Laid a k → a ≤ endFrom a k
+unfolding Laid endFrom
+end-after a [] l = omega arith
+end-after a (i ∷ k) l = omega (arith, l .0, l .1, end-after (nextOf i) k (l .2))
 
 -- Place 0 is the first instruction's, or the end of a kernel of none.
 pub zero-lands : (k : List Instr) → Laid 0 k → lands k 0 ≡ true

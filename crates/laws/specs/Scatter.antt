@@ -1,20 +1,21 @@
 -- Storing into a list of bytes: what a store keeps, what it changes, what is read back; and the same of one element for each enabled channel.
 -- Assumes nothing.
 use mathlib.Core.Path.{_≡_, refl, ap, ap₂, _∙_, sym, subst}
-use mathlib.Core.Bool.{Bool, true, false, cond}
+use mathlib.Core.Bool.{Bool, true, false, cond, _&&_, false≢true}
 use mathlib.Core.List.{List, [], _∷_}
 use mathlib.Core.Logic.{⊎-elim}
 use Prim.Native.Nat.{ℕ, zero, suc, _+_, _*_, _/_, _%_, _^_, _≤_, _<_}
 use native.Mathlib.Omega.{arith}
 use native.Mathlib.Nat.{add-zero, add-suc, suc-add, pow-suc, mod-one, mod-eq-of-lt, eq-or-lt-of-le, le-of-suc-le-suc}
 use native.Mathlib.Numerals.{add-one}
-use lib.Dec.{eqb, lit<}
+use lib.Dec.{eqb, ltb, leb, lit<}
 use lib.Arith.{mod-mul}
 use lib.ListN.{length, getD, set, length-set}
 use lib.Seq.{set-getD, getD-set-same, getD-set-other, drop-nil}
+use borrow.Author.Tests.{leb-true, ltb-true, ltb-false, le-leb, lt-ltb}
 use Rattle.paper.specs.Bits.{number, numberAt, putAt}
 use Rattle.paper.specs.Limits.{registerBytes}
-use Rattle.paper.specs.Word.{condModifier, dstType, saturate}
+use Rattle.paper.specs.Word.{condModifier, dstType, dstStride, saturate}
 use Rattle.paper.specs.Operation.{Plain}
 use Rattle.paper.specs.Region.{channels, dstSize, dstElement}
 use Rattle.paper.specs.Word.{isNull}
@@ -23,6 +24,7 @@ use Rattle.paper.specs.Enable.{channelOf, holds}
 use Rattle.paper.specs.Effect.{scattered, channelStores, isOn, registersAfter}
 use Rattle.laws.specs.Values.{size-patterns, made-fits}
 use Rattle.laws.specs.Regions.{LegalPlain, destination-inside, destination-strides, destination-apart}
+use Rattle.laws.specs.Truth.{both-true}
 
 -- ---- reading
 
@@ -142,6 +144,31 @@ module _ (l : List ℕ) (element : ℕ → ℕ) (size : ℕ) where
       (λ e. putAt-other size m (element n) (pattern n) b (h n (omega arith) e) ∙ y)
       y
 
+  -- A byte that is not as it was lies in an enabled channel's element.
+  pub scattered-changed : (on : ℕ → Bool) (pattern : ℕ → ℕ) (n b : ℕ) → (getD (scattered l element size on pattern n) b 0 ≡ getD l b 0 → ⊥)
+      → (k : ℕ) × (k < n) × (on k ≡ true) × (element k ≤ b) × (b < element k + size)
+  unfolding scattered
+  scattered-changed on pattern zero b h = absurd (h refl)
+  scattered-changed on pattern (suc n) b h =
+      go (on n && (leb (element n) b && ltb b (element n + size))) refl (scattered-changed on pattern n b)
+    where
+      m : List ℕ
+      m = scattered l element size on pattern n
+
+      go : (t : Bool) → (on n && (leb (element n) b && ltb b (element n + size))) ≡ t
+          → ((getD m b 0 ≡ getD l b 0 → ⊥) → (k : ℕ) × (k < n) × (on k ≡ true) × (element k ≤ b) × (b < element k + size))
+          → (k : ℕ) × (k < suc n) × (on k ≡ true) × (element k ≤ b) × (b < element k + size)
+      go true e earlier =
+          let p = both-true (on n) _ e in
+          let q = both-true (leb (element n) b) _ (p .1) in
+          (n, omega arith, p .0, leb-true _ _ (q .0), ltb-true _ _ (q .1))
+      go false e earlier =
+          let same : getD (cond (on n) (putAt m (element n) size (pattern n)) m) b 0 ≡ getD m b 0 =
+          chosen (on n) (putAt m (element n) size (pattern n)) m (getD m b 0) (λ t. getD t b 0)
+          (λ o. putAt-other size m (element n) (pattern n) b (λ p q. false≢true (sym e ∙ rw (o, le-leb _ _ p, lt-ltb _ _ q)))) refl in
+          let r = earlier (λ x. h (same ∙ x)) in
+          (r .0, omega (arith, r .1), r .2, r .3, r .4)
+
   -- An enabled channel's element holds its pattern afterwards, if the elements lie inside the list and apart.
   pub scattered-holds : (on : ℕ → Bool) (pattern : ℕ → ℕ) (n k : ℕ) → k < n → on k ≡ true
       → ((j : ℕ) → j < n → element j + size ≤ length l)
@@ -182,6 +209,38 @@ module _ (p : Plain) (w : ℕ) (awake : List Bool) (st : Store) where
   registers-kept b h =
       chosen (isNull w) (st .registers) _ (getD (st .registers) b 0) (λ l. getD l b 0) (λ _. refl)
       (scattered-other (st .registers) (dstElement w) (dstSize w) (isOn p w awake st) (channelStores p w st) (channels w) b h)
+
+  -- A byte that is not as it was lies in the destination element of an enabled channel, and the destination is not null.
+  pub registers-changed : (b : ℕ) → (getD (registersAfter p w awake st) b 0 ≡ getD (st .registers) b 0 → ⊥)
+      → (isNull w ≡ false) × ((n : ℕ) × (n < channels w) × (isOn p w awake st n ≡ true) × (dstElement w n ≤ b) × (b < dstElement w n + dstSize w))
+  unfolding registersAfter
+  registers-changed b = go (isNull w) refl
+    where
+      after : List ℕ
+      after = scattered (st .registers) (dstElement w) (dstSize w) (isOn p w awake st) (channelStores p w st) (channels w)
+
+      go : (t : Bool) → isNull w ≡ t → (getD (cond t (st .registers) after) b 0 ≡ getD (st .registers) b 0 → ⊥)
+          → (isNull w ≡ false) × ((n : ℕ) × (n < channels w) × (isOn p w awake st n ≡ true) × (dstElement w n ≤ b) × (b < dstElement w n + dstSize w))
+      go true e h = absurd (h refl)
+      go false e h = (e, scattered-changed (st .registers) (dstElement w) (dstSize w) (isOn p w awake st) (channelStores p w st) (channels w) b h)
+
+  -- The element of a channel that is not enabled stays as it was, since elements of a legal word do not overlap.
+  pub element-kept : LegalPlain p w → isNull w ≡ false → (n : ℕ) → isOn p w awake st n ≡ false
+      → (b : ℕ) → dstElement w n ≤ b → b < dstElement w n + dstSize w → getD (registersAfter p w awake st) b 0 ≡ getD (st .registers) b 0
+  element-kept legal given n idle b low high = registers-kept b other
+    where
+      strides : dstStride w ≡ 0 → ⊥
+      strides = destination-strides p w (legal .shape) given
+
+      other : (m : ℕ) → m < channels w → isOn p w awake st m ≡ true → dstElement w m ≤ b → b < dstElement w m + dstSize w → ⊥
+      other m h on from to = by (ltb m n) refl (ltb n m) refl
+        where
+          by : (s : Bool) → ltb m n ≡ s → (t : Bool) → ltb n m ≡ t → ⊥
+          by true e t f = let a = destination-apart w m n strides (ltb-true _ _ e) in omega arith
+          by false e true f = let a = destination-apart w n m strides (ltb-true _ _ f) in omega arith
+          by false e false f =
+              let same : m ≡ n = omega (arith, ltb-false m n e, ltb-false n m f) in
+              false≢true (sym idle ∙ ap (isOn p w awake st) (sym same) ∙ on)
 
   -- A null destination changes none.
   pub registers-null : isNull w ≡ true → registersAfter p w awake st ≡ st .registers

@@ -13,8 +13,10 @@ use Rattle.paper.specs.Expand.{isShort, expand}
 use Rattle.paper.specs.Shorten.{shorten}
 use Rattle.paper.specs.Operation.{operation, isListed, isBranch}
 use Rattle.paper.specs.Store.{Store}
+use Rattle.paper.specs.Enable.{digit}
 use Rattle.paper.specs.Kernel.{Instr, Forms, longAndShort, longOnly, Judged, refused, passed, judgeAt, Parsed, bad, good, parse}
 use Rattle.paper.specs.Jump.{withJumps, fetch}
+use Rattle.paper.specs.Forward.{forward}
 use Rattle.paper.specs.Machine.{State, step, stops, Outcome, run, start}
 use Rattle.paper.specs.State.{stateOf, stateLegal, stateBytes}
 use Rattle.paper.specs.Packing.{Form, relay}
@@ -82,6 +84,15 @@ checkedAs (good k) = verdict 0 (length k)
 
 unfoldable pub checkCall : List ℕ → List ℕ → Answer
 checkCall dictionary kernel = checkedAs (accepted longAndShort dictionary kernel)
+
+-- ---- forward: what check refuses; of an accepted kernel, 1 if every jump goes forward, 0 if one does not
+
+abbrev pub forwardAs : Parsed → Answer
+forwardAs (bad number offset) = refusal number offset
+forwardAs (good k) = verdict 0 (digit (forward k))
+
+unfoldable pub forwardCall : List ℕ → List ℕ → Answer
+forwardCall dictionary kernel = forwardAs (accepted longAndShort dictionary kernel)
 
 -- ---- pack and unpack: how many bytes, and the bytes
 

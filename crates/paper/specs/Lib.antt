@@ -17,6 +17,7 @@ pub mod Restrictions
 pub mod Effect
 pub mod Kernel
 pub mod Jump
+pub mod Forward
 pub mod Machine
 pub mod State
 pub mod Packing
@@ -27,4 +28,5 @@ pub mod SheetMore
 pub mod SheetRefusals
 pub mod SheetVotes
 pub mod SheetLeaving
+pub mod SheetForward
 pub mod SheetHolds

@@ -18,21 +18,23 @@ use Rattle.paper.specs.Enable.{groupOf, anyBit, allBits, vote, predicate
 use Rattle.paper.specs.Effect.{patternAt, operand, channelStores, scattered, registersAfter, finds, comparedFlag, plainEffect, effect}
 use Rattle.paper.specs.Kernel.{judgeShort, judgeLong, judgeAt, walk, parse}
 use Rattle.paper.specs.Jump.{fetch, endFrom, lands, firstAstray, withJumps}
+use Rattle.paper.specs.Forward.{forward}
 use Rattle.paper.specs.Machine.{wake, park, each, someone, onward, act, perform, stepOn, runWith, startFrom}
 use Rattle.paper.specs.State.{channelIn, oneOfThree, channelsIn, stateOf, allThree, waitsLand, stateLegal, maskOf, placesOf, stateBytes}
 use Rattle.paper.specs.Packing.{index, startOf, aimed, layFrom, relay}
-use Rattle.paper.specs.Calls.{deliver, judgedKernel, accepted, checkCall, packCall, unpackCall, oneWord, shortenCall, expandCall, decodeAt, decodeCall, decodePart, startCall, stepCall, runCall}
+use Rattle.paper.specs.Calls.{deliver, judgedKernel, accepted, checkCall, forwardCall, packCall, unpackCall, oneWord, shortenCall, expandCall, decodeAt, decodeCall, decodePart, startCall, stepCall, runCall}
 use Rattle.paper.specs.Assembler.{dwords, to, from0, from1, immediate0, immediate1, op, structuredTo, jmpiTo, leaveTo, nopWord, long, copies, numbers, zeros, blankDictionary, dictionaryA, clear, ramp, begin}
 use Rattle.paper.specs.SheetMore.{loads, rowsLoad, stores, rowsStore, rowsOperation, says, rowsCompare, one, r4, masks, sevens, against, rowsEnable, rowsFlag, ranOver, stateIs, rowsBranch}
 use Rattle.paper.specs.SheetRefusals.{second, secondWord, movWith, shortNop, addWith, rowsKernel, rowsWord, movBy, rowsShape}
 use Rattle.paper.specs.SheetVotes.{predicates, rowsVote, rowsVoted, votesAt, branchVotes, selVotes, rowsVoteRefused}
 use Rattle.paper.specs.SheetLeaving.{leaves, aims, between, rowsLeave, rowsAim, rowsLeaveRefused}
+use Rattle.paper.specs.SheetForward.{ahead, everyKind, onItself, rowsForward}
 use Rattle.paper.specs.SheetMore.{repeated, rowsRepeated}
 use Rattle.paper.specs.Sheet.{Row, _gives_, shown, written, whole, count, room, longA, shortA, rowsA, dictionaryB, shortenB, rowsB, storedW, rowsCDEF, rowsG, kernelH, stepsH, rowsH, kernelI, rowsI}
 
 -- All rows of a list hold: what is computed is what is said. To open this definition is to open all that a row computes with.
 unfoldable pub Hold : List Row → Type 0
-unfolding number numberAt bytesOf putAt immediateForm dictionaryOf tableWidth fitBelow expandLow expandHigh expand operationOf firstFrom indexOf shortWord shortenImmediate shortenRegister shortenHalves shorten value least greatest modZ floorZ modified clampTo stored compares result elementAt reservedSet controlServed dstServed srcServed plainServed branchServed operandRuleBroken hangs shapeRefused shapeBroken alignmentBroken tooFar reachBroken later refusalOf groupOf anyBit allBits vote predicate holds enabled ofBits flagBit flagAfter made meets patternAt operand channelStores scattered registersAfter finds comparedFlag plainEffect effect judgeShort judgeLong judgeAt walk parse fetch endFrom lands firstAstray withJumps wake park each someone onward act perform stepOn runWith startFrom channelIn oneOfThree channelsIn stateOf allThree waitsLand stateLegal maskOf placesOf stateBytes index startOf aimed layFrom relay deliver judgedKernel accepted checkCall packCall unpackCall oneWord shortenCall expandCall decodeAt decodeCall decodePart startCall stepCall runCall dwords to from0 from1 immediate0 immediate1 op structuredTo jmpiTo leaveTo nopWord long copies numbers zeros blankDictionary dictionaryA clear ramp begin _gives_ shown written whole count room longA shortA rowsA dictionaryB shortenB rowsB storedW rowsCDEF rowsG kernelH stepsH rowsH kernelI rowsI loads rowsLoad stores rowsStore rowsOperation says rowsCompare one r4 masks sevens against rowsEnable rowsFlag ranOver stateIs rowsBranch second secondWord movWith shortNop addWith rowsKernel rowsWord movBy rowsShape predicates rowsVote rowsVoted votesAt branchVotes selVotes rowsVoteRefused leaves aims between rowsLeave rowsAim rowsLeaveRefused repeated rowsRepeated
+unfolding number numberAt bytesOf putAt immediateForm dictionaryOf tableWidth fitBelow expandLow expandHigh expand operationOf firstFrom indexOf shortWord shortenImmediate shortenRegister shortenHalves shorten value least greatest modZ floorZ modified clampTo stored compares result elementAt reservedSet controlServed dstServed srcServed plainServed branchServed operandRuleBroken hangs shapeRefused shapeBroken alignmentBroken tooFar reachBroken later refusalOf groupOf anyBit allBits vote predicate holds enabled ofBits flagBit flagAfter made meets patternAt operand channelStores scattered registersAfter finds comparedFlag plainEffect effect judgeShort judgeLong judgeAt walk parse fetch endFrom lands firstAstray withJumps forward wake park each someone onward act perform stepOn runWith startFrom channelIn oneOfThree channelsIn stateOf allThree waitsLand stateLegal maskOf placesOf stateBytes index startOf aimed layFrom relay deliver judgedKernel accepted checkCall forwardCall packCall unpackCall oneWord shortenCall expandCall decodeAt decodeCall decodePart startCall stepCall runCall dwords to from0 from1 immediate0 immediate1 op structuredTo jmpiTo leaveTo nopWord long copies numbers zeros blankDictionary dictionaryA clear ramp begin _gives_ shown written whole count room longA shortA rowsA dictionaryB shortenB rowsB storedW rowsCDEF rowsG kernelH stepsH rowsH kernelI rowsI loads rowsLoad stores rowsStore rowsOperation says rowsCompare one r4 masks sevens against rowsEnable rowsFlag ranOver stateIs rowsBranch second secondWord movWith shortNop addWith rowsKernel rowsWord movBy rowsShape predicates rowsVote rowsVoted votesAt branchVotes selVotes rowsVoteRefused ahead everyKind onItself rowsForward leaves aims between rowsLeave rowsAim rowsLeaveRefused repeated rowsRepeated
 Hold rows = map (λ r. r .got) rows ≡ map (λ r. r .want) rows
 
 rowsA-hold : Hold rowsA
@@ -123,6 +125,10 @@ rowsLeaveRefused-hold : Hold rowsLeaveRefused
 unfolding Hold
 rowsLeaveRefused-hold = refl
 
+rowsForward-hold : Hold rowsForward
+unfolding Hold
+rowsForward-hold = refl
+
 rowsRepeated-hold : Hold rowsRepeated
 unfolding Hold
 rowsRepeated-hold = refl
@@ -136,7 +142,7 @@ abbrev pub ours : List Row
 ours =
     rowsLoad ++ (rowsStore ++ (rowsOperation ++ (rowsCompare ++ (rowsEnable ++ (rowsFlag ++ (rowsBranch ++ (rowsRepeated
     ++ (rowsKernel ++ (rowsWord ++ (rowsShape ++ (rowsVote ++ (rowsVoted ++ (rowsVoteRefused
-    ++ (rowsLeave ++ (rowsAim ++ rowsLeaveRefused)))))))))))))))
+    ++ (rowsLeave ++ (rowsAim ++ (rowsLeaveRefused ++ rowsForward))))))))))))))))
 
 abbrev pub table : List Row
 table = starred ++ ours
@@ -161,7 +167,7 @@ ours-hold =
     (both rowsEnable _ rowsEnable-hold (both rowsFlag _ rowsFlag-hold (both rowsBranch _ rowsBranch-hold (both rowsRepeated _ rowsRepeated-hold
     (both rowsKernel _ rowsKernel-hold (both rowsWord _ rowsWord-hold (both rowsShape _ rowsShape-hold
     (both rowsVote _ rowsVote-hold (both rowsVoted _ rowsVoted-hold (both rowsVoteRefused _ rowsVoteRefused-hold
-    (both rowsLeave _ rowsLeave-hold (both rowsAim _ rowsAim-hold rowsLeaveRefused-hold)))))))))))))))
+    (both rowsLeave _ rowsLeave-hold (both rowsAim _ rowsAim-hold (both rowsLeaveRefused _ rowsLeaveRefused-hold rowsForward-hold))))))))))))))))
 
 every : (rows : List Row) → map (λ r. r .got) rows ≡ map (λ r. r .want) rows → (r : Row) → List·Memᴰ r rows → r .got ≡ r .want
 every [] h r m = absurd (List·Memᴰ·not-nil m)

@@ -13,13 +13,13 @@ use Rattle.paper.specs.Shorten.{shorten}
 use Rattle.paper.specs.Kernel.{Instr, longAndShort, longOnly, good}
 use Rattle.paper.specs.Machine.{State, Outcome, run}
 use Rattle.paper.specs.State.{stateOf}
-use Rattle.paper.specs.Calls.{asNumber, verdict, Changed, accepted, ranAs, runCall, numberOf}
+use Rattle.paper.specs.Calls.{asNumber, verdict, Changed, accepted, ranAs, runCall, numberOf, countOf}
 use Rattle.laws.specs.Names.{named, namedOutcome, program, relaidBy, longForm}
 use Rattle.laws.specs.Same.{same-runs}
 use Rattle.laws.specs.Packing.{kernel-of, long-accepted, packed-accepted, packed-program, unpacked-accepted, unpacked-program, accepted-parts}
 use Rattle.laws.specs.Calls.{run-verdict}
 use Rattle.laws.specs.Demands.{Ready, run-ready}
-use Rattle.contracts.specs.Contracts.{numberIn, PackPromise, UnpackPromise, RunPromise}
+use Rattle.contracts.specs.Contracts.{numberIn, countIn, PackPromise, UnpackPromise, RunPromise}
 use Rattle.promises.specs.Stepping.{state-bytes, buffers, legal-parts, run-leaves-ready, run-leaves}
 use Rattle.promises.specs.Promises.{result, Begun, Legal, Same, RanAlike, Alike}
 use Rattle.promises.specs.OutcomesHold.{answers}
@@ -82,11 +82,14 @@ module _ (dictionary kernel : List ℕ) (right : areBytes kernel ≡ true) (k : 
     after-answer : r ≡ asNumber (verdict (outcome .verdict) (outcome .steps))
     after-answer = p .0 ∙ ap (λ (c : Changed). asNumber (c .answer)) made
 
+    pub after-ran : (numberIn r ≡ outcome .verdict) × (countIn r ≡ outcome .steps)
+    after-ran =
+        let t = answers .run dictionary kernel budget registers state r registers₁ state₁ p in
+        (t .number ∙ ap (λ (c : Changed). numberOf (c .answer)) made, t .count ∙ ap (λ (c : Changed). countOf (c .answer)) made)
+
     pub after-verdict : (numberIn r ≡ 20) ⊎ (numberIn r ≡ 21)
     after-verdict =
-        let n : numberIn r ≡ outcome .verdict =
-        answers .run dictionary kernel budget registers state r registers₁ state₁ p .number ∙ ap (λ (c : Changed). numberOf (c .answer)) made in
-        elim (run-verdict k budget (stateOf registers state)) [ inl e ↦ inl (n ∙ e) | inr e ↦ inr (n ∙ e) ]
+        elim (run-verdict k budget (stateOf registers state)) [ inl e ↦ inl (after-ran .0 ∙ e) | inr e ↦ inr (after-ran .0 ∙ e) ]
 
     after-state : stateOf registers₁ state₁ ≡ outcome .state
     after-state =

@@ -1,5 +1,6 @@
 -- What follows from the contracts of the exported calls. Promises states it, and the others prove it: demand 1 in OutcomesHold, demand 2 in PackingHolds (a
 -- single word in WordsHold), demand 3 in RunningHolds (two kernels in AlikeHolds), kernels that passed before in PassedHolds, and what longer kernels leave as it was in LongerHolds.
+-- Finishing states when a kernel must finish, and what a step may change; FinishingHolds proves it.
 pub mod Promises
 pub mod Results
 pub mod Words
@@ -13,3 +14,5 @@ pub mod AlikeHolds
 pub mod RunningHolds
 pub mod PassedHolds
 pub mod LongerHolds
+pub mod Finishing
+pub mod FinishingHolds

@@ -1,6 +1,7 @@
 -- The promises of the exported calls, for all that can be lent to them. Read this file first, and after it what it names: the contracts (Contracts and OneOutcome
 -- of the crate `spokeshaver`) and the lists of numbers (Numbers of `answers`). It states them and proves none: `demand-1` of OutcomesHold, `demand-2` of
--- PackingHolds, `demand-3` of RunningHolds, `passed-before` of PassedHolds and `still-answered` of LongerHolds are the theorems. A hypothesis such as `PackPromise dictionary kernel out r out′` says: spokeshaver_pack, lent
+-- PackingHolds, `demand-3` of RunningHolds, `passed-before` of PassedHolds and `still-answered` of LongerHolds are the theorems. Finishing goes on from here, with when a kernel
+-- must finish and what a step may change. A hypothesis such as `PackPromise dictionary kernel out r out′` says: spokeshaver_pack, lent
 -- these, answered r and left out′ in its output; that is the contract of the call, proved with its code. `numberIn`, `offsetIn` and `countIn` take an answer
 -- apart as the header's macros do. Demands 2 and 3 ask besides that what is lent is bytes (`areBytes`) and 16-bit numbers, as the types in C say.
 use mathlib.Core.Bool.{Bool, true}
@@ -19,7 +20,7 @@ use Rattle.paper.specs.Kernel.{Instr, Forms, longAndShort, longOnly, good}
 use Rattle.paper.specs.Machine.{Ways, State}
 use Rattle.paper.specs.State.{half, channelsIn, stateLegal}
 use Rattle.paper.specs.Packing.{index}
-use Rattle.paper.specs.Calls.{Answer, verdict, refusal, asNumber, accepted, checkCall, packCall, unpackCall, shortenCall, expandCall, decodeCall, decodePart, startCall, stepCall, runCall, numberOf, offsetOf, countOf}
+use Rattle.paper.specs.Calls.{Answer, verdict, refusal, asNumber, accepted, checkCall, forwardCall, packCall, unpackCall, shortenCall, expandCall, decodeCall, decodePart, startCall, stepCall, runCall, numberOf, offsetOf, countOf}
 use Rattle.laws.specs.Names.{renameC, program}
 use Rattle.laws.specs.Items.{Item, allBytes, instrsFrom}
 use Rattle.laws.specs.Packing.{AllShortest}
@@ -28,10 +29,10 @@ use Rattle.laws.specs.VotesBefore.{refusalBefore, stepAtBefore}
 use Rattle.laws.specs.LeavingBefore.{formerJudge, formerStep}
 use Rattle.laws.specs.Leaving.{Leaves, wordAt}
 use Rattle.laws.specs.Longer.{bytesBefore, instructionsBefore, Settled, sizedWithin, acceptedWithin, checkWithin, packWithin, unpackWithin, decodeWithin, stepWithin, runWithin}
-use Rattle.contracts.specs.Contracts.{numberIn, offsetIn, countIn, Wrote, Left, CheckPromise, PackPromise, UnpackPromise, ShortenPromise, ExpandPromise}
+use Rattle.contracts.specs.Contracts.{numberIn, offsetIn, countIn, Wrote, Left, CheckPromise, ForwardPromise, PackPromise, UnpackPromise, ShortenPromise, ExpandPromise}
 use Rattle.contracts.specs.Contracts.{DecodePromise, StartPromise, StepPromise, RunPromise}
 use Rattle.contracts.specs.OneOutcome.{OneOutcome}
-use Rattle.answers.specs.Numbers.{checkNumbers, packNumbers, unpackNumbers, shortenNumbers, expandNumbers, decodeNumbers, startNumbers, stepNumbers, runNumbers}
+use Rattle.answers.specs.Numbers.{checkNumbers, forwardNumbers, packNumbers, unpackNumbers, shortenNumbers, expandNumbers, decodeNumbers, startNumbers, stepNumbers, runNumbers}
 
 -- ==== demand 1: one outcome, from the paper's list, and a refusal changes nothing
 
@@ -45,6 +46,7 @@ pub record Told (numbers : ℕ → Bool) (a : Answer) (r : ℕ) : Type 0 where
 -- Each call's answer is so, with the call's own list (Numbers).
 pub record Answers : Type 0 where
   pub check : (dictionary kernel : List ℕ) (r : ℕ) → CheckPromise dictionary kernel r → Told checkNumbers (checkCall dictionary kernel) r
+  pub forward : (dictionary kernel : List ℕ) (r : ℕ) → ForwardPromise dictionary kernel r → Told forwardNumbers (forwardCall dictionary kernel) r
   pub pack : (dictionary kernel out : List ℕ) (r : ℕ) (out′ : List ℕ) → PackPromise dictionary kernel out r out′
       → Told packNumbers (packCall dictionary kernel out .answer) r
   pub unpack : (dictionary kernel out : List ℕ) (r : ℕ) (out′ : List ℕ) → UnpackPromise dictionary kernel out r out′

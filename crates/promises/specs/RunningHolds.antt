@@ -22,7 +22,7 @@ use Rattle.promises.specs.AlikeHolds.{after-verdict, start-legal, packed
 
 module _ (dictionary kernel registers state : List ℕ) (right : areBytes kernel ≡ true) (small : areBytes state ≡ true) where
   -- Every run is the steps that it counts.
-  run-was-steps : (budget : ℕ) → budget ≤ budgetLimit → (r : ℕ) (registers′ state′ : List ℕ)
+  pub run-was-steps : (budget : ℕ) → budget ≤ budgetLimit → (r : ℕ) (registers′ state′ : List ℕ)
       → RunPromise dictionary kernel budget registers state r registers′ state′
       → WasSteps dictionary kernel budget registers state r registers′ state′
   run-was-steps budget le r registers′ state′ p =

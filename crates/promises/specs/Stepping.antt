@@ -22,7 +22,8 @@ use Rattle.laws.specs.Halfwords.{halves, half-less}
 use Rattle.laws.specs.Runs.{still, orSpent, run-zero, run-stop}
 use Rattle.laws.specs.Same.{state-names}
 use Rattle.laws.specs.StateBytes.{state-halves, bytes-back}
-use Rattle.laws.specs.Lasting.{Lasting, run-lasting}
+use Rattle.laws.specs.Lasting.{Lasting, step-lasting, run-lasting}
+use Rattle.laws.specs.Relay.{AllSane}
 use Rattle.laws.specs.Packing.{Kernel, kernel-of, kernel-near}
 use Rattle.laws.specs.Demands.{Ready, run-ready, step-ready, stored-back, stored-ready, run-steps}
 use Rattle.laws.specs.Calls.{step-unchanged}
@@ -57,9 +58,16 @@ module _ (dictionary kernel registers bytes : List ℕ) (right : areBytes kernel
     abbrev sizes : (sized dictionary kernel ≡ true) × ((eqb (length registers) registerBytes && eqb (length bytes) stateLength) ≡ true)
     sizes = both-true (sized dictionary kernel) _ (r .sizes)
 
-    kernel-lent : Kernel longAndShort dictionary kernel k
+    pub lent-accepted : accepted longAndShort dictionary kernel ≡ good k
     unfolding accepted
-    kernel-lent = kernel-of longAndShort dictionary kernel right k (rw (sizes .0) (r .judged))
+    lent-accepted = rw (sizes .0) (r .judged)
+
+    kernel-lent : Kernel longAndShort dictionary kernel k
+    kernel-lent = kernel-of longAndShort dictionary kernel right k lent-accepted
+
+    -- whose instructions are legal words,
+    pub lent-sane : AllSane k
+    lent-sane = kernel-lent .sane
 
     -- the sizes,
     pub buffers : (length registers ≡ registerBytes) × (length bytes ≡ stateLength)
@@ -111,6 +119,15 @@ module _ (dictionary kernel registers bytes : List ℕ) (right : areBytes kernel
         let after = run-lasting k (kernel-lent .sound) registerBytes budget lent lasting-lent in
         rw (run-ready dictionary kernel registers bytes k r budget le)
         (stored-back dictionary kernel k (kernel-lent .sound) (omega arith) (sizes .0) (r .judged) (run k budget lent .state) after)
+
+    -- What a step leaves, read again, is the state that the machine's step comes to.
+    pub step-leaves : stops k lent ≡ none
+        → let c = stepCall dictionary kernel registers bytes in stateOf (c .registers) (c .state) ≡ step k lent
+    step-leaves e =
+        let near : endOf k ≤ lastPlace = kernel-near longAndShort dictionary kernel k kernel-lent in
+        let after = step-lasting k (kernel-lent .sound) registerBytes lent lasting-lent in
+        rw (step-ready dictionary kernel registers bytes k r e)
+        (stored-back dictionary kernel k (kernel-lent .sound) (omega arith) (sizes .0) (r .judged) (step k lent) after)
 
     -- One step more is the step and then the run.
     pub run-suc : stops k lent ≡ none → (n : ℕ) → suc n ≤ budgetLimit

@@ -37,6 +37,8 @@ pub const MARK: u64 = 0x6D61726B_2;
 
 pub const CHECK: u64 = 0x636865636B_0;
 
+pub const FORWARD: u64 = 0x666F7277617264_0;
+
 pub const DECODE: u64 = 0x6465636F6465_1;
 
 pub const PACK: u64 = 0x7061636B_0;

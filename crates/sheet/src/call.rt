@@ -8,6 +8,7 @@ use rows::expect::compared;
 use rows::row::CHECK;
 use rows::row::DECODE;
 use rows::row::EXPAND;
+use rows::row::FORWARD;
 use rows::row::PACK;
 use rows::row::PART;
 use rows::row::RUN;
@@ -23,6 +24,7 @@ use rows::sizes::STATE;
 use spokeshaver::spokeshaver_check;
 use spokeshaver::spokeshaver_decode;
 use spokeshaver::spokeshaver_expand;
+use spokeshaver::spokeshaver_forward;
 use spokeshaver::spokeshaver_pack;
 use spokeshaver::spokeshaver_run;
 use spokeshaver::spokeshaver_shorten;
@@ -39,10 +41,13 @@ pub enum Answered {
     With(u64),
 }
 
-// `check`, `decode PLACE`, `pack`, `unpack`, `shorten`, `expand`. The kernel's bytes are the word to shorten or to expand.
+// `check`, `forward`, `decode PLACE`, `pack`, `unpack`, `shorten`, `expand`. The kernel's bytes are the word to shorten or to expand.
 fn asked(row: Row, dictionary: &[u8], kernel: &[u8], out: &mut [u8]) -> Answered {
     if row.key == CHECK {
         return Answered::With(spokeshaver_check(dictionary, kernel));
+    }
+    if row.key == FORWARD {
+        return Answered::With(spokeshaver_forward(dictionary, kernel));
     }
     if row.key == DECODE {
         return Answered::With(spokeshaver_decode(dictionary, kernel, row.a));

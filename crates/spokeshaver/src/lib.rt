@@ -4,6 +4,7 @@
 use answers::number_of;
 use kernel::check::check;
 use kernel::decode::decode_size;
+use kernel::forward::forward;
 use machine::start::start;
 use packer::pack::pack;
 use packer::pack::unpack;
@@ -11,7 +12,7 @@ use run::calls::run;
 use run::calls::step;
 use short::calls::expand_word;
 use short::calls::shorten_word;
-ghost use Rattle.contracts.specs.Contracts.{CheckPromise, PackPromise, UnpackPromise, ShortenPromise, ExpandPromise};
+ghost use Rattle.contracts.specs.Contracts.{CheckPromise, ForwardPromise, PackPromise, UnpackPromise, ShortenPromise, ExpandPromise};
 ghost use Rattle.contracts.specs.Contracts.{DecodePromise, StartPromise, StepPromise, RunPromise};
 
 // Is the kernel accepted; the count is its instructions.
@@ -20,6 +21,14 @@ pub extern "C" fn spokeshaver_check(dictionary: &[u8], kernel: &[u8]) -> u64
     ensures { λ r. ⌜ CheckPromise (now (dictionary .entry)) (now (kernel .entry)) r ⌝ }
 {
     number_of(check(dictionary, kernel))
+}
+
+// Is the kernel accepted, and does every jump go forward; the count is 1 if every one does, else 0.
+#[no_mangle]
+pub extern "C" fn spokeshaver_forward(dictionary: &[u8], kernel: &[u8]) -> u64
+    ensures { λ r. ⌜ ForwardPromise (now (dictionary .entry)) (now (kernel .entry)) r ⌝ }
+{
+    number_of(forward(dictionary, kernel))
 }
 
 // The kernel of long words with each word short that can be; the count is its bytes.

@@ -3,7 +3,7 @@
 use super::damage::{short_branch, unlisted_opcode};
 use super::dictionaries::{dictionary_for, lend_dictionary};
 use super::instructions::legal_word;
-use super::kernels::{any_pair, branch_word, legal_pair, with_other_indices, Laying, Pair};
+use super::kernels::{any_pair, branch_word, forward_pair, legal_pair, with_other_indices, Laying, Pair};
 use super::states::{mask, registers, state_for};
 use super::{Call, Case};
 use crate::calls::BUDGET_LIMIT;
@@ -15,12 +15,19 @@ use crate::rules::{read_kernel, Accepts};
 use crate::state::STATE_BYTES;
 use crate::words::{shorten, LongWord, SHORT_BIT};
 
-/// The case of a seed. Nine seeds in a row give the nine calls.
+/// How many calls there are.
+pub const CALLS: u64 = 10;
+
+/// How far apart the random numbers of a call's cases begin: nine, as when there were nine calls,
+/// so that a call more leaves the cases of the others as they are.
+const APART: u64 = 9;
+
+/// The case of a seed. As many seeds in a row as there are calls give each call once.
 pub fn case(seed: u64) -> Case {
-    let mut random = Random::new(seed);
+    let mut random = Random::new(seed / CALLS * APART + seed % CALLS);
     let random = &mut random;
     random.number();
-    let (dictionary, call) = match seed % 9 {
+    let (dictionary, call) = match seed % CALLS {
         0 => check_case(random),
         1 => pack_case(random),
         2 => unpack_case(random),
@@ -29,7 +36,8 @@ pub fn case(seed: u64) -> Case {
         5 => decode_case(random),
         6 => start_case(random),
         7 => step_case(random),
-        _ => run_case(random),
+        8 => run_case(random),
+        _ => forward_case(random),
     };
     Case { seed, dictionary, call }
 }
@@ -46,6 +54,14 @@ fn mixed_pair(random: &mut Random) -> Pair {
 fn check_case(random: &mut Random) -> (Vec<u8>, Call) {
     let pair = mixed_pair(random);
     (lend_dictionary(random, &pair.dictionary), Call::Check { kernel: pair.kernel })
+}
+
+/// Any kernel, or one whose jumps all go forward.
+fn forward_case(random: &mut Random) -> (Vec<u8>, Call) {
+    let laying = any_laying(random);
+    let pair =
+        if random.once_in(3) { forward_pair(random, laying) } else { any_pair(random, laying) };
+    (lend_dictionary(random, &pair.dictionary), Call::Forward { kernel: pair.kernel })
 }
 
 fn pack_case(random: &mut Random) -> (Vec<u8>, Call) {

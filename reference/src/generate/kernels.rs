@@ -55,6 +55,18 @@ pub fn legal_pair(random: &mut Random, laying: Laying) -> Pair {
     finish(random, &plan, laying)
 }
 
+/// A legal kernel whose jumps all go forward: one that would not goes to the next instruction.
+pub fn forward_pair(random: &mut Random, laying: Laying) -> Pair {
+    let length = length(random);
+    let mut plan = plan(random, length);
+    for (own, planned) in plan.iter_mut().enumerate() {
+        if let Planned::Branch { target, .. } = planned {
+            *target = (*target).max(own + 1);
+        }
+    }
+    finish(random, &plan, laying)
+}
+
 /// Makes the dictionary for a plan and lays the plan down.
 pub fn finish(random: &mut Random, plan: &[Planned], laying: Laying) -> Pair {
     let words: Vec<LongWord> = plan.iter().filter_map(plain_word).collect();

@@ -2,14 +2,17 @@
 //!
 //! `compare FIRST COUNT COMMAND..` takes the seeds from FIRST on, COUNT of them, and the
 //! command that starts tests/serve.c. After every call the answer and every byte of every
-//! buffer that was lent must be the same on both sides. Nine seeds in a row give the nine
-//! calls. The table at the end says how often each call gave each answer; an answer that can
-//! come up and never did is a failure too.
+//! buffer that was lent must be the same on both sides. As many seeds in a row as there are
+//! calls give each call once. The table at the end says how often each call gave each answer,
+//! forward's count of 1 under the name `ahead`; an answer that can come up and never did is a
+//! failure too.
 #![forbid(unsafe_code)]
 
 use spokeshaver_compare::server::Server;
 use spokeshaver_reference::answers::Answer;
-use spokeshaver_reference::generate::{case, perform, possible, Case, Outcome, Reference};
+use spokeshaver_reference::generate::{
+    case, counted_as, perform, possible, Case, Outcome, Reference, CALLS, NAMES,
+};
 use std::collections::BTreeMap;
 use std::process::exit;
 use std::thread;
@@ -41,16 +44,15 @@ fn compare(first: u64, count: u64, lane: u64, command: &[String]) -> Table {
     let mut table = Table::new();
     let mut server =
         Server::start(command).unwrap_or_else(|error| fail(&format!("{command:?}: {error}")));
-    for seed in (first..first + count).filter(|seed| seed / 9 % LANES == lane) {
+    for seed in (first..first + count).filter(|seed| seed / CALLS % LANES == lane) {
         let case = case(seed);
-        let name = case.call.name();
         let expected = perform(&case, &mut Reference);
         let given = perform(&case, &mut server);
         if let Some(difference) = difference(&expected, &given, server.touched) {
             fail(&format!("seed {seed}: {}: {difference}", told(&case)));
         }
         let number = Answer::of(expected.answer).number;
-        *table.entry(name).or_default().entry(number).or_default() += 1;
+        *table.entry(counted_as(&case, expected.answer)).or_default().entry(number).or_default() += 1;
     }
     match server.finish() {
         Ok(true) => table,
@@ -118,8 +120,8 @@ fn report(table: &Table) {
         missing.extend(never.map(|number| format!("{name} never answered {number}")));
     }
     let calls: u64 = table.values().flat_map(|numbers| numbers.values()).sum();
-    if table.len() != 9 {
-        missing.push(format!("{} calls of 9 were made", table.len()));
+    if table.len() != NAMES {
+        missing.push(format!("answers under {} names of {NAMES} came up", table.len()));
     }
     if !missing.is_empty() {
         fail(&missing.join(", "));

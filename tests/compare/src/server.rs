@@ -29,6 +29,7 @@ fn request(call: &Call) -> Request<'_> {
         }
         Call::Step { kernel, .. } => Request(7, [0; 3], kernel),
         Call::Run { kernel, budget, .. } => Request(8, [*budget, 0, 0], kernel),
+        Call::Forward { kernel } => Request(9, [0; 3], kernel),
     }
 }
 

@@ -7,14 +7,15 @@ use lib.ListN.{length}
 use borrow.Author.Needs.{needs}
 use borrow.Author.Tests.{not-true, not-false}
 use Rattle.paper.specs.Dictionary.{dictionaryOf}
+use Rattle.kernel.specs.Jumps.{firstOut}
 use Rattle.kernel.specs.Marks.{marked}
-use Rattle.kernel.proofs.Jumping.{Left, left-start, left-end, left-whole, left-out, left-on}
+use Rattle.kernel.proofs.Jumping.{Left, left-start, left-whole, out-end, out-here, out-later}
 use Rattle.kernel.proofs.jumps.first_astray.Statement.{statement}
 use Rattle.kernel.proofs.jumps.first_astray.Tie as tie
 
 abbrev Inv-loop : tie.InvT-loop
 Inv-loop dictionary kernel marks from₀ from =
-    (from ≤ length kernel) × (from % 8 ≡ 0) × Left (dictionaryOf dictionary) kernel (marked marks) from
+    (from ≤ length kernel) × (from % 8 ≡ 0) × Left (firstOut (marked marks)) (dictionaryOf dictionary) kernel from
 
 abbrev μ-loop : tie.MeasureT-loop
 μ-loop dictionary kernel marks from₀ from = length kernel - from
@@ -31,7 +32,7 @@ jump-lands-requires c κs = (search needs, search needs)
 returns : tie.Need-returns Inv-loop μ-loop
 returns c =
     let l = c .before .before .before .before .loop in
-    left-out _ _ _ _ (l .inv .2) (c .before .before .before .loop-test .taken) _ _ (c .before .before .word-at .ensures) (l .inv .1) (sym (c .before .jump-lands .ensures) ∙ not-true _ (c .if1 .taken))
+    out-here _ _ _ _ (l .inv .2) (c .before .before .before .loop-test .taken) _ _ (c .before .before .word-at .ensures) (l .inv .1) (sym (c .before .jump-lands .ensures) ∙ not-true _ (c .if1 .taken))
 
 mul-from : tie.Need-mul-from Inv-loop μ-loop
 mul-from c = search needs
@@ -53,10 +54,10 @@ loop-again c =
     let t = c .before .before .before .loop-test .taken in
     let f = c .before .before .word-at .ensures in
     let h = left-whole _ _ _ _ (l .inv .2) t (c .before .before .before .before .before .before .before .pre .2) in
-    (omega (arith, f .size-is), omega arith, left-on _ _ _ _ (l .inv .2) t _ _ f (sym (c .before .jump-lands .ensures) ∙ not-false _ (c .if1 .left)))
+    (omega (arith, f .size-is), omega arith, out-later _ _ _ _ (l .inv .2) t _ _ f (sym (c .before .jump-lands .ensures) ∙ not-false _ (c .if1 .left)))
 
 returns-2 : tie.Need-returns-2 Inv-loop μ-loop
-returns-2 c = left-end _ _ _ _ (c .before .loop .inv .2) (c .loop-test .left)
+returns-2 c = out-end _ _ _ _ (c .before .loop .inv .2) (c .loop-test .left)
 
 pub first-astray-spec : {M : Type 1} → statement M
 first-astray-spec =

@@ -1,0 +1,43 @@
+-- Jumps that go forward, and runs that end at their bound or never: rows worked out from 02 §14 by hand. Assumes nothing.
+use mathlib.Core.List.{List, [], _∷_}
+use Prim.Native.Nat.{ℕ, _-_, _^_}
+use Rattle.paper.specs.Calls.{forwardCall}
+use Rattle.paper.specs.Assembler.{structuredTo, jmpiTo, nopWord, long, blankDictionary, begin}
+use Rattle.paper.specs.Sheet.{Row, _gives_, shown}
+use Rattle.paper.specs.SheetMore.{ranOver, stateIs}
+
+-- What forward says of long words.
+unfoldable pub ahead : List ℕ → List ℕ
+ahead words = shown (forwardCall blankDictionary (long words))
+
+-- Every kind of branch, each with its target after it: jmpi, if, else, while and endif, and a nop. With all channels awake and no predicate each leads to the
+-- next instruction.
+unfoldable pub everyKind : List ℕ
+everyKind = jmpiTo 0 ∷ structuredTo 0x22 4 ∷ structuredTo 0x24 2 ∷ structuredTo 0x27 2 ∷ structuredTo 0x25 2 ∷ nopWord ∷ []
+
+-- jmpi to itself: 2 places back from its end.
+unfoldable pub onItself : ℕ
+onItself = jmpiTo (2 ^ 32 - 2)
+
+unfoldable pub rowsForward : List Row
+rowsForward =
+    -- no jump at all, in a kernel of none and in one of a nop
+    (ahead [] gives 0 ∷ 0 ∷ 1 ∷ [])
+    ∷ (ahead (nopWord ∷ []) gives 0 ∷ 0 ∷ 1 ∷ [])
+    -- jmpi counts from its end: 0 is after it, −2 is itself
+    ∷ (ahead (jmpiTo 0 ∷ []) gives 0 ∷ 0 ∷ 1 ∷ [])
+    ∷ (ahead (onItself ∷ []) gives 0 ∷ 0 ∷ 0 ∷ [])
+    -- the others count from their start: 0 is itself, 2 is after it
+    ∷ (ahead (structuredTo 0x22 0 ∷ []) gives 0 ∷ 0 ∷ 0 ∷ [])
+    ∷ (ahead (structuredTo 0x22 2 ∷ []) gives 0 ∷ 0 ∷ 1 ∷ [])
+    -- one jump back among others is enough
+    ∷ (ahead (structuredTo 0x22 4 ∷ nopWord ∷ structuredTo 0x27 (2 ^ 16 - 2) ∷ structuredTo 0x25 2 ∷ []) gives 0 ∷ 0 ∷ 0 ∷ [])
+    ∷ (ahead everyKind gives 0 ∷ 0 ∷ 1 ∷ [])
+    -- what check refuses: a jump that lands nowhere
+    ∷ (ahead (nopWord ∷ jmpiTo 1 ∷ []) gives 12 ∷ 16 ∷ 0 ∷ [])
+    -- a run of six instructions with forward jumps takes six steps, and not fewer
+    ∷ (ranOver everyKind 6 (begin 0xFFFF 0 0) gives 20 ∷ 0 ∷ 6 ∷ stateIs 0 0 12 0xFFFF 0 0 0)
+    ∷ (ranOver everyKind 5 (begin 0xFFFF 0 0) gives 21 ∷ 0 ∷ 5 ∷ stateIs 0 0 10 0xFFFF 0 0 0)
+    -- one step of jmpi to itself leaves the state as it was, so that no run over it ends
+    ∷ (ranOver (onItself ∷ []) 1 (begin 0xFFFF 0 0) gives 21 ∷ 0 ∷ 1 ∷ begin 0xFFFF 0 0)
+    ∷ []
