@@ -15,11 +15,9 @@ use Rattle.paper.specs.Calls.{verdict, accepted, forwardAs, forwardCall}
 use Rattle.words.specs.Answer.{answerIs}
 use Rattle.words.specs.declared.answer.Answer.{Answer}
 use Rattle.words.specs.declared.answer.Answer.the-variants.{Told, Refused}
-use Rattle.distances.specs.Distances.{told}
-use Rattle.distances.specs.declared.distance.Target.{Target}
 use Rattle.kernel.specs.Standing.{Stands, Standing}
 use Rattle.kernel.specs.Marks.{Says, says-refused, Accepts, says-accepted}
-use Rattle.kernel.specs.Jumps.{landsIn, landBy, instrOf, none-lands, one-lands}
+use Rattle.kernel.specs.Jumps.{landsAt, landBy, instrOf, none-lands, one-lands, two-land}
 use Rattle.kernel.specs.Accepting.{AcceptedKernel, accepted-kernel}
 
 -- Targets lie after p where they land by the test of what lies after p.
@@ -33,10 +31,14 @@ module _ (here size w : ℕ) where
   pub none-forward : distances (operation w) ≡ [] → true ≡ lieAfter here (targetsOf (instrOf here size w))
   none-forward e = none-lands (ltb here) here size w e ∙ after-lands here (targetsOf (instrOf here size w))
 
-  -- One with one distance does where that leads after it.
-  pub one-forward : (f : Distance) → distances (operation w) ≡ f ∷ [] → (t : Target) → t ≡ told (reach f w here (here + size))
-      → landsIn (ltb here) t ≡ lieAfter here (targetsOf (instrOf here size w))
-  one-forward f e t h = one-lands (ltb here) here size w f e t h ∙ after-lands here (targetsOf (instrOf here size w))
+  -- One with one distance does where that leads after it,
+  pub one-forward : (f : Distance) → distances (operation w) ≡ f ∷ [] → landsAt (ltb here) (reach f w here (here + size)) ≡ lieAfter here (targetsOf (instrOf here size w))
+  one-forward f e = one-lands (ltb here) here size w f e ∙ after-lands here (targetsOf (instrOf here size w))
+
+  -- and one with two where both do.
+  pub two-forward : (f g : Distance) → distances (operation w) ≡ f ∷ g ∷ []
+      → (landsAt (ltb here) (reach f w here (here + size)) && landsAt (ltb here) (reach g w here (here + size))) ≡ lieAfter here (targetsOf (instrOf here size w))
+  two-forward f g e = two-land (ltb here) here size w f g e ∙ after-lands here (targetsOf (instrOf here size w))
 
 -- The answer for whatever instructions stand in the bytes.
 abbrev pub Tells : Dictionary → List ℕ → Bool → Type 0

@@ -3,25 +3,27 @@ use crate::accept::accept;
 use crate::fetch::word_at;
 use distances::branch::Distances;
 use distances::branch::distances_in;
+use distances::distance::Distance;
 use distances::distance::Target;
 use distances::distance::reach;
 use words::answer::Answer;
 use words::bytes::Word;
 use words::limits::PLACES;
 ghost use mathlib.Core.Path.{_≡_};
-ghost use Prim.Native.Nat.{_≤_, _<_};
+ghost use Prim.Native.Nat.{_+_, _≤_, _<_};
 ghost use lib.Dec.{ltb};
 ghost use lib.ListN.{length};
 ghost use Rattle.paper.specs.Limits.{dictionaryBytes, kernelBytes};
 ghost use Rattle.paper.specs.Dictionary.{dictionaryOf};
-ghost use Rattle.paper.specs.Jump.{targetsOf};
+ghost use Rattle.paper.specs.Jump.{reach, targetsOf};
 ghost use Rattle.paper.specs.Forward.{lieAfter};
 ghost use Rattle.paper.specs.Calls.{forwardCall};
 ghost use Rattle.words.specs.Words.{toWord};
 ghost use Rattle.words.specs.Answer.{answerIs};
+ghost use Rattle.distances.specs.Distances.{distanceIs};
 ghost use Rattle.kernel.specs.Marks.{placeCount};
 ghost use Rattle.kernel.specs.Standing.{Standing};
-ghost use Rattle.kernel.specs.Jumps.{landsIn, instrOf};
+ghost use Rattle.kernel.specs.Jumps.{landsAt, landsIn, instrOf};
 ghost use Rattle.kernel.specs.Forward.{Tells};
 
 // The target lies after place `here`. What lies below place 0 does not.
@@ -34,6 +36,14 @@ fn lies_after(here: u64, t: Target) -> bool
     }
 }
 
+// The distance d in word w, an instruction of `size` places from place `here` on, leads to a place after `here`.
+fn distance_forward(d: Distance, w: Word, here: u64, size: u64) -> bool
+    requires { ⌜ (here < placeCount) × (size ≤ 2) ⌝ }
+    ensures { λ r. ⌜ r ≡ landsAt (ltb here) (reach (distanceIs d) (toWord w) here (here + size)) ⌝ }
+{
+    lies_after(here, reach(d, w, here, here + size))
+}
+
 // Each distance in word w, an instruction of `size` places from place `here` on, leads to a place after `here`.
 fn leads_forward(w: Word, here: u64, size: u64) -> bool
     requires { ⌜ (here < placeCount) × (size ≤ 2) ⌝ }
@@ -42,7 +52,12 @@ fn leads_forward(w: Word, here: u64, size: u64) -> bool
     let held = distances_in(w);
     match held {
         Distances::Nothing => true,
-        Distances::One(d) => lies_after(here, reach(d, w, here, here + size)),
+        Distances::One(d) => distance_forward(d, w, here, size),
+        Distances::Two(d, e) => {
+            let first = distance_forward(d, w, here, size);
+            let second = distance_forward(e, w, here, size);
+            first & second
+        }
     }
 }
 

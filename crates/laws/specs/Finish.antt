@@ -10,7 +10,7 @@ use lib.Dec.{ltb}
 use lib.IntN.{ℤ, pos, negsuc}
 use lib.ListN.{length}
 use borrow.Author.Tests.{ltb-true}
-use Rattle.paper.specs.Operation.{Branch, jmpi, if, else, endif, while, Operation, plain, nop, branch, unlisted, operation}
+use Rattle.paper.specs.Operation.{Branch, jmpi, if, else, endif, while, break, cont, Operation, plain, nop, branch, unlisted, operation}
 use Rattle.paper.specs.Store.{Store}
 use Rattle.paper.specs.Enable.{holds}
 use Rattle.paper.specs.Effect.{plainEffect, effect}
@@ -53,6 +53,8 @@ module _ (P : ℕ → Type 0) (i : Instr) (next : P (nextOf i)) (st : Store) (cs
       cond-at (Led P st) (someone (λ n c. isAwake c && holds (i .word) st n) 0 cs) _ _
       (record { place = t .0; store = refl })
       (record { place = next; store = refl })
+  branch-leads break t = record { place = fork-leads (waysBy (branch break)) next (t .0) _; store = refl }
+  branch-leads cont t = record { place = fork-leads (waysBy (branch cont)) next (t .0) _; store = refl }
   branch-leads jmpi t = record { place = cond-at P (holds (i .word) st 0) _ _ (t .0) next; store = refl }
 
   -- A branch has no effect on registers and flags.
