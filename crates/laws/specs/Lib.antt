@@ -14,6 +14,8 @@ pub mod Runs
 pub mod Moved
 pub mod Same
 pub mod Back
+pub mod Unique
+pub mod Agreed
 pub mod Bytes
 pub mod Walk
 pub mod Judged
@@ -35,6 +37,7 @@ pub mod Lasting
 pub mod KeptFlags
 pub mod Longer
 pub mod Demands
+pub mod Pairs
 pub mod Otherwise
 pub mod Adding
 pub mod VotesBefore

@@ -20,6 +20,7 @@ pub mod Jump
 pub mod Machine
 pub mod State
 pub mod Packing
+pub mod Program
 pub mod Calls
 pub mod Assembler
 pub mod Sheet
@@ -27,3 +28,4 @@ pub mod SheetMore
 pub mod SheetRefusals
 pub mod SheetVotes
 pub mod SheetHolds
+pub mod SheetPairs

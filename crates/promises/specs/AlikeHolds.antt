@@ -14,7 +14,8 @@ use Rattle.paper.specs.Kernel.{Instr, longAndShort, longOnly, good}
 use Rattle.paper.specs.Machine.{State, Outcome, run}
 use Rattle.paper.specs.State.{stateOf}
 use Rattle.paper.specs.Calls.{asNumber, verdict, Changed, accepted, ranAs, runCall, numberOf}
-use Rattle.laws.specs.Names.{named, namedOutcome, program, relaidBy, longForm}
+use Rattle.paper.specs.Program.{program}
+use Rattle.laws.specs.Names.{named, namedOutcome, relaidBy, longForm}
 use Rattle.laws.specs.Same.{same-runs}
 use Rattle.laws.specs.Packing.{kernel-of, long-accepted, packed-accepted, packed-program, unpacked-accepted, unpacked-program, accepted-parts}
 use Rattle.laws.specs.Calls.{run-verdict}

@@ -20,7 +20,8 @@ use Rattle.paper.specs.Machine.{Ways, State}
 use Rattle.paper.specs.State.{half, channelsIn, stateLegal}
 use Rattle.paper.specs.Packing.{index}
 use Rattle.paper.specs.Calls.{Answer, verdict, asNumber, accepted, checkCall, packCall, unpackCall, shortenCall, expandCall, decodeCall, decodePart, startCall, stepCall, runCall, numberOf, offsetOf, countOf}
-use Rattle.laws.specs.Names.{renameC, program}
+use Rattle.paper.specs.Program.{program}
+use Rattle.laws.specs.Names.{renameC}
 use Rattle.laws.specs.Items.{Item, allBytes, instrsFrom}
 use Rattle.laws.specs.Packing.{AllShortest}
 use Rattle.laws.specs.Otherwise.{checkCallBy, packCallBy, unpackCallBy, stepCallBy, runCallBy}
