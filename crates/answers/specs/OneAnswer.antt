@@ -3,17 +3,19 @@
 use mathlib.Core.List.{List}
 use mathlib.Core.Path.{_≡_}
 use Prim.Native.Nat.{ℕ}
-use Rattle.paper.specs.Calls.{checkCall, packCall, unpackCall, shortenCall, expandCall, decodeCall, startCall, stepCall, runCall}
+use Rattle.paper.specs.Calls.{checkCall, packCall, unpackCall, pairCall, shortenCall, expandCall, decodeCall, startCall, stepCall, runCall}
 use Rattle.words.specs.declared.answer.Answer.{Answer}
 use Rattle.words.specs.Answer.{answerIs, Wrote, Left, one-answer, one-written, one-changed}
 
--- `check`, `pack`, `unpack`, `shorten_word`, `expand_word`, `decode_size`, `start`, `step` and `run`.
+-- `check`, `pack`, `unpack`, `pair`, `shorten_word`, `expand_word`, `decode_size`, `start`, `step` and `run`.
 pub record OneAnswer : Type 0 where
   pub check : (dictionary kernel : List ℕ) (r s : Answer) → answerIs r ≡ checkCall dictionary kernel → answerIs s ≡ checkCall dictionary kernel → r ≡ s
   pub pack : (dictionary kernel out : List ℕ) (r s : Answer) (out′ out″ : List ℕ)
       → Wrote (packCall dictionary kernel out) r out′ → Wrote (packCall dictionary kernel out) s out″ → (r ≡ s) × (out′ ≡ out″)
   pub unpack : (dictionary kernel out : List ℕ) (r s : Answer) (out′ out″ : List ℕ)
       → Wrote (unpackCall dictionary kernel out) r out′ → Wrote (unpackCall dictionary kernel out) s out″ → (r ≡ s) × (out′ ≡ out″)
+  pub pair : (dictionary long sent : List ℕ) (r s : Answer)
+      → answerIs r ≡ pairCall dictionary long sent → answerIs s ≡ pairCall dictionary long sent → r ≡ s
   pub shorten : (dictionary word out : List ℕ) (r s : Answer) (out′ out″ : List ℕ)
       → Wrote (shortenCall dictionary word out) r out′ → Wrote (shortenCall dictionary word out) s out″ → (r ≡ s) × (out′ ≡ out″)
   pub expand : (dictionary word out : List ℕ) (r s : Answer) (out′ out″ : List ℕ)
@@ -35,6 +37,7 @@ one-outcome =
       check = λ dictionary kernel. one-answer (checkCall dictionary kernel);
       pack = λ dictionary kernel out. one-written (packCall dictionary kernel out);
       unpack = λ dictionary kernel out. one-written (unpackCall dictionary kernel out);
+      pair = λ dictionary long sent. one-answer (pairCall dictionary long sent);
       shorten = λ dictionary word out. one-written (shortenCall dictionary word out);
       expand = λ dictionary word out. one-written (expandCall dictionary word out);
       decode = λ dictionary kernel place. one-answer (decodeCall dictionary kernel place);
