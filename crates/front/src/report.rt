@@ -30,5 +30,11 @@ pub fn report_on(dictionary: &[u8], kernel: &[u8]) -> Report
             instructions: 0,
             bytes: 0,
         },
+        Answer::RefusedWith(number, offset, _) => Report {
+            verdict: number as u64,
+            at: offset,
+            instructions: 0,
+            bytes: 0,
+        },
     }
 }

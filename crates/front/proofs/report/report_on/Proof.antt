@@ -21,6 +21,12 @@ enum-known-number-2 c = search needs
 cast-t12 : tie.Need-cast-t12
 cast-t12 c = search needs
 
+enum-known-number-3 : tie.Need-enum-known-number-3
+enum-known-number-3 c = search needs
+
+cast-t13 : tie.Need-cast-t13
+cast-t13 c = search needs
+
 returns : tie.Need-returns
 unfolding printedAs
 returns c = sym (printed-by _ _ _ (sym (c .before .before .before .check .ensures) ∙ ap answerIs (c .before .number .given .1)))
@@ -28,6 +34,10 @@ returns c = sym (printed-by _ _ _ (sym (c .before .before .before .check .ensure
 returns-2 : tie.Need-returns-2
 unfolding printedAs
 returns-2 c = sym (printed-by _ _ _ (sym (c .before .before .before .check .ensures) ∙ ap answerIs (c .before .number2 .given .1)))
+
+returns-3 : tie.Need-returns-3
+unfolding printedAs
+returns-3 c = sym (printed-by _ _ _ (sym (c .before .before .before .check .ensures) ∙ ap answerIs (c .before .number3 .given .1)))
 
 pub report-on-spec : {M : Type 1} → statement M
 report-on-spec =
@@ -38,5 +48,8 @@ report-on-spec =
     cast-t11
     enum-known-number-2
     cast-t12
+    enum-known-number-3
+    cast-t13
     returns
-    returns-2)
+    returns-2
+    returns-3)
