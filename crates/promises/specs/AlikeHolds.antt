@@ -1,4 +1,4 @@
--- Kernels with one program run alike, and so do a kernel and its packed or unpacked form. Assumes nothing.
+-- Kernels with one program run alike (`program-alike`), and so do a kernel and its packed or unpacked form. Assumes nothing.
 use mathlib.Core.Bool.{true}
 use mathlib.Core.List.{List}
 use mathlib.Core.Logic.{_⊎_, inl, inr}
@@ -143,7 +143,7 @@ module _ (dictionary kernel kernel′ : List ℕ) (right : areBytes kernel ≡ t
       (start-legal dictionary kernel right k taken state registers b) (start-legal dictionary kernel′ right′ l taken′ state registers b)
       (start-names state registers b dictionary kernel right k taken ∙ sym (start-names state registers b dictionary kernel′ right′ l taken′))
 
-  program-alike : Alike dictionary kernel kernel′
+  pub program-alike : Alike dictionary kernel kernel′
   program-alike =
       record {
         k = k;
