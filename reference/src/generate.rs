@@ -7,12 +7,16 @@ mod damage;
 mod dictionaries;
 mod instructions;
 mod kernels;
+mod pairs;
 mod states;
 
 use crate::calls;
 use std::collections::BTreeSet;
 
 pub use cases::case;
+
+/// How many calls there are. So many seeds in a row give each of them once.
+pub const CALLS: u64 = 10;
 
 /// One call with all its inputs. Vectors that the call may write are lent as they stand here.
 #[derive(Clone, PartialEq, Eq, Debug)]
@@ -23,7 +27,7 @@ pub struct Case {
     pub call: Call,
 }
 
-/// The nine calls.
+/// The calls.
 #[derive(Clone, PartialEq, Eq, Debug)]
 pub enum Call {
     Check { kernel: Vec<u8> },
@@ -35,6 +39,7 @@ pub enum Call {
     Start { mask: u16, flag0: u16, flag1: u16, state: Vec<u8> },
     Step { kernel: Vec<u8>, registers: Vec<u8>, state: Vec<u8> },
     Run { kernel: Vec<u8>, budget: u64, registers: Vec<u8>, state: Vec<u8> },
+    Pair { long: Vec<u8>, sent: Vec<u8> },
 }
 
 impl Call {
@@ -49,6 +54,7 @@ impl Call {
             Call::Start { .. } => "start",
             Call::Step { .. } => "step",
             Call::Run { .. } => "run",
+            Call::Pair { .. } => "pair",
         }
     }
 }
@@ -89,6 +95,7 @@ impl Bench for Reference {
             Call::Run { kernel, budget, .. } => {
                 calls::run(dictionary, kernel, *budget, registers, state)
             }
+            Call::Pair { long, .. } => calls::pair(dictionary, long, out),
         }
     }
 }
@@ -108,6 +115,8 @@ pub fn lent(case: &Case) -> Outcome {
         | Call::Unpack { out, .. }
         | Call::Shorten { out, .. }
         | Call::Expand { out, .. } => before.out = out.clone(),
+        // Nothing is written there: it must stay as it is.
+        Call::Pair { sent, .. } => before.out = sent.clone(),
         Call::Start { state, .. } => before.state = state.clone(),
         Call::Step { registers, state, .. } | Call::Run { registers, state, .. } => {
             before.registers = registers.clone();
@@ -132,6 +141,7 @@ pub fn possible(name: &str) -> BTreeSet<u8> {
         "decode" => (0..=11).collect(),
         "start" => [0, 1].into(),
         "step" => with(&[0, 15, 17, 20]),
+        "pair" => with(&[0, 17, 31]),
         _ => with(&[15, 16, 17, 20, 21]),
     }
 }

@@ -1,6 +1,6 @@
 //! A plain second opinion on the Spokeshaver bench, written from the paper's rules alone.
 //!
-//! Each file holds one topic. `calls` is the door: nine functions on numbers and byte
+//! Each file holds one topic. `calls` is the door: functions on numbers and byte
 //! slices, each giving the packed answer of the C boundary. `generate` makes inputs for
 //! comparing benches, `bench_kernels` makes kernels for measuring them.
 #![forbid(unsafe_code)]
@@ -19,6 +19,7 @@ pub mod machine;
 pub mod operations;
 pub mod pack_kernels;
 pub mod packing;
+pub mod pairs;
 pub mod random;
 pub mod regions;
 pub mod rules;

@@ -3,7 +3,7 @@
 use spokeshaver_reference::answers::Answer;
 use spokeshaver_reference::bench_kernels;
 use spokeshaver_reference::calls;
-use spokeshaver_reference::generate::{case, Call};
+use spokeshaver_reference::generate::{case, Call, CALLS};
 
 /// A run of either engine: dictionary, kernel, budget, registers, state.
 type Run = fn(&[u8], &[u8], u64, &mut [u8], &mut [u8]) -> u64;
@@ -50,7 +50,7 @@ fn generated<'a>(dictionary: &'a [u8], call: &'a Call) -> Option<(Inputs<'a>, Ve
 #[test]
 fn engines_agree_on_generated_runs() {
     let mut made = 0;
-    for seed in (0..90_000).filter(|seed| seed % 9 >= 7) {
+    for seed in (0..90_000).filter(|seed| [7, 8].contains(&(seed % CALLS))) {
         let case = case(seed);
         let Some((inputs, budgets)) = generated(&case.dictionary, &case.call) else { continue };
         for budget in budgets {

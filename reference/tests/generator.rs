@@ -5,7 +5,7 @@ use spokeshaver_reference::answers::Answer;
 use spokeshaver_reference::calls;
 use spokeshaver_reference::dictionary::{Dictionary, DICTIONARY_BYTES};
 use spokeshaver_reference::generate::{
-    case, lent, perform, possible, Call, Case, Outcome, Reference,
+    case, lent, perform, possible, Call, Case, Outcome, Reference, CALLS,
 };
 use spokeshaver_reference::operations::Operation;
 use spokeshaver_reference::rules::{
@@ -14,7 +14,7 @@ use spokeshaver_reference::rules::{
 use spokeshaver_reference::state::State;
 use std::collections::{BTreeMap, BTreeSet};
 
-const SEEDS: u64 = 27_000;
+const SEEDS: u64 = 3_000 * CALLS;
 
 fn outcome(case: &Case) -> Outcome {
     perform(case, &mut Reference)
@@ -28,7 +28,7 @@ fn every_answer_comes_up_and_no_other() {
         let number = Answer::of(outcome(&case).answer).number;
         *seen.entry(case.call.name()).or_default().entry(number).or_default() += 1;
     }
-    assert_eq!(seen.len(), 9);
+    assert_eq!(seen.len(), CALLS as usize);
     for (name, numbers) in &seen {
         println!("{name}: {numbers:?}");
         let found: BTreeSet<u8> = numbers.keys().copied().collect();
@@ -45,7 +45,8 @@ fn refusals_change_nothing() {
         if (1..=17).contains(&answer.number) {
             let before = Outcome { answer: after.answer, ..lent(&case) };
             assert_eq!(after, before, "seed {seed}");
-            assert_eq!(answer.count, 0, "seed {seed}");
+            // Of a pair the long kernel may be loaded although the sent one is refused.
+            assert!(answer.count == 0 || case.call.name() == "pair", "seed {seed}");
             let names_none = matches!(answer.number, 1 | 2 | 13..=16);
             assert!(!names_none || answer.at == 0, "seed {seed}");
         }
@@ -57,7 +58,9 @@ fn output_past_the_result_is_untouched() {
     for seed in 0..SEEDS {
         let case = case(seed);
         let after = outcome(&case);
-        let count = Answer::of(after.answer).count;
+        // A pair has no result: all that it is lent stays.
+        let written = case.call.name() != "pair";
+        let count = if written { Answer::of(after.answer).count } else { 0 };
         if !after.out.is_empty() {
             assert_eq!(after.out[count..], lent(&case).out[count..], "seed {seed}");
         }
@@ -74,7 +77,7 @@ fn cases_depend_on_the_seed_alone() {
 /// The state must equal that many single steps, whichever way they are made.
 #[test]
 fn runs_are_so_many_steps() {
-    for seed in (8..SEEDS).step_by(9) {
+    for seed in (8..SEEDS).step_by(CALLS as usize) {
         let case = case(seed);
         let Call::Run { kernel, registers, state, .. } = &case.call else { continue };
         let after = outcome(&case);
@@ -111,7 +114,7 @@ fn stepped(case: &Case) -> Option<(Instruction, State)> {
 #[test]
 fn masked_compares_of_set_flags_come_up() {
     let mut seen: BTreeMap<(&str, u32, u32), usize> = BTreeMap::new();
-    let cases = (7..SEEDS).step_by(9).filter_map(|seed| stepped(&case(seed)));
+    let cases = (7..SEEDS).step_by(CALLS as usize).filter_map(|seed| stepped(&case(seed)));
     for (instruction, state) in cases.filter(|(made, _)| made.operation == Operation::Cmp) {
         let word = instruction.word;
         let (quarter, choice) = (word.quarter_control(), word.flag_choice());
@@ -145,7 +148,7 @@ fn kernel_of(case: &Case) -> Option<&[u8]> {
 #[test]
 fn votes_come_up() {
     let mut seen: BTreeSet<(u32, Operation, u32, u32)> = BTreeSet::new();
-    for case in (8..SEEDS).step_by(9).map(case) {
+    for case in (8..SEEDS).step_by(CALLS as usize).map(case) {
         if Answer::of(outcome(&case).answer).number < 20 {
             continue;
         }
@@ -175,7 +178,7 @@ fn votes_come_up() {
 #[test]
 fn groups_that_differ_come_up() {
     let mut seen: BTreeSet<(u32, bool)> = BTreeSet::new();
-    let cases = (7..2 * SEEDS).step_by(9).filter_map(|seed| stepped(&case(seed)));
+    let cases = (7..2 * SEEDS).step_by(CALLS as usize).filter_map(|seed| stepped(&case(seed)));
     for (instruction, state) in cases {
         let word = instruction.word;
         let control = word.predicate_control();
@@ -230,7 +233,7 @@ fn refused_votes_come_up() {
 /// Packing and unpacking again gives the first kernel back.
 #[test]
 fn packing_and_back() {
-    for seed in (1..SEEDS).step_by(9) {
+    for seed in (1..SEEDS).step_by(CALLS as usize) {
         let case = case(seed);
         let Call::Pack { kernel, .. } = &case.call else { continue };
         let after = outcome(&case);
@@ -260,7 +263,7 @@ fn judged_kernel_of(case: &Case) -> Option<&[u8]> {
 #[test]
 fn the_limits_come_up() {
     let (mut counts, mut lengths, mut jumps) = (BTreeSet::new(), BTreeSet::new(), BTreeSet::new());
-    for case in (0..SEEDS).filter(|seed| seed % 9 < 3).map(case) {
+    for case in (0..SEEDS).filter(|seed| seed % CALLS < 3).map(case) {
         let Some(kernel) = judged_kernel_of(&case) else { continue };
         lengths.insert(kernel.len());
         if case.dictionary.len() != DICTIONARY_BYTES || kernel.len() > KERNEL_BYTES {

@@ -70,7 +70,7 @@ fn plain_word(planned: &Planned) -> Option<LongWord> {
 }
 
 /// How many instructions: mostly few, at times up to the limit.
-fn length(random: &mut Random) -> usize {
+pub fn length(random: &mut Random) -> usize {
     match random.below(40) {
         0 => 0,
         1 => random.pick(&[KERNEL_INSTRUCTIONS - 1, KERNEL_INSTRUCTIONS]),
@@ -117,7 +117,7 @@ fn jump_across(random: &mut Random, plan: &mut [Planned]) {
 }
 
 /// A cut plan may have lost the instructions that jumps name: those go to the end.
-fn keep_targets_inside(plan: &mut [Planned]) {
+pub fn keep_targets_inside(plan: &mut [Planned]) {
     let end = plan.len();
     for planned in plan {
         if let Planned::Branch { target, .. } = planned {

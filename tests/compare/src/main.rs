@@ -2,14 +2,14 @@
 //!
 //! `compare FIRST COUNT COMMAND..` takes the seeds from FIRST on, COUNT of them, and the
 //! command that starts tests/serve.c. After every call the answer and every byte of every
-//! buffer that was lent must be the same on both sides. Nine seeds in a row give the nine
-//! calls. The table at the end says how often each call gave each answer; an answer that can
+//! buffer that was lent must be the same on both sides. `CALLS` seeds in a row give every
+//! call. The table at the end says how often each call gave each answer; an answer that can
 //! come up and never did is a failure too.
 #![forbid(unsafe_code)]
 
 use spokeshaver_compare::server::Server;
 use spokeshaver_reference::answers::Answer;
-use spokeshaver_reference::generate::{case, perform, possible, Case, Outcome, Reference};
+use spokeshaver_reference::generate::{case, perform, possible, Case, Outcome, Reference, CALLS};
 use std::collections::BTreeMap;
 use std::process::exit;
 use std::thread;
@@ -41,7 +41,7 @@ fn compare(first: u64, count: u64, lane: u64, command: &[String]) -> Table {
     let mut table = Table::new();
     let mut server =
         Server::start(command).unwrap_or_else(|error| fail(&format!("{command:?}: {error}")));
-    for seed in (first..first + count).filter(|seed| seed / 9 % LANES == lane) {
+    for seed in (first..first + count).filter(|seed| seed / CALLS % LANES == lane) {
         let case = case(seed);
         let name = case.call.name();
         let expected = perform(&case, &mut Reference);
@@ -118,8 +118,8 @@ fn report(table: &Table) {
         missing.extend(never.map(|number| format!("{name} never answered {number}")));
     }
     let calls: u64 = table.values().flat_map(|numbers| numbers.values()).sum();
-    if table.len() != 9 {
-        missing.push(format!("{} calls of 9 were made", table.len()));
+    if table.len() as u64 != CALLS {
+        missing.push(format!("{} calls of {CALLS} were made", table.len()));
     }
     if !missing.is_empty() {
         fail(&missing.join(", "));

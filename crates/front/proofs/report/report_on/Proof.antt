@@ -12,20 +12,20 @@ check-requires c κs = search needs
 enum-known-number : tie.Need-enum-known-number
 enum-known-number c = search needs
 
-cast-t11 : tie.Need-cast-t11
-cast-t11 c = search needs
+cast-t13 : tie.Need-cast-t13
+cast-t13 c = search needs
 
 enum-known-number-2 : tie.Need-enum-known-number-2
 enum-known-number-2 c = search needs
 
-cast-t12 : tie.Need-cast-t12
-cast-t12 c = search needs
+cast-t14 : tie.Need-cast-t14
+cast-t14 c = search needs
 
 enum-known-number-3 : tie.Need-enum-known-number-3
 enum-known-number-3 c = search needs
 
-cast-t13 : tie.Need-cast-t13
-cast-t13 c = search needs
+cast-t15 : tie.Need-cast-t15
+cast-t15 c = search needs
 
 returns : tie.Need-returns
 unfolding printedAs
@@ -45,11 +45,11 @@ report-on-spec =
     (tie.spec
     check-requires
     enum-known-number
-    cast-t11
-    enum-known-number-2
-    cast-t12
-    enum-known-number-3
     cast-t13
+    enum-known-number-2
+    cast-t14
+    enum-known-number-3
+    cast-t15
     returns
     returns-2
     returns-3)
