@@ -2,7 +2,7 @@
  * comparing program cannot link it.
  *
  * A request is eight numbers of 64 bits in the machine's order, and then bytes: which call, three plain arguments, the lengths of four buffers; the
- * buffers. The buffers are the dictionary, the kernel or word, the output or registers, and the state; one that the call does not take has length 0.
+ * buffers. The buffers are the dictionary, the kernel or word, the output, the registers or the sent kernel, and the state; one that the call does not take has length 0.
  * A reply is two numbers and then bytes: the answer; 0, or what the call touched though it must not; the last two buffers as the call left them.
  *
  * Each buffer ends where a page begins that may be neither read nor written, so that one byte too far ends the program. What lies before it, and what
@@ -70,6 +70,7 @@ static uint64_t call(const uint64_t *number) {
     case 7: return spokeshaver_step(dictionary, d, kernel, k, out, o, state, s);
     case 8: return spokeshaver_run(dictionary, d, kernel, k, number[FIRST], out, o, state, s);
     case 9: return spokeshaver_forward(dictionary, d, kernel, k);
+    case 10: return spokeshaver_pair(dictionary, d, kernel, k, out, o);
     default: return UINT64_MAX;
     }
 }

@@ -2,6 +2,8 @@
 
 /// The number given to a kernel, a state or a step that passes.
 pub const ACCEPTED: u8 = 0;
+/// The sent kernel of a pair is another program than the long one.
+pub const DIFFERS: u8 = 31;
 /// The place is the end.
 pub const ENDED: u8 = 20;
 /// The budget is spent short of the end.

@@ -2,13 +2,14 @@
 //! Every call judges in the table's order, writes only when nothing refuses, and gives the
 //! packed answer.
 
-use crate::answers::{packed, require, Refusal, ACCEPTED, ENDED, SPENT};
+use crate::answers::{packed, require, Refusal, ACCEPTED, DIFFERS, ENDED, SPENT};
 use crate::channels::Registers;
 use crate::dictionary::{Dictionary, DICTIONARY_BYTES};
 use crate::engine;
 use crate::machine;
 use crate::operations::Operation;
 use crate::packing;
+use crate::pairs;
 use crate::regions::FILE_BYTES;
 use crate::rules::{read_instruction, read_kernel, Accepts, Program, KERNEL_BYTES};
 use crate::second_engine;
@@ -74,6 +75,23 @@ pub fn unpack(dictionary: &[u8], kernel: &[u8], out: &mut [u8]) -> u64 {
 fn unpack_outcome(dictionary: &[u8], kernel: &[u8], out: &mut [u8]) -> Outcome {
     let (_, program) = judged_kernel(dictionary, kernel, Accepts::LongAndShort)?;
     deliver(&packing::unpack(&program), out)
+}
+
+/// Compares a long kernel with one that was sent for it. The count is the bytes of the one to
+/// load, and it stands beside a refusal too: the long kernel's, unless that is refused itself.
+pub fn pair(dictionary: &[u8], long: &[u8], sent: &[u8]) -> u64 {
+    let ours = match judged_kernel(dictionary, long, Accepts::LongOnly) {
+        Ok((_, program)) => program,
+        Err(refusal) => return packed(refusal.number, refusal.at, 0),
+    };
+    let theirs = match judged_kernel(dictionary, sent, Accepts::LongAndShort) {
+        Ok((_, program)) => program,
+        Err(refusal) => return packed(refusal.number, refusal.at, long.len()),
+    };
+    match pairs::first_difference(&ours, &theirs) {
+        None => packed(ACCEPTED, 0, sent.len()),
+        Some(number) => packed(DIFFERS, number, long.len()),
+    }
 }
 
 /// Shortens one long word. The count is 8.

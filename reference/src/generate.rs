@@ -7,13 +7,17 @@ mod damage;
 mod dictionaries;
 mod instructions;
 mod kernels;
+mod pairs;
 mod states;
 
 use crate::answers::Answer;
 use crate::calls;
 use std::collections::BTreeSet;
 
-pub use cases::{case, CALLS};
+pub use cases::case;
+
+/// How many calls there are. So many seeds in a row give each of them once.
+pub const CALLS: u64 = 11;
 
 /// One call with all its inputs. Vectors that the call may write are lent as they stand here.
 #[derive(Clone, PartialEq, Eq, Debug)]
@@ -37,6 +41,7 @@ pub enum Call {
     Step { kernel: Vec<u8>, registers: Vec<u8>, state: Vec<u8> },
     Run { kernel: Vec<u8>, budget: u64, registers: Vec<u8>, state: Vec<u8> },
     Forward { kernel: Vec<u8> },
+    Pair { long: Vec<u8>, sent: Vec<u8> },
 }
 
 impl Call {
@@ -52,6 +57,7 @@ impl Call {
             Call::Step { .. } => "step",
             Call::Run { .. } => "run",
             Call::Forward { .. } => "forward",
+            Call::Pair { .. } => "pair",
         }
     }
 }
@@ -93,6 +99,7 @@ impl Bench for Reference {
                 calls::run(dictionary, kernel, *budget, registers, state)
             }
             Call::Forward { kernel } => calls::forward(dictionary, kernel),
+            Call::Pair { long, .. } => calls::pair(dictionary, long, out),
         }
     }
 }
@@ -112,6 +119,8 @@ pub fn lent(case: &Case) -> Outcome {
         | Call::Unpack { out, .. }
         | Call::Shorten { out, .. }
         | Call::Expand { out, .. } => before.out = out.clone(),
+        // Nothing is written there: it must stay as it is.
+        Call::Pair { sent, .. } => before.out = sent.clone(),
         Call::Start { state, .. } => before.state = state.clone(),
         Call::Step { registers, state, .. } | Call::Run { registers, state, .. } => {
             before.registers = registers.clone();
@@ -148,6 +157,7 @@ pub fn possible(name: &str) -> BTreeSet<u8> {
         "decode" => (0..=11).collect(),
         "start" => [0, 1].into(),
         "step" => with(&[0, 15, 17, 20]),
+        "pair" => with(&[0, 17, 31]),
         _ => with(&[15, 16, 17, 20, 21]),
     }
 }

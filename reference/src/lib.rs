@@ -19,6 +19,7 @@ pub mod machine;
 pub mod operations;
 pub mod pack_kernels;
 pub mod packing;
+pub mod pairs;
 pub mod random;
 pub mod regions;
 pub mod rules;

@@ -76,11 +76,11 @@ impl Program {
         self.instructions.get(number).map_or(self.end, |instruction| instruction.place)
     }
 
-    /// Whether every jump goes forward: its target lies after the branch itself (02 §14).
+    /// Whether every jump goes forward: its targets lie after the branch itself (02 §14).
     pub fn goes_forward(&self) -> bool {
         self.instructions.iter().all(|instruction| {
-            let target = instruction.target_place();
-            target.is_none_or(|target| target > instruction.place as i64)
+            let after = |target: i64| target > instruction.place as i64;
+            instruction.target_places().into_iter().all(after)
         })
     }
 

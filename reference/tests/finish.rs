@@ -6,6 +6,7 @@ use spokeshaver_reference::calls;
 use spokeshaver_reference::dictionary::Dictionary;
 use spokeshaver_reference::generate::{case, lent, perform, Call, Case, Reference, CALLS};
 use spokeshaver_reference::operations::Operation::{self, Else, Endif, If, Jmpi, Nop, While};
+use spokeshaver_reference::operations::BRANCHES;
 use spokeshaver_reference::random::Random;
 use spokeshaver_reference::rules::{read_kernel, Accepts, Program};
 use spokeshaver_reference::state::{State, STATE_BYTES};
@@ -78,7 +79,11 @@ fn each_branch_comes_up() {
         let branches: Vec<(Operation, i64)> = program(&case.dictionary, &kernel)
             .instructions
             .iter()
-            .filter_map(|made| Some((made.operation, made.target_place()? - made.place as i64)))
+            .flat_map(|made| {
+                made.target_places()
+                    .into_iter()
+                    .map(|target| (made.operation, target - made.place as i64))
+            })
             .collect();
         let behind: Vec<_> = branches.iter().filter(|(_, distance)| *distance <= 0).collect();
         assert_eq!(behind.is_empty(), answer.count == 1, "seed {}", case.seed);
@@ -90,8 +95,8 @@ fn each_branch_comes_up() {
         }
     }
     assert!(short);
-    assert_eq!(ahead.len(), 5, "{ahead:?}");
-    assert_eq!(back.len(), 10, "{back:?}");
+    assert_eq!(ahead.len(), BRANCHES.len(), "{ahead:?}");
+    assert_eq!(back.len(), 2 * BRANCHES.len(), "{back:?}");
 }
 
 fn forward(words: &[LongWord]) -> usize {

@@ -46,7 +46,8 @@ fn refusals_change_nothing() {
         if (1..=17).contains(&answer.number) {
             let before = Outcome { answer: after.answer, ..lent(&case) };
             assert_eq!(after, before, "seed {seed}");
-            assert_eq!(answer.count, 0, "seed {seed}");
+            // Of a pair the long kernel may be loaded although the sent one is refused.
+            assert!(answer.count == 0 || case.call.name() == "pair", "seed {seed}");
             let names_none = matches!(answer.number, 1 | 2 | 13..=16);
             assert!(!names_none || answer.at == 0, "seed {seed}");
         }
@@ -58,7 +59,9 @@ fn output_past_the_result_is_untouched() {
     for seed in 0..SEEDS {
         let case = case(seed);
         let after = outcome(&case);
-        let count = Answer::of(after.answer).count;
+        // A pair has no result: all that it is lent stays.
+        let written = case.call.name() != "pair";
+        let count = if written { Answer::of(after.answer).count } else { 0 };
         if !after.out.is_empty() {
             assert_eq!(after.out[count..], lent(&case).out[count..], "seed {seed}");
         }

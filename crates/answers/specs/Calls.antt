@@ -7,7 +7,7 @@ use mathlib.Core.Path.{_≡_, refl, subst}
 use Prim.Native.Nat.{ℕ, _*_, _≤_}
 use native.Mathlib.Omega.{arith}
 use lib.Dec.{eqb, ltb, leb}
-use lib.ListN.{length}
+use lib.ListN.{length, length-map}
 use borrow.Author.Tests.{ltb-false, leb-false, le-leb, not-false}
 use Rattle.paper.specs.Bits.{bytesOf, numberAt}
 use Rattle.paper.specs.Limits.{dictionaryBytes, stateLength, kernelBytes, instructionLimit, budgetLimit}
@@ -15,23 +15,25 @@ use Rattle.paper.specs.Dictionary.{dictionaryOf, inRange}
 use Rattle.paper.specs.Expand.{isShort, expand}
 use Rattle.paper.specs.Shorten.{shorten}
 use Rattle.paper.specs.Operation.{operation, isListed, isBranch}
-use Rattle.paper.specs.Kernel.{Instr, longAndShort, longOnly, Judged, refused, passed, judgeAt, Parsed, bad, good}
+use Rattle.paper.specs.Kernel.{Instr, Forms, longAndShort, longOnly, Judged, refused, passed, judgeAt, Parsed, bad, good}
 use Rattle.paper.specs.Machine.{State, step, stops, stopsOn, run}
 use Rattle.paper.specs.Jump.{fetch}
 use Rattle.paper.specs.Forward.{forward}
 use Rattle.paper.specs.Enable.{digit}
 use Rattle.paper.specs.State.{stateOf, stateLegal}
 use Rattle.paper.specs.Packing.{Form, relay}
-use Rattle.paper.specs.Calls.{Answer, verdict, refusal, numberOf, Written, deliver, sized, accepted, judgedKernel, checkedAs, checkCall, forwardAs, forwardCall, relaid, packCall, unpackCall}
+use Rattle.paper.specs.Calls.{Answer, verdict, refusal, refusalWith, numberOf, Written, deliver, sized, accepted, judgedKernel, checkedAs, checkCall, forwardAs, forwardCall, relaid, packCall, unpackCall, pairedAs, pairCall}
+use Rattle.paper.specs.Program.{lineOf, program, agreed}
 use Rattle.paper.specs.Calls.{oneWord, shortened, shortenCall, expandCall, judgedAs, decodeAt, decodedAs, decodeCall, startCall}
 use Rattle.paper.specs.Calls.{Changed, allSized, onState, steppedAs, stepCall, ranAs, runCall}
 use Rattle.laws.specs.Bytes.{length-bytesOf}
 use Rattle.laws.specs.Relay.{relay-length, newEnd-near}
+use Rattle.laws.specs.Agreed.{agreed-few}
 use Rattle.laws.specs.Runs.{ran}
 use Rattle.laws.specs.Calls.{run-verdict}
 use Rattle.laws.specs.Masks.{digit-less}
-use Rattle.answers.specs.Numbers.{oneTo, checkNumbers, forwardNumbers, packNumbers, unpackNumbers, shortenNumbers, expandNumbers, decodeNumbers, startNumbers, stepNumbers, runNumbers}
-use Rattle.answers.specs.Small.{Small, small-refusal, small-verdict}
+use Rattle.answers.specs.Numbers.{oneTo, checkNumbers, forwardNumbers, packNumbers, unpackNumbers, pairNumbers, shortenNumbers, expandNumbers, decodeNumbers, startNumbers, stepNumbers, runNumbers}
+use Rattle.answers.specs.Small.{Small, small-refusal, small-verdict, small-counts}
 use Rattle.answers.specs.Judging.{Modest, modest-number, modest-above, modest-size, judged-modest}
 use Rattle.answers.specs.Kernels.{KernelNo, Near, near-refused, near-number, near-few, near-more, sized-most, judged-near, accepted-near, Few, few-number, long-few}
 use Rattle.laws.specs.Truth.{both-true}
@@ -51,6 +53,12 @@ pub record Fine (numbers : ℕ → Bool) (a : Answer) : Type 0 where
 -- A refusal of up to 17 at an offset inside the longest kernel or at its end.
 fine-no : (numbers : ℕ → Bool) (number offset : ℕ) → numbers number ≡ true → number ≤ 17 → offset ≤ kernelBytes → Fine numbers (refusal number offset)
 fine-no numbers number offset l n o = record { listed = l; small = small-refusal number offset (omega arith) (omega arith) }
+
+-- A refusal of up to 31 that counts up to a kernel's bytes.
+fine-counts : (numbers : ℕ → Bool) (number offset count : ℕ) → numbers number ≡ true → number ≤ 31 → offset ≤ kernelBytes → count ≤ kernelBytes
+    → Fine numbers (refusalWith number offset count)
+fine-counts numbers number offset count l n o c =
+    record { listed = l; small = small-counts number offset count (omega arith) (omega arith) (omega arith) }
 
 -- A verdict up to 21, with a count up to 1,000,000.
 fine-told : (numbers : ℕ → Bool) (number count : ℕ) → numbers number ≡ true → number ≤ 21 → count ≤ budgetLimit → Fine numbers (verdict number count)
@@ -129,6 +137,42 @@ unfolding unpackCall
 unpack-fine dictionary kernel out =
     relaid-fine (λ n. eqb n 0 || (eqb n 14 || eqb n 17)) refl refl (λ _. none) out (accepted longAndShort dictionary kernel) (accepted-near longAndShort dictionary kernel)
     (λ number offset e last. refl)
+
+-- ---- pair
+
+-- A kernel that is accepted has no more bytes than a kernel may have.
+accepted-most : (forms : Forms) (dictionary kernel : List ℕ) (k : List Instr) → accepted forms dictionary kernel ≡ good k → length kernel ≤ kernelBytes
+unfolding accepted
+accepted-most forms dictionary kernel k e = go (sized dictionary kernel) refl e
+  where
+    go : (t : Bool) → sized dictionary kernel ≡ t → cond t (judgedKernel forms dictionary kernel) (bad 1 0) ≡ good k → length kernel ≤ kernelBytes
+    go true h e = sized-most dictionary kernel h
+    go false h e = let z : _≡_ {A = ℕ} 0 1 = cc in absurd (omega arith)
+
+-- 31 names an instruction's number, or how many there are; what is loaded is a kernel that was accepted.
+pub pair-fine : (dictionary long sent : List ℕ) → Fine pairNumbers (pairCall dictionary long sent)
+unfolding pairCall
+pair-fine dictionary long sent =
+    go (accepted longOnly dictionary long) refl (accepted-near longOnly dictionary long)
+    (accepted longAndShort dictionary sent) refl (accepted-near longAndShort dictionary sent)
+  where
+    go : (p : Parsed) → accepted longOnly dictionary long ≡ p → Near kernelBytes instructionLimit p
+        → (q : Parsed) → accepted longAndShort dictionary sent ≡ q → Near kernelBytes instructionLimit q → Fine pairNumbers (pairedAs long sent p q)
+    go (bad number offset) e n q f m = fine-bad (λ x. eqb x 0 || (eqb x 17 || eqb x 31)) number offset (λ _. refl) n
+    go (good k) e n (bad number offset) f m =
+        let b = near-refused kernelBytes instructionLimit number offset m in
+        fine-counts pairNumbers number offset (length long)
+        (kernel-no (λ x. eqb x 0 || (eqb x 17 || eqb x 31)) number (λ _. refl) (near-number kernelBytes instructionLimit number offset m))
+        (omega (arith, b .0)) (b .1) (accepted-most longOnly dictionary long k e)
+    go (good k) e n (good l) f m =
+        let same = agreed (program k) (program l) in
+        let low = agreed-few (program k) (program l) in
+        let few = near-few kernelBytes instructionLimit k n in
+        let lines = length-map k (lineOf k) in
+        let sentMost = accepted-most longAndShort dictionary sent l f in
+        by-cond (Fine pairNumbers) (eqb same (length k) && eqb same (length l)) _ _
+        (λ _. fine-told pairNumbers 0 (length sent) refl (omega arith) (omega arith))
+        (λ _. fine-counts pairNumbers 31 same (length long) refl (omega arith) (omega arith) (accepted-most longOnly dictionary long k e))
 
 -- ---- one word
 

@@ -23,6 +23,10 @@ packNumbers n = oneTo 12 n || (eqb n 0 || eqb n 14)
 abbrev pub unpackNumbers : ℕ → Bool
 unpackNumbers n = oneTo 12 n || (eqb n 0 || (eqb n 14 || eqb n 17))
 
+-- Pair: accepted, 31, or what check refuses.
+abbrev pub pairNumbers : ℕ → Bool
+pairNumbers n = oneTo 12 n || (eqb n 0 || (eqb n 17 || eqb n 31))
+
 -- Expand: 0, 1, 2, 4, 5 or 14.
 abbrev pub expandNumbers : ℕ → Bool
 expandNumbers n = eqb n 0 || (eqb n 1 || (eqb n 2 || (eqb n 4 || (eqb n 5 || eqb n 14))))

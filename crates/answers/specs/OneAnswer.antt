@@ -3,11 +3,12 @@
 use mathlib.Core.List.{List}
 use mathlib.Core.Path.{_≡_}
 use Prim.Native.Nat.{ℕ}
-use Rattle.paper.specs.Calls.{checkCall, forwardCall, packCall, unpackCall, shortenCall, expandCall, decodeCall, startCall, stepCall, runCall}
+use Rattle.paper.specs.Calls.{checkCall, forwardCall, packCall, unpackCall, pairCall, shortenCall, expandCall, decodeCall, startCall, stepCall, runCall}
 use Rattle.words.specs.declared.answer.Answer.{Answer}
 use Rattle.words.specs.Answer.{answerIs, Wrote, Left, one-answer, one-written, one-changed}
 
--- `check`, `forward`, `pack`, `unpack`, `shorten_word`, `expand_word`, `decode_size`, `start`, `step` and `run`.
+-- `check`, `forward`, `pack`, `unpack`, `pair`, `shorten_word`, `expand_word`, `decode_size`, `start`, `step` and `run`.
+
 pub record OneAnswer : Type 0 where
   pub check : (dictionary kernel : List ℕ) (r s : Answer) → answerIs r ≡ checkCall dictionary kernel → answerIs s ≡ checkCall dictionary kernel → r ≡ s
   pub forward : (dictionary kernel : List ℕ) (r s : Answer)
@@ -16,6 +17,8 @@ pub record OneAnswer : Type 0 where
       → Wrote (packCall dictionary kernel out) r out′ → Wrote (packCall dictionary kernel out) s out″ → (r ≡ s) × (out′ ≡ out″)
   pub unpack : (dictionary kernel out : List ℕ) (r s : Answer) (out′ out″ : List ℕ)
       → Wrote (unpackCall dictionary kernel out) r out′ → Wrote (unpackCall dictionary kernel out) s out″ → (r ≡ s) × (out′ ≡ out″)
+  pub pair : (dictionary long sent : List ℕ) (r s : Answer)
+      → answerIs r ≡ pairCall dictionary long sent → answerIs s ≡ pairCall dictionary long sent → r ≡ s
   pub shorten : (dictionary word out : List ℕ) (r s : Answer) (out′ out″ : List ℕ)
       → Wrote (shortenCall dictionary word out) r out′ → Wrote (shortenCall dictionary word out) s out″ → (r ≡ s) × (out′ ≡ out″)
   pub expand : (dictionary word out : List ℕ) (r s : Answer) (out′ out″ : List ℕ)
@@ -38,6 +41,7 @@ one-outcome =
       forward = λ dictionary kernel. one-answer (forwardCall dictionary kernel);
       pack = λ dictionary kernel out. one-written (packCall dictionary kernel out);
       unpack = λ dictionary kernel out. one-written (unpackCall dictionary kernel out);
+      pair = λ dictionary long sent. one-answer (pairCall dictionary long sent);
       shorten = λ dictionary word out. one-written (shortenCall dictionary word out);
       expand = λ dictionary word out. one-written (expandCall dictionary word out);
       decode = λ dictionary kernel place. one-answer (decodeCall dictionary kernel place);

@@ -2,7 +2,7 @@
 use words::answer::Answer;
 ghost use mathlib.Core.Path.{_≡_};
 ghost use Prim.Native.Nat.{_^_, _<_};
-ghost use Rattle.paper.specs.Calls.{verdict, refusal, asNumber};
+ghost use Rattle.paper.specs.Calls.{verdict, refusal, refusalWith, asNumber};
 ghost use Rattle.words.specs.Answer.{answerIs};
 ghost use Rattle.answers.specs.Small.{Small};
 
@@ -22,6 +22,14 @@ fn refused(number: u8, offset: u64) -> u64
     number as u64 + 256 * offset
 }
 
+// The same with a count.
+fn refused_with(number: u8, offset: u64, count: u64) -> u64
+    requires { ⌜ (offset < 2 ^ 24) × (count < 2 ^ 32) ⌝ }
+    ensures { λ r. ⌜ r ≡ asNumber (refusalWith number offset count) ⌝ }
+{
+    number as u64 + 256 * offset + 4294967296 * count
+}
+
 // The number of an answer that fits.
 pub fn number_of(answer: Answer) -> u64
     requires { ⌜ Small (answerIs answer) ⌝ }
@@ -30,5 +38,6 @@ pub fn number_of(answer: Answer) -> u64
     match answer {
         Answer::Told(number, count) => told(number, count),
         Answer::Refused(number, offset) => refused(number, offset),
+        Answer::RefusedWith(number, offset, count) => refused_with(number, offset, count),
     }
 }

@@ -4,7 +4,7 @@
 use mathlib.Core.Path.{_≡_}
 use mathlib.Core.List.{List}
 use Prim.Native.Nat.{ℕ, _/_, _%_, _^_}
-use Rattle.paper.specs.Calls.{asNumber, Written, Changed, checkCall, forwardCall, packCall, unpackCall, shortenCall, expandCall, decodeCall, startCall, stepCall, runCall}
+use Rattle.paper.specs.Calls.{asNumber, Written, Changed, checkCall, forwardCall, packCall, unpackCall, pairCall, shortenCall, expandCall, decodeCall, startCall, stepCall, runCall}
 
 -- ---- an answer taken apart, as the header's macros do
 
@@ -30,7 +30,7 @@ Wrote w r out′ = (r ≡ asNumber (w .answer)) × (out′ ≡ w .output)
 abbrev pub Left : Changed → ℕ → List ℕ → List ℕ → Type 0
 Left c r registers′ state′ = (r ≡ asNumber (c .answer)) × (registers′ ≡ c .registers) × (state′ ≡ c .state)
 
--- ---- the ten calls
+-- ---- the calls
 
 abbrev pub CheckPromise : List ℕ → List ℕ → ℕ → Type 0
 CheckPromise dictionary kernel r = r ≡ asNumber (checkCall dictionary kernel)
@@ -43,6 +43,9 @@ PackPromise dictionary kernel out r out′ = Wrote (packCall dictionary kernel o
 
 abbrev pub UnpackPromise : List ℕ → List ℕ → List ℕ → ℕ → List ℕ → Type 0
 UnpackPromise dictionary kernel out r out′ = Wrote (unpackCall dictionary kernel out) r out′
+
+abbrev pub PairPromise : List ℕ → List ℕ → List ℕ → ℕ → Type 0
+PairPromise dictionary long sent r = r ≡ asNumber (pairCall dictionary long sent)
 
 abbrev pub ShortenPromise : List ℕ → List ℕ → List ℕ → ℕ → List ℕ → Type 0
 ShortenPromise dictionary word out r out′ = Wrote (shortenCall dictionary word out) r out′

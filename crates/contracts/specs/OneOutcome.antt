@@ -3,7 +3,7 @@
 use mathlib.Core.List.{List}
 use mathlib.Core.Path.{_≡_}
 use Prim.Native.Nat.{ℕ}
-use Rattle.contracts.specs.Contracts.{CheckPromise, ForwardPromise, PackPromise, UnpackPromise, ShortenPromise, ExpandPromise}
+use Rattle.contracts.specs.Contracts.{CheckPromise, ForwardPromise, PackPromise, UnpackPromise, PairPromise, ShortenPromise, ExpandPromise}
 use Rattle.contracts.specs.Contracts.{DecodePromise, StartPromise, StepPromise, RunPromise}
 
 -- The contract of each call admits one outcome only: one answer, and one final content of each buffer that is lent for writing.
@@ -14,6 +14,7 @@ pub record OneOutcome : Type 0 where
       → PackPromise dictionary kernel out r out′ → PackPromise dictionary kernel out s out″ → (r ≡ s) × (out′ ≡ out″)
   pub unpack : (dictionary kernel out : List ℕ) (r s : ℕ) (out′ out″ : List ℕ)
       → UnpackPromise dictionary kernel out r out′ → UnpackPromise dictionary kernel out s out″ → (r ≡ s) × (out′ ≡ out″)
+  pub pair : (dictionary long sent : List ℕ) (r s : ℕ) → PairPromise dictionary long sent r → PairPromise dictionary long sent s → r ≡ s
   pub shorten : (dictionary word out : List ℕ) (r s : ℕ) (out′ out″ : List ℕ)
       → ShortenPromise dictionary word out r out′ → ShortenPromise dictionary word out s out″ → (r ≡ s) × (out′ ≡ out″)
   pub expand : (dictionary word out : List ℕ) (r s : ℕ) (out′ out″ : List ℕ)

@@ -21,6 +21,7 @@ one-outcome =
       forward = λ dictionary kernel r s p q. p ∙ sym q;
       pack = λ dictionary kernel out. one-written (packCall dictionary kernel out);
       unpack = λ dictionary kernel out. one-written (unpackCall dictionary kernel out);
+      pair = λ dictionary long sent r s p q. p ∙ sym q;
       shorten = λ dictionary word out. one-written (shortenCall dictionary word out);
       expand = λ dictionary word out. one-written (expandCall dictionary word out);
       decode = λ dictionary kernel place r s p q. p ∙ sym q;

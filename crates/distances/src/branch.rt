@@ -8,7 +8,7 @@ use words::operation::Operation;
 ghost use mathlib.Core.Path.{_≡_};
 ghost use Rattle.paper.specs.Jump.{distances, distancesOf};
 ghost use Rattle.paper.specs.Operation.{operation};
-ghost use Rattle.laws.specs.Names.{blank};
+ghost use Rattle.paper.specs.Program.{blank};
 ghost use Rattle.words.specs.Operations.{branchIs, operationIs};
 ghost use Rattle.words.specs.Words.{toWord};
 ghost use Rattle.distances.specs.Distances.{distancesIs};

@@ -7,7 +7,7 @@ use native.Mathlib.Omega.{arith}
 use lib.ListN.{length, take, length-take}
 use borrow.Author.Tests.{lt-leb}
 use Rattle.paper.specs.Limits.{kernelBytes}
-use Rattle.paper.specs.Calls.{Answer, verdict, refusal, checkCall, accepted}
+use Rattle.paper.specs.Calls.{Answer, verdict, refusal, refusalWith, checkCall, accepted}
 use Rattle.front.specs.declared.report.Report.{Report}
 
 -- Named as the lines are.
@@ -21,6 +21,7 @@ pub record Printed : Type 0 where
 unfoldable pub printedAs : Answer → ℕ → Printed
 printedAs (verdict number count) length = record { verdict = number; at = 0; instructions = count; bytes = length }
 printedAs (refusal number offset) length = record { verdict = number; at = offset; instructions = 0; bytes = 0 }
+printedAs (refusalWith number offset count) length = record { verdict = number; at = offset; instructions = 0; bytes = 0 }
 
 unfoldable pub printed : List ℕ → List ℕ → Printed
 printed dictionary kernel = printedAs (checkCall dictionary kernel) (length kernel)

@@ -13,20 +13,19 @@ use Rattle.paper.specs.Limits.{instructionLimit}
 use Rattle.paper.specs.Kernel.{Instr, Judged, refused, passed, Parsed, bad, good, prepend, walk}
 use Rattle.paper.specs.Jump.{nextOf, fetch, found, endFrom, lands}
 use Rattle.paper.specs.Calls.{verdict}
-use Rattle.words.specs.Answer.{answerIs}
-use Rattle.words.specs.declared.answer.Answer.{Answer}
-use Rattle.words.specs.declared.answer.Answer.the-variants.{Told, Refused}
-use Rattle.kernel.specs.Marks.{placeCount, marked, Says, says-bad, mark-more}
+use Rattle.kernel.specs.declared.walk.Said.{Said}
+use Rattle.kernel.specs.declared.walk.Said.the-variants.{Good, Bad}
+use Rattle.kernel.specs.Marks.{saidIs, placeCount, marked, Says, says-bad, mark-more}
 
 -- What the answer r and the marks m′ say of what is left, judged as q, from byte `from` on, with c instructions counted and the marks m made before it.
-unfoldable pub Goes : ℕ → ℕ → List ℕ → Parsed → Answer → List ℕ → Type 0
+unfoldable pub Goes : ℕ → ℕ → List ℕ → Parsed → Said → List ℕ → Type 0
 Goes from c m (bad number offset) r m′ = Says (bad number offset) r m′
 Goes from c m (good k) r m′ =
-    (answerIs r ≡ verdict 0 (c + length k))
+    (saidIs r ≡ verdict 0 (c + length k))
     × ((p : ℕ) → marked m′ p ≡ (marked m p || (found (fetch k p) || eqb p (endFrom (from / 8) k))))
 
 -- Nothing counted and nothing marked: what is left is the whole.
-goes-whole : (m : List ℕ) → ((p : ℕ) → marked m p ≡ false) → (q : Parsed) (r : Answer) (m′ : List ℕ) → Goes 0 0 m q r m′ → Says q r m′
+goes-whole : (m : List ℕ) → ((p : ℕ) → marked m p ≡ false) → (q : Parsed) (r : Said) (m′ : List ℕ) → Goes 0 0 m q r m′ → Says q r m′
 unfolding lands Says Goes
 goes-whole m bare (bad number offset) r m′ h = h
 goes-whole m bare (good k) r m′ h = let z : 0 + length k ≡ length k = omega arith in (h .0 ∙ ap (verdict 0) z, λ p. h .1 p ∙ rw (bare p))
@@ -41,7 +40,7 @@ regroup false true f e = refl
 regroup false false f e = refl
 
 -- One instruction more is one more counted and one more marked.
-goes-more : (i : Instr) (from c : ℕ) (m : List ℕ) (r : Answer) (m′ : List ℕ) → i .place ≡ from / 8 → from / 8 < placeCount → length m ≡ placeCount → (q : Parsed)
+goes-more : (i : Instr) (from c : ℕ) (m : List ℕ) (r : Said) (m′ : List ℕ) → i .place ≡ from / 8 → from / 8 < placeCount → length m ≡ placeCount → (q : Parsed)
     → Goes (from + 8 * i .size) (c + 1) (set m (from / 8) 1) q r m′ → Goes from c m (prepend i q) r m′
 unfolding fetch endFrom Goes
 goes-more i from c m r m′ e l z (bad number offset) h = h
@@ -70,7 +69,7 @@ eqb-swap a b = go (eqb b a) refl
     go false e = ne-eqb a b (λ h. eqb-false b a e (sym h))
 
 -- At the end only the end itself is marked.
-goes-end : (from c : ℕ) (m : List ℕ) → from / 8 < placeCount → length m ≡ placeCount → Goes from c m (good []) (Told 0 c) (set m (from / 8) 1)
+goes-end : (from c : ℕ) (m : List ℕ) → from / 8 < placeCount → length m ≡ placeCount → Goes from c m (good []) (Good c) (set m (from / 8) 1)
 unfolding fetch endFrom Goes
 goes-end from c m l z =
     let n : c ≡ c + 0 = omega arith in
@@ -102,34 +101,34 @@ module _ (judge : ℕ → Judged) (end from : ℕ) where
 
 -- The whole is judged as q if what is left is: any answer and marks that say the rest say q.
 abbrev pub Leads : (ℕ → Judged) → ℕ → ℕ → ℕ → List ℕ → Parsed → Type 0
-Leads judge end from c m q = (r : Answer) (m′ : List ℕ) → Goes from c m (walk judge end (instructionLimit - c) from) r m′ → Says q r m′
+Leads judge end from c m q = (r : Said) (m′ : List ℕ) → Goes from c m (walk judge end (instructionLimit - c) from) r m′ → Says q r m′
 
 pub leads-start : (judge : ℕ → Judged) (end : ℕ) (m : List ℕ) → ((p : ℕ) → marked m p ≡ false) → Leads judge end 0 0 m (walk judge end instructionLimit 0)
 leads-start judge end m bare r m′ h = goes-whole m bare (walk judge end instructionLimit 0) r m′ h
 
 module _ (judge : ℕ → Judged) (end from c : ℕ) (m : List ℕ) (q : Parsed) (leads : Leads judge end from c m q) where
   -- What is left is judged as x.
-  leads-as : (x : Parsed) (r : Answer) (m′ : List ℕ) → walk judge end (instructionLimit - c) from ≡ x → Goes from c m x r m′ → Says q r m′
+  leads-as : (x : Parsed) (r : Said) (m′ : List ℕ) → walk judge end (instructionLimit - c) from ≡ x → Goes from c m x r m′ → Says q r m′
   leads-as x r m′ e g = leads r m′ (subst (λ (x : Parsed). Goes from c m x r m′) (sym e) g)
 
-  pub leads-end : end ≤ from → from / 8 < placeCount → length m ≡ placeCount → Says q (Told 0 c) (set m (from / 8) 1)
-  leads-end h l z = leads-as (good []) (Told 0 c) (set m (from / 8) 1) (walk-end judge end from (instructionLimit - c) h) (goes-end from c m l z)
+  pub leads-end : end ≤ from → from / 8 < placeCount → length m ≡ placeCount → Says q (Good c) (set m (from / 8) 1)
+  leads-end h l z = leads-as (good []) (Good c) (set m (from / 8) 1) (walk-end judge end from (instructionLimit - c) h) (goes-end from c m l z)
 
   module _ (inside : from < end) where
-    pub leads-full : c ≡ instructionLimit → Says q (Refused 17 from) m
+    pub leads-full : c ≡ instructionLimit → Says q (Bad 17 from) m
     unfolding Goes
     leads-full e =
         let n : instructionLimit - c ≡ 0 = omega arith in
-        leads-as (bad 17 from) (Refused 17 from) m (ap (λ (n : ℕ). walk judge end n from) n ∙ walk-full judge end from inside) (says-bad 17 from m)
+        leads-as (bad 17 from) (Bad 17 from) m (ap (λ (n : ℕ). walk judge end n from) n ∙ walk-full judge end from inside) (says-bad 17 from m)
 
     module _ (few : c < instructionLimit) where
       left : instructionLimit - c ≡ suc (instructionLimit - (c + 1))
       left = omega arith
 
-      pub leads-refused : (x : ℕ) → judge from ≡ refused x → Says q (Refused x from) m
+      pub leads-refused : (x : ℕ) → judge from ≡ refused x → Says q (Bad x from) m
       unfolding Goes
       leads-refused x j =
-          leads-as (bad x from) (Refused x from) m
+          leads-as (bad x from) (Bad x from) m
           (ap (λ (n : ℕ). walk judge end n from) left ∙ walk-refused judge end from inside (instructionLimit - (c + 1)) x j) (says-bad x from m)
 
       pub leads-passed : (size w : ℕ) → judge from ≡ passed size w → from / 8 < placeCount → length m ≡ placeCount

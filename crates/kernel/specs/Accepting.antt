@@ -18,8 +18,8 @@ use Rattle.laws.specs.Names.{Sound}
 use Rattle.laws.specs.Judged.{Passed, asLong, asShort, judge-passed}
 use Rattle.laws.specs.Walk.{walked}
 use Rattle.laws.specs.Parse.{jumps-good}
-use Rattle.words.specs.declared.answer.Answer.{Answer}
-use Rattle.words.specs.declared.answer.Answer.the-variants.{Told, Refused}
+use Rattle.kernel.specs.declared.walk.Said.{Said}
+use Rattle.kernel.specs.declared.walk.Said.the-variants.{Good, Bad}
 use Rattle.kernel.specs.declared.jumps.Astray.{Astray}
 use Rattle.kernel.specs.declared.jumps.Astray.the-variants.{Nowhere, Branch}
 use Rattle.kernel.specs.Standing.{sizeAt, wordAt, Whole, Fetches, fits, Stands, Standing, walk-stands, stands-fetch}
@@ -45,25 +45,25 @@ pub parse-stands : (forms : Forms) (dictionary kernel : List ℕ) (k : List Inst
 unfolding parse
 parse-stands forms dictionary kernel k e = walk-stands forms (dictionaryOf dictionary) kernel instructionLimit 0 (omega arith) k e
 
-pub parse-standing : (forms : Forms) (dictionary kernel marks : List ℕ) (r : Answer) → Says (parse forms (dictionaryOf dictionary) kernel) r marks
-    → (number count : ℕ) → r ≡ Told number count → Standing (dictionaryOf dictionary) kernel
-parse-standing forms dictionary kernel marks r s number count e =
-    let a = says-accepted (parse forms (dictionaryOf dictionary) kernel) r marks s number count e in
+pub parse-standing : (forms : Forms) (dictionary kernel marks : List ℕ) (r : Said) → Says (parse forms (dictionaryOf dictionary) kernel) r marks
+    → (count : ℕ) → r ≡ Good count → Standing (dictionaryOf dictionary) kernel
+parse-standing forms dictionary kernel marks r s count e =
+    let a = says-accepted (parse forms (dictionaryOf dictionary) kernel) r marks s count e in
     record { forms = forms; instrs = a .instrs; stands = parse-stands forms dictionary kernel (a .instrs) (a .judged) }
 
 -- ---- the answers, in the code's order
 
 module _ (forms : Forms) (dictionary kernel marks : List ℕ) where
   -- What is said of an equal judgement.
-  says-as : (p : Parsed) (r : Answer) → accepted forms dictionary kernel ≡ p → Says p r marks → Says (accepted forms dictionary kernel) r marks
+  says-as : (p : Parsed) (r : Said) → accepted forms dictionary kernel ≡ p → Says p r marks → Says (accepted forms dictionary kernel) r marks
   says-as p r e s = rw e s
 
-  pub accept-size : sized dictionary kernel ≡ false → Says (accepted forms dictionary kernel) (Refused 1 0) marks
+  pub accept-size : sized dictionary kernel ≡ false → Says (accepted forms dictionary kernel) (Bad 1 0) marks
   unfolding accepted
   accept-size h = rw h (says-bad 1 0 marks)
 
   module _ (right : sized dictionary kernel ≡ true) where
-    pub accept-range : inRange (dictionaryOf dictionary) ≡ false → Says (accepted forms dictionary kernel) (Refused 2 0) marks
+    pub accept-range : inRange (dictionaryOf dictionary) ≡ false → Says (accepted forms dictionary kernel) (Bad 2 0) marks
     unfolding accepted judgedKernel
     accept-range h = rw (right, h) (says-bad 2 0 marks)
 
@@ -72,17 +72,17 @@ module _ (forms : Forms) (dictionary kernel marks : List ℕ) where
       unfolding accepted judgedKernel
       accepted-parse = rw (right, range)
 
-      module _ (walked : Answer) (says : Says (parse forms (dictionaryOf dictionary) kernel) walked marks) where
+      module _ (walked : Said) (says : Says (parse forms (dictionaryOf dictionary) kernel) walked marks) where
         -- The walk refuses.
-        pub accept-refused : (number offset : ℕ) → walked ≡ Refused number offset → Says (accepted forms dictionary kernel) walked marks
+        pub accept-refused : (number offset : ℕ) → walked ≡ Bad number offset → Says (accepted forms dictionary kernel) walked marks
         unfolding withJumps
         accept-refused number offset e =
             let q = says-refused (parse forms (dictionaryOf dictionary) kernel) walked marks says number offset e in
             says-as (bad number offset) walked (accepted-parse ∙ ap withJumps q) (rw q at says)
 
-        module _ (number count : ℕ) (told : walked ≡ Told number count) (o : Astray) (out : FirstOut (dictionaryOf dictionary) kernel (marked marks) o) where
+        module _ (count : ℕ) (told : walked ≡ Good count) (o : Astray) (out : FirstOut (dictionaryOf dictionary) kernel (marked marks) o) where
           abbrev walks : Accepts (parse forms (dictionaryOf dictionary) kernel) marks
-          walks = says-accepted (parse forms (dictionaryOf dictionary) kernel) walked marks says number count told
+          walks = says-accepted (parse forms (dictionaryOf dictionary) kernel) walked marks says count told
 
           -- What rule 12 then says.
           jumped : accepted forms dictionary kernel ≡ astray (walks .instrs) (astrayIs o)
@@ -93,15 +93,15 @@ module _ (forms : Forms) (dictionary kernel marks : List ℕ) where
               ∙ ap (astray k) (sym (out forms k (parse-stands forms dictionary kernel k (walks .judged)) ∙ out-astray (marked marks) k (walks .land) k))
 
           -- No jump goes astray.
-          pub accept-good : o ≡ Nowhere → Says (accepted forms dictionary kernel) (Told number count) marks
+          pub accept-good : o ≡ Nowhere → Says (accepted forms dictionary kernel) (Good count) marks
           accept-good e =
-              says-as (good (walks .instrs)) (Told number count) (jumped ∙ ap (λ (o : Astray). astray (walks .instrs) (astrayIs o)) e)
-              (subst (λ (r : Answer). Says (good (walks .instrs)) r marks) told (rw (walks .judged) at says))
+              says-as (good (walks .instrs)) (Good count) (jumped ∙ ap (λ (o : Astray). astray (walks .instrs) (astrayIs o)) e)
+              (subst (λ (r : Said). Says (good (walks .instrs)) r marks) told (rw (walks .judged) at says))
 
           -- One does.
-          pub accept-astray : (offset : ℕ) → o ≡ Branch offset → Says (accepted forms dictionary kernel) (Refused 12 offset) marks
+          pub accept-astray : (offset : ℕ) → o ≡ Branch offset → Says (accepted forms dictionary kernel) (Bad 12 offset) marks
           accept-astray offset e =
-              says-as (bad 12 offset) (Refused 12 offset) (jumped ∙ ap (λ (o : Astray). astray (walks .instrs) (astrayIs o)) e) (says-bad 12 offset marks)
+              says-as (bad 12 offset) (Bad 12 offset) (jumped ∙ ap (λ (o : Astray). astray (walks .instrs) (astrayIs o)) e) (says-bad 12 offset marks)
 
 -- ---- what is known of an accepted kernel
 

@@ -14,13 +14,12 @@ use Rattle.paper.specs.Kernel.{longAndShort, Judged, refused, passed, judgeAt}
 use Rattle.paper.specs.Calls.{sized, accepted, checkCall, undecoded, decoded, judgedAs, decodeAt, decodedAs, decodeCall, decodePart}
 use Rattle.paper.specs.Calls as paper
 use Rattle.words.specs.Words.{toWord}
-use Rattle.words.specs.Answer.{answerIs}
-use Rattle.words.specs.declared.answer.Answer.{Answer}
+use Rattle.kernel.specs.declared.walk.Said.{Said}
 use Rattle.words.specs.declared.bytes.Word.{Word}
 use Rattle.kernel.specs.declared.decode.Decoded.{Decoded}
 use Rattle.kernel.specs.declared.decode.Decoded.the-variants.{Refused, Passed}
 use Rattle.kernel.specs.Standing.{fits}
-use Rattle.kernel.specs.Marks.{Says, says-answer}
+use Rattle.kernel.specs.Marks.{saidIs, Says, says-answer}
 use Rattle.kernel.specs.Accepting.{right-sizes}
 
 abbrev pub decodedIs : Decoded → paper.Decoded
@@ -62,9 +61,10 @@ one-decoded d r s a b p q = decoded-back r s a b (p ∙ sym q)
 
 -- ---- the check
 
-pub check-says : (dictionary kernel marks : List ℕ) (r : Answer) → Says (accepted longAndShort dictionary kernel) r marks → answerIs r ≡ checkCall dictionary kernel
+pub check-says : (dictionary kernel marks : List ℕ) (r : Said) → Says (accepted longAndShort dictionary kernel) r marks
+    → (x : Said) → r ≡ x → saidIs x ≡ checkCall dictionary kernel
 unfolding checkCall
-check-says dictionary kernel marks r s = says-answer (accepted longAndShort dictionary kernel) r marks s
+check-says dictionary kernel marks r s x e = ap saidIs (sym e) ∙ says-answer (accepted longAndShort dictionary kernel) r marks s
 
 -- ---- decoding, in the code's order
 

@@ -11,10 +11,14 @@ use borrow.Author.Tests.{lt-ltb, le-ltb, eqb-true, eqb-false}
 use Rattle.paper.specs.Limits.{lastPlace}
 use Rattle.paper.specs.Kernel.{Instr, Parsed, bad, good}
 use Rattle.paper.specs.Jump.{lands}
-use Rattle.paper.specs.Calls.{checkedAs}
-use Rattle.words.specs.Answer.{answerIs}
-use Rattle.words.specs.declared.answer.Answer.{Answer}
-use Rattle.words.specs.declared.answer.Answer.the-variants.{Told, Refused}
+use Rattle.paper.specs.Calls.{Answer, verdict, refusal, checkedAs}
+use Rattle.kernel.specs.declared.walk.Said.{Said}
+use Rattle.kernel.specs.declared.walk.Said.the-variants.{Good, Bad}
+
+-- What is said of a kernel, as check answers it.
+abbrev pub saidIs : Said → Answer
+saidIs (Good count) = verdict 0 count
+saidIs (Bad number offset) = refusal number offset
 
 -- How many places there are, from 0 to the largest.
 abbrev pub placeCount : ℕ
@@ -30,24 +34,24 @@ MarksOf (bad number offset) marks = Unit {0}
 MarksOf (good k) marks = (p : ℕ) → marked marks p ≡ lands k p
 
 -- What is said of a kernel that is judged so: the check's answer, and the marks.
-unfoldable pub Says : Parsed → Answer → List ℕ → Type 0
-Says q r marks = (answerIs r ≡ checkedAs q) × MarksOf q marks
+unfoldable pub Says : Parsed → Said → List ℕ → Type 0
+Says q r marks = (saidIs r ≡ checkedAs q) × MarksOf q marks
 
 -- The answer that is said is the check's.
-pub says-answer : (q : Parsed) (r : Answer) (marks : List ℕ) → Says q r marks → answerIs r ≡ checkedAs q
+pub says-answer : (q : Parsed) (r : Said) (marks : List ℕ) → Says q r marks → saidIs r ≡ checkedAs q
 unfolding Says
 says-answer q r marks s = s .0
 
 -- A refusal is said so, whatever the marks.
-pub says-bad : (number offset : ℕ) (marks : List ℕ) → Says (bad number offset) (Refused number offset) marks
+pub says-bad : (number offset : ℕ) (marks : List ℕ) → Says (bad number offset) (Bad number offset) marks
 unfolding Says
 says-bad number offset marks = (refl, tt)
 
 -- What an answer that refuses says.
-pub says-refused : (q : Parsed) (r : Answer) (marks : List ℕ) → Says q r marks → (number offset : ℕ) → r ≡ Refused number offset → q ≡ bad number offset
+pub says-refused : (q : Parsed) (r : Said) (marks : List ℕ) → Says q r marks → (number offset : ℕ) → r ≡ Bad number offset → q ≡ bad number offset
 unfolding Says
-says-refused (bad n o) r marks s number offset e = let same = ap answerIs (sym e) ∙ s .0 in cc
-says-refused (good k) r marks s number offset e = let same = ap answerIs (sym e) ∙ s .0 in cc
+says-refused (bad n o) r marks s number offset e = let same = ap saidIs (sym e) ∙ s .0 in cc
+says-refused (good k) r marks s number offset e = let same = ap saidIs (sym e) ∙ s .0 in cc
 
 -- What one that accepts says: there are these instructions, and they start where the marks are.
 pub record Accepts (q : Parsed) (marks : List ℕ) : Type 0 where
@@ -55,13 +59,13 @@ pub record Accepts (q : Parsed) (marks : List ℕ) : Type 0 where
   pub judged : q ≡ good instrs
   pub land : (p : ℕ) → marked marks p ≡ lands instrs p
 
-pub says-accepted : (q : Parsed) (r : Answer) (marks : List ℕ) → Says q r marks → (number count : ℕ) → r ≡ Told number count → Accepts q marks
+pub says-accepted : (q : Parsed) (r : Said) (marks : List ℕ) → Says q r marks → (count : ℕ) → r ≡ Good count → Accepts q marks
 unfolding Says
-says-accepted (bad n o) r marks s number count e =
-    let same = ap answerIs (sym e) ∙ s .0 in
+says-accepted (bad n o) r marks s count e =
+    let same = ap saidIs (sym e) ∙ s .0 in
     let z : _≡_ {A = ℕ} 0 1 = cc in
     absurd (omega arith)
-says-accepted (good k) r marks s number count e = record { instrs = k; judged = refl; land = s .1 }
+says-accepted (good k) r marks s count e = record { instrs = k; judged = refl; land = s .1 }
 
 -- The instructions of a kernel that is judged so; none of one that is refused.
 abbrev pub instrsOf : Parsed → List Instr
@@ -69,10 +73,10 @@ instrsOf (bad number offset) = []
 instrsOf (good k) = k
 
 -- The same of those instructions.
-pub says-instrs : (q : Parsed) (r : Answer) (marks : List ℕ) → Says q r marks → (number count : ℕ) → r ≡ Told number count
+pub says-instrs : (q : Parsed) (r : Said) (marks : List ℕ) → Says q r marks → (count : ℕ) → r ≡ Good count
     → (q ≡ good (instrsOf q)) × ((p : ℕ) → marked marks p ≡ lands (instrsOf q) p)
-says-instrs q r marks s number count e =
-    let a = says-accepted q r marks s number count e in
+says-instrs q r marks s count e =
+    let a = says-accepted q r marks s count e in
     let same : q ≡ good (instrsOf q) = a .judged ∙ ap (λ (x : Parsed). good (instrsOf x)) (sym (a .judged)) in
     (same, λ p. a .land p ∙ ap (λ (x : Parsed). lands (instrsOf x) p) (sym (a .judged)))
 

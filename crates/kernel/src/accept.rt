@@ -1,10 +1,10 @@
 // A kernel is accepted or refused: 1, 2, 17 and 3 to 11, then 12.
 use crate::jumps::Astray;
 use crate::jumps::first_astray;
+use crate::walk::Said;
 use crate::walk::walk;
 use short::dictionary::in_range;
 use table::regions::region_table;
-use words::answer::Answer;
 use words::limits::DICTIONARY_BYTES;
 use words::limits::KERNEL_BYTES;
 use words::limits::PLACES;
@@ -26,24 +26,24 @@ pub fn is_sized(dictionary: &[u8], kernel: &[u8]) -> bool
     kernel.len() <= KERNEL_BYTES
 }
 
-// What is said of a kernel as a whole: 0 and how many instructions it has, or its refusal. In the marks that are lent, whatever they hold, an accepted kernel's
+// What is said of a kernel as a whole: how many instructions it has, or its refusal. In the marks that are lent, whatever they hold, an accepted kernel's
 // places are then marked, its end among them, and no other; what a refused kernel leaves in them is working storage.
-pub fn accept(long: bool, dictionary: &[u8], kernel: &[u8], marks: &mut [u8; PLACES]) -> Answer
+pub fn accept(long: bool, dictionary: &[u8], kernel: &[u8], marks: &mut [u8; PLACES]) -> Said
     ensures { λ r. ⌜ Says (accepted (formsIs long) (now (dictionary .entry)) (now (kernel .entry))) r (now (marks .exit)) ⌝ }
 {
     if !is_sized(dictionary, kernel) {
-        return Answer::Refused(1, 0);
+        return Said::Bad(1, 0);
     }
     if !in_range(dictionary) {
-        return Answer::Refused(2, 0);
+        return Said::Bad(2, 0);
     }
     let regions = region_table();
     let walked = walk(&regions, long, dictionary, kernel, marks);
-    let Answer::Told(number, count) = walked else {
+    let Said::Good(count) = walked else {
         return walked;
     };
     match first_astray(dictionary, kernel, marks) {
-        Astray::Nowhere => Answer::Told(number, count),
-        Astray::Branch(offset) => Answer::Refused(12, offset),
+        Astray::Nowhere => Said::Good(count),
+        Astray::Branch(offset) => Said::Bad(12, offset),
     }
 }

@@ -2,7 +2,6 @@
 use crate::instruction::Judged;
 use crate::instruction::judge_at;
 use table::regions::FIELDS;
-use words::answer::Answer;
 use words::limits::INSTRUCTION_LIMIT;
 use words::limits::PLACES;
 ghost use mathlib.Core.Path.{_≡_};
@@ -15,7 +14,13 @@ ghost use Rattle.table.specs.Entries.{regionTable};
 ghost use Rattle.kernel.specs.Judging.{formsIs};
 ghost use Rattle.kernel.specs.Marks.{Says};
 
-// The kernel's instructions, judged one after the other: 0 and how many there are, or the refusal of the first that is refused. In the marks that are
+// What is said of a kernel: how many instructions it has; or a refusal's number, and the byte offset of what is refused.
+pub enum Said {
+    Good(u64),
+    Bad(u8, u64),
+}
+
+// The kernel's instructions, judged one after the other: how many there are, or the refusal of the first that is refused. In the marks that are
 // lent it sets a mark, 1, for each place at which one starts and for the end, and none elsewhere. The marks that a refused kernel leaves are working storage.
 // The table of what source fields allow is lent, for the judge to look in.
 pub(crate) fn walk(
@@ -24,7 +29,7 @@ pub(crate) fn walk(
     dictionary: &[u8],
     kernel: &[u8],
     marks: &mut [u8; PLACES],
-) -> Answer
+) -> Said
     requires { ⌜ (now regions ≡ regionTable) × (length (now dictionary) ≡ dictionaryBytes) × (length (now kernel) ≤ kernelBytes) ⌝ }
     ensures { λ r. ⌜ Says (parse (formsIs long) (dictionaryOf (now (dictionary .entry))) (now (kernel .entry))) r (now (marks .exit)) ⌝ }
 {
@@ -33,11 +38,11 @@ pub(crate) fn walk(
     let mut count: u64 = 0;
     while from < kernel.len() {
         if count == INSTRUCTION_LIMIT {
-            return Answer::Refused(17, from as u64);
+            return Said::Bad(17, from as u64);
         }
         match judge_at(regions, long, dictionary, kernel, from) {
             Judged::Refused(number) => {
-                return Answer::Refused(number, from as u64);
+                return Said::Bad(number, from as u64);
             }
             Judged::Passed(size, _) => {
                 let place = from / 8;
@@ -49,5 +54,5 @@ pub(crate) fn walk(
     }
     let end = from / 8;
     marks[end] = 1;
-    Answer::Told(0, count)
+    Said::Good(count)
 }

@@ -15,7 +15,8 @@ use Rattle.paper.specs.Operation.{operation}
 use Rattle.paper.specs.Kernel.{Instr}
 use Rattle.paper.specs.Jump.{nextOf, Distance, distances, baseOf, signedOf, reach, reached, targetsOf, placeOf, endFrom, jumpLands, targetsLand}
 use Rattle.paper.specs.Packing.{index, Piece, Form, piece, newSize, startOf, newTargets, aimed, rewritten}
-use Rattle.laws.specs.Names.{Laid, AllLand, Sound, goalOf, AllLong, longForm, piecesOf, newEnd, movedTo, moved, relaidBy}
+use Rattle.paper.specs.Program.{goalOf}
+use Rattle.laws.specs.Names.{Laid, AllLand, Sound, AllLong, longForm, piecesOf, newEnd, movedTo, moved, relaidBy}
 use Rattle.laws.specs.Put.{put-put, put-same}
 use Rattle.laws.specs.Places.{at, here, there, index-here, index-there, index-le, Names, lands-names, place-lands}
 use Rattle.laws.specs.Truth.{both-true}
@@ -49,7 +50,7 @@ distance-back n a d t h e = go (ltb d (2 ^ (n - 1))) refl
         ap (λ (x : ℕ). x % 2 ^ n) (omega arith) ∙ mod-eq-of-lt h
 
 -- Words aimed at the places that they reach already are the words themselves.
-aimed-same : (k : List Instr) (fs : List Distance) (i : Instr) → targetsLand k (reached fs i) ≡ true
+pub aimed-same : (k : List Instr) (fs : List Distance) (i : Instr) → targetsLand k (reached fs i) ≡ true
     → aimed fs (i .word) (i .place) (nextOf i) (map placeOf (reached fs i)) ≡ i .word
 unfolding aimed
 aimed-same k [] i e = refl
@@ -88,7 +89,7 @@ long-start b [] (suc j) h = absurd (omega arith)
 long-start b (i ∷ rest) (suc j) h = omega (arith, long-start (b + 2) rest j (omega arith))
 
 -- In a kernel of long words, so does instruction j; and the end comes after the last.
-long-place : (b : ℕ) (rest : List Instr) (p : ℕ) → Laid b rest → AllLong rest → (index rest p ≡ length rest → p ≡ endFrom b rest)
+pub long-place : (b : ℕ) (rest : List Instr) (p : ℕ) → Laid b rest → AllLong rest → (index rest p ≡ length rest → p ≡ endFrom b rest)
     → p ≡ b + 2 * index rest p
 unfolding Laid AllLong index endFrom
 long-place b [] p l s e = omega (arith, e refl)

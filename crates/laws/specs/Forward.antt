@@ -12,7 +12,8 @@ use Rattle.paper.specs.Kernel.{Instr}
 use Rattle.paper.specs.Jump.{nextOf, endFrom, jumpLands, targetsLand, targetsOf}
 use Rattle.paper.specs.Forward.{lieAfter, forward}
 use Rattle.paper.specs.Packing.{index}
-use Rattle.laws.specs.Names.{Laid, AllLand, Sound, goalOf, Line, lineOf, program}
+use Rattle.paper.specs.Program.{goalOf, Line, lineOf, program}
+use Rattle.laws.specs.Names.{Laid, AllLand, Sound}
 use Rattle.laws.specs.Places.{here, there, at, index-here, index-there, index-le, Names, lands-names, end-after}
 use Rattle.laws.specs.Truth.{both-true}
 

@@ -16,6 +16,8 @@ pub mod Same
 pub mod Forward
 pub mod Finish
 pub mod Back
+pub mod Unique
+pub mod Agreed
 pub mod Bytes
 pub mod Walk
 pub mod Judged
@@ -38,6 +40,7 @@ pub mod Changes
 pub mod KeptFlags
 pub mod Longer
 pub mod Demands
+pub mod Pairs
 pub mod Otherwise
 pub mod Adding
 pub mod VotesBefore

@@ -19,7 +19,8 @@ use Rattle.paper.specs.Kernel.{Instr}
 use Rattle.paper.specs.Jump.{Base, ownStart, ownEnd, Distance, jip, uip, distancesOf, distances, baseOf, signedOf, reach, reached, targetsOf, placeOf}
 use Rattle.paper.specs.Jump.{fetch, endFrom, endOf, found, lands, targetsLand}
 use Rattle.paper.specs.Packing.{index, Piece, Form, piece, placesTaken, newSize, startOf, distanceTo, newTargets, aimed, rewritten}
-use Rattle.laws.specs.Names.{Laid, AllLand, Sound, blanked, blank, goalOf, Line, lineOf, program, piecesOf, newEnd, movedTo, moved, relaidBy}
+use Rattle.paper.specs.Program.{blanked, blank, goalOf, Line, lineOf, program}
+use Rattle.laws.specs.Names.{Laid, AllLand, Sound, piecesOf, newEnd, movedTo, moved, relaidBy}
 use Rattle.laws.specs.Put.{put-below, put-above, put-at, put-put, put-fits, put-apart}
 use Rattle.laws.specs.Rename.{AtPlaces}
 use Rattle.laws.specs.Places.{index-here, index-there, index-le, none-length}
@@ -34,11 +35,11 @@ pub record Clear (f : Distance) : Type 0 where
   pub beside : (f .lo + f .width ≤ 89) ⊎ (90 ≤ f .lo)
 
 -- Two distances have no bit in common.
-abbrev Beside : Distance → Distance → Type 0
+abbrev pub Beside : Distance → Distance → Type 0
 Beside f g = (f .lo + f .width ≤ g .lo) ⊎ (g .lo + g .width ≤ f .lo)
 
 -- A distance has no bit in common with any of a list.
-abbrev Apart : Distance → List Distance → Type 0
+abbrev pub Apart : Distance → List Distance → Type 0
 Apart f [] = Unit {0}
 Apart f (g ∷ gs) = Beside f g × Apart f gs
 
@@ -184,7 +185,7 @@ aimed-beside f (g ∷ fs) a w here next (t ∷ to) =
     ∙ put-beside f g (a .0) w _ (distance-fits g (baseOf (g .base) here next) t)
 
 -- So it is written before them or after them.
-put-commutes : (f g : Distance) → Beside f g → (w u v : ℕ) → u < 2 ^ f .width → v < 2 ^ g .width
+pub put-commutes : (f g : Distance) → Beside f g → (w u v : ℕ) → u < 2 ^ f .width → v < 2 ^ g .width
     → put (put w (g .lo) (g .width) v) (f .lo) (f .width) u ≡ put (put w (f .lo) (f .width) u) (g .lo) (g .width) v
 put-commutes f g (inl h) w u v a b = put-apart w (f .lo) (f .width) u (g .lo) (g .width) v a h
 put-commutes f g (inr h) w u v a b = sym (put-apart w (g .lo) (g .width) v (f .lo) (f .width) u b h)

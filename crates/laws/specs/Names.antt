@@ -1,15 +1,12 @@
--- Which instruction a place names, a state read so, and a kernel's program: what is left of it without its places. Assumes nothing.
+-- Which instruction a place names, a state read so, and a kernel laid out anew. Assumes nothing.
 use mathlib.Core.Path.{_≡_}
 use mathlib.Core.Bool.{true}
 use mathlib.Core.List.{List, [], _∷_, map}
 use mathlib.Core.Option.{none}
 use Prim.Native.Nat.{ℕ, _+_, _<_}
-use lib.IntN.{ℤ}
 use lib.ListN.{length}
-use Rattle.paper.specs.Bits.{put}
-use Rattle.paper.specs.Operation.{operation}
 use Rattle.paper.specs.Kernel.{Instr}
-use Rattle.paper.specs.Jump.{nextOf, Distance, distances, targetsOf, placeOf, targetsLand}
+use Rattle.paper.specs.Jump.{nextOf, targetsOf, targetsLand}
 use Rattle.paper.specs.Machine.{Channel, off, awake, waiting, State, Outcome}
 use Rattle.paper.specs.Packing.{index, Piece, Form, piece, newSize, startOf, rewritten}
 
@@ -49,33 +46,6 @@ named k s = rename (index k) s
 -- A run's outcome, its state read so.
 abbrev pub namedOutcome : List Instr → Outcome → Outcome
 namedOutcome k o = record { verdict = o .verdict; steps = o .steps; state = named k (o .state) }
-
--- ---- programs
-
--- A word with some distances replaced by 0.
-unfoldable pub blanked : List Distance → ℕ → ℕ
-blanked [] w = w
-blanked (f ∷ fs) w = blanked fs (put w (f .lo) (f .width) 0)
-
--- A word without its distances; what is no branch has none, and stays as it is.
-abbrev pub blank : ℕ → ℕ
-blank w = blanked (distances (operation w)) w
-
--- The number of the instruction at which a jump lands.
-abbrev pub goalOf : List Instr → ℤ → ℕ
-goalOf k z = index k (placeOf z)
-
--- An instruction without its place: its word without its distances, and the numbers of the instructions that they lead to.
-pub record Line : Type 0 where
-  pub word : ℕ
-  pub goals : List ℕ
-
-abbrev pub lineOf : List Instr → Instr → Line
-lineOf k i = record { word = blank (i .word); goals = map (goalOf k) (targetsOf i) }
-
--- A kernel without its places.
-abbrev pub program : List Instr → List Line
-program k = map (lineOf k) k
 
 -- ---- a kernel laid out anew
 

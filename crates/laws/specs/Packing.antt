@@ -21,7 +21,8 @@ use Rattle.paper.specs.Jump.{nextOf, endOf, withJumps}
 use Rattle.paper.specs.Packing.{Piece, Form, piece, newSize, rewritten, encode, layFrom, relay, packed, unpacked}
 use Rattle.paper.specs.Calls.{judgedKernel, sized, accepted, Written, verdict, deliver, relaid, packCall, unpackCall}
 use Rattle.laws.specs.Shorten.{shorten-some, shorten-none, shorten-right}
-use Rattle.laws.specs.Names.{Laid, AllLand, Sound, Line, program, moved, relaidBy, newEnd, piecesOf, longForm, AllLong}
+use Rattle.paper.specs.Program.{Line, program}
+use Rattle.laws.specs.Names.{Laid, AllLand, Sound, moved, relaidBy, newEnd, piecesOf, longForm, AllLong}
 use Rattle.laws.specs.Moved.{relaid-program, relaid-sound, relaid-length, rewritten-plain, rewritten-operation}
 use Rattle.laws.specs.Back.{relaid-back}
 use Rattle.laws.specs.Expand.{expand-operation}
@@ -115,7 +116,7 @@ long-is-right forms D w s fits e = let z : _≡_ {A = ℕ} 0 1 = cc in absurd (o
 
 -- ---- kernels of long words
 
-all-long : (kernel : List ℕ) (k : List Instr) → Each (WordAt longOnly kernel) k → AllLong k
+pub all-long : (kernel : List ℕ) (k : List Instr) → Each (WordAt longOnly kernel) k → AllLong k
 unfolding Each AllLong
 all-long kernel [] h = tt
 all-long kernel (i ∷ k) h = (h .0 .two refl, all-long kernel k (h .1))
@@ -169,7 +170,7 @@ lay-long k ps a [] = refl
 lay-long k ps a (i ∷ rest) =
     ap (λ (l : List ℕ). bytesOf 16 (rewritten k ps a (piece longForm i)) ++ l) (lay-long k ps (a + newSize (piece longForm i)) rest)
 
-relay-long : (k : List Instr) → relay longForm k ≡ longBytes (relaidBy longForm k)
+pub relay-long : (k : List Instr) → relay longForm k ≡ longBytes (relaidBy longForm k)
 unfolding relay
 relay-long k = lay-long k (piecesOf longForm k) 0 k
 

@@ -19,7 +19,8 @@ use Rattle.paper.specs.Machine.{Channel, off, awake, waiting, State, Ways, wake
 use Rattle.paper.specs.Machine.{leads, waysOf, stepOn, step, stopsOn, stops, runWith, run, startFrom, start}
 use Rattle.paper.specs.State.{waitsLand, stateLands}
 use Rattle.paper.specs.Packing.{index, Form}
-use Rattle.laws.specs.Names.{Laid, Sound, renameC, named, namedOutcome, blanked, blank, goalOf, Line, lineOf, program, newEnd, relaidBy}
+use Rattle.paper.specs.Program.{blanked, blank, goalOf, Line, lineOf, program}
+use Rattle.laws.specs.Names.{Laid, Sound, renameC, named, namedOutcome, newEnd, relaidBy}
 use Rattle.laws.specs.Put.{put-below, put-above}
 use Rattle.laws.specs.Rename.{cond-ap, AtState, AtChannels, AtWays, renameWays, leads-at, leads-rename, stepAt-at, stepAt-rename}
 use Rattle.laws.specs.Places.{Names, apart, found, fetch-index, start-zero, zero-lands, lands-names, next-names, jump-lands, targets-name}

@@ -13,6 +13,8 @@ use Rattle.laws.specs.Relay.{relay-length}
 use Rattle.words.specs.Answer.{Wrote}
 use Rattle.words.specs.declared.answer.Answer.{Answer}
 use Rattle.words.specs.declared.answer.Answer.the-variants.{Told, Refused}
+use Rattle.kernel.specs.declared.walk.Said.{Said}
+use Rattle.kernel.specs.declared.walk.Said.the-variants.{Good, Bad}
 use Rattle.kernel.specs.Judging.{formsIs}
 use Rattle.kernel.specs.Marks.{placeCount, Says, says-refused, says-instrs}
 use Rattle.kernel.specs.Accepting.{accepted-kernel}
@@ -54,18 +56,18 @@ module _ (packs : Bool) (dictionary kernel : List ℕ) (taken : Taken packs dict
 
 -- ---- the call, by what is said of the kernel
 
-module _ (packs : Bool) (dictionary kernel marks : List ℕ) (said : Answer) (says : Says (accepted (formsIs packs) dictionary kernel) said marks) where
+module _ (packs : Bool) (dictionary kernel marks : List ℕ) (said : Said) (says : Says (accepted (formsIs packs) dictionary kernel) said marks) where
   -- What the call is.
   abbrev call : List ℕ → Written
   call out = relaid (formOf packs (dictionaryOf dictionary)) out (accepted (formsIs packs) dictionary kernel)
 
-  pub call-refused : (number offset : ℕ) → said ≡ Refused number offset → (out : List ℕ) → Wrote (call out) (Refused number offset) out
+  pub call-refused : (number offset : ℕ) → said ≡ Bad number offset → (out : List ℕ) → Wrote (call out) (Refused number offset) out
   call-refused number offset e out = rw (says-refused (accepted (formsIs packs) dictionary kernel) said marks says number offset e) (refl, refl)
 
-  module _ (number count : ℕ) (e : said ≡ Told number count) where
+  module _ (count : ℕ) (e : said ≡ Good count) where
     is-good : accepted (formsIs packs) dictionary kernel ≡ good (kernelOf packs dictionary kernel)
     unfolding kernelOf
-    is-good = says-instrs (accepted (formsIs packs) dictionary kernel) said marks says number count e .0
+    is-good = says-instrs (accepted (formsIs packs) dictionary kernel) said marks says count e .0
 
     pub call-taken : Taken packs dictionary kernel
     call-taken = accepted-kernel (formsIs packs) dictionary kernel (kernelOf packs dictionary kernel) is-good

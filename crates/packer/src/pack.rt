@@ -3,6 +3,7 @@ use crate::form::SHORTS;
 use crate::place::place_all;
 use crate::write::write_all;
 use kernel::accept::accept;
+use kernel::walk::Said;
 use short::sets::SETS;
 use short::sets::gather_all;
 use words::answer::Answer;
@@ -69,8 +70,8 @@ fn relay(packs: bool, dictionary: &[u8], kernel: &[u8], out: &mut [u8]) -> Answe
     let mut marks = [0u8; PLACES];
     let said = accept(packs, dictionary, kernel, &mut marks);
     match said {
-        Answer::Told(_, _) => lay_out(packs, dictionary, kernel, out),
-        Answer::Refused(number, offset) => Answer::Refused(number, offset),
+        Said::Good(_) => lay_out(packs, dictionary, kernel, out),
+        Said::Bad(number, offset) => Answer::Refused(number, offset),
     }
 }
 

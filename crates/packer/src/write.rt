@@ -52,7 +52,7 @@ fn new_place(places: &[u16; PLACES], d: Distance, w: Word, here: u64, size: u64)
 }
 
 // The word w of an instruction of `size` places from the old place `here` on, which comes to stand from `to` to `next`, with its distances rewritten.
-fn rewrite(places: &[u16; PLACES], w: Word, here: u64, size: u64, to: u64, next: u64) -> Word
+pub fn rewrite(places: &[u16; PLACES], w: Word, here: u64, size: u64, to: u64, next: u64) -> Word
     requires { ⌜ (here < placeCount) × (size ≤ 2) × (to < placeCount) × (next < placeCount) × Reaches (now places) (instrOf here size (toWord w)) ⌝ }
     ensures { λ r. ⌜ toWord r ≡ aimed (distances (operation (toWord w))) (toWord w) to next (newPlaces (now (places .entry)) (instrOf here size (toWord w))) ⌝ }
 {

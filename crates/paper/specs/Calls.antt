@@ -20,31 +20,38 @@ use Rattle.paper.specs.Forward.{forward}
 use Rattle.paper.specs.Machine.{State, step, stops, Outcome, run, start}
 use Rattle.paper.specs.State.{stateOf, stateLegal, stateBytes}
 use Rattle.paper.specs.Packing.{Form, relay}
+use Rattle.paper.specs.Program.{program, agreed}
 
 -- ---- answers
 
--- A verdict: a number of the paper's list and a count. A refusal: its number and the byte offset of the refused instruction.
+-- A verdict: a number of the paper's list and a count. A refusal: its number and the byte offset of the refused instruction. A refusal that counts: its number,
+-- the offset, or what the call says in its place, and a count.
 pub data Answer : Type 0 where
   verdict : ℕ → ℕ → Answer
   refusal : ℕ → ℕ → Answer
+  refusalWith : ℕ → ℕ → ℕ → Answer
 
 -- The one number in which an answer crosses to C.
 unfoldable pub asNumber : Answer → ℕ
 asNumber (verdict number count) = number + 2 ^ 32 * count
 asNumber (refusal number offset) = number + 2 ^ 8 * offset
+asNumber (refusalWith number offset count) = number + 2 ^ 8 * offset + 2 ^ 32 * count
 
 -- Its three parts; what an answer does not tell is 0.
 abbrev pub numberOf : Answer → ℕ
 numberOf (verdict number count) = number
 numberOf (refusal number offset) = number
+numberOf (refusalWith number offset count) = number
 
 abbrev pub offsetOf : Answer → ℕ
 offsetOf (verdict number count) = 0
 offsetOf (refusal number offset) = offset
+offsetOf (refusalWith number offset count) = offset
 
 abbrev pub countOf : Answer → ℕ
 countOf (verdict number count) = count
 countOf (refusal number offset) = 0
+countOf (refusalWith number offset count) = count
 
 -- An answer and what one lent buffer then holds.
 pub record Written : Type 0 where
@@ -106,6 +113,35 @@ packCall dictionary kernel out = relaid (shorten (dictionaryOf dictionary)) out 
 
 unfoldable pub unpackCall : List ℕ → List ℕ → List ℕ → Written
 unpackCall dictionary kernel out = relaid (λ _. none) out (accepted longAndShort dictionary kernel)
+
+-- ---- a long kernel and one that was sent for it (02 §11): the count is the length of the part to load
+
+-- Two accepted kernels: 0 if they have the same program, else 31 with the number of the first instruction that differs, or the smaller number of
+-- instructions, in place of the offset. The sent kernel is to be loaded, or the long one.
+abbrev pub comparedAs : List ℕ → List ℕ → List Instr → List Instr → Answer
+comparedAs long sent k l =
+    let same = agreed (program k) (program l) in
+    cond (eqb same (length k) && eqb same (length l)) (verdict 0 (length sent)) (refusalWith 31 same (length long))
+
+-- The long kernel's refusal comes first, and nothing is to be loaded; then the sent one's, and the long one is.
+abbrev pub pairedAs : List ℕ → List ℕ → Parsed → Parsed → Answer
+pairedAs long sent (bad number offset) q = refusal number offset
+pairedAs long sent (good k) (bad number offset) = refusalWith number offset (length long)
+pairedAs long sent (good k) (good l) = comparedAs long sent k l
+
+-- The long kernel must be all long words.
+unfoldable pub pairCall : List ℕ → List ℕ → List ℕ → Answer
+pairCall dictionary long sent = pairedAs long sent (accepted longOnly dictionary long) (accepted longAndShort dictionary sent)
+
+-- What an answer of the pair loads.
+abbrev pub loadedBy : List ℕ → List ℕ → Answer → List ℕ
+loadedBy long sent (verdict number count) = sent
+loadedBy long sent (refusal number offset) = []
+loadedBy long sent (refusalWith number offset count) = long
+
+-- The kernel to load, as a part of one of the two: the sent one if the pair is accepted, else the long one; none of it where the long one is refused.
+unfoldable pub loadPart : List ℕ → List ℕ → List ℕ → List ℕ
+loadPart dictionary long sent = loadedBy long sent (pairCall dictionary long sent)
 
 -- ---- one word: 1, 2, 4, 5, 13, 14
 

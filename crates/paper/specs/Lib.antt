@@ -21,6 +21,7 @@ pub mod Forward
 pub mod Machine
 pub mod State
 pub mod Packing
+pub mod Program
 pub mod Calls
 pub mod Assembler
 pub mod Sheet
@@ -30,3 +31,4 @@ pub mod SheetVotes
 pub mod SheetLeaving
 pub mod SheetForward
 pub mod SheetHolds
+pub mod SheetPairs

@@ -1,4 +1,4 @@
--- Kernels with one program run alike, and so do a kernel and its packed or unpacked form. Assumes nothing.
+-- Kernels with one program run alike (`program-alike`), and so do a kernel and its packed or unpacked form. Assumes nothing.
 use mathlib.Core.Bool.{true}
 use mathlib.Core.List.{List}
 use mathlib.Core.Logic.{_⊎_, inl, inr}
@@ -14,7 +14,8 @@ use Rattle.paper.specs.Kernel.{Instr, longAndShort, longOnly, good}
 use Rattle.paper.specs.Machine.{State, Outcome, run}
 use Rattle.paper.specs.State.{stateOf}
 use Rattle.paper.specs.Calls.{asNumber, verdict, Changed, accepted, ranAs, runCall, numberOf, countOf}
-use Rattle.laws.specs.Names.{named, namedOutcome, program, relaidBy, longForm}
+use Rattle.paper.specs.Program.{program}
+use Rattle.laws.specs.Names.{named, namedOutcome, relaidBy, longForm}
 use Rattle.laws.specs.Same.{same-runs}
 use Rattle.laws.specs.Packing.{kernel-of, long-accepted, packed-accepted, packed-program, unpacked-accepted, unpacked-program, accepted-parts}
 use Rattle.laws.specs.Calls.{run-verdict}
@@ -145,7 +146,7 @@ module _ (dictionary kernel kernel′ : List ℕ) (right : areBytes kernel ≡ t
       (start-legal dictionary kernel right k taken state registers b) (start-legal dictionary kernel′ right′ l taken′ state registers b)
       (start-names state registers b dictionary kernel right k taken ∙ sym (start-names state registers b dictionary kernel′ right′ l taken′))
 
-  program-alike : Alike dictionary kernel kernel′
+  pub program-alike : Alike dictionary kernel kernel′
   program-alike =
       record {
         k = k;

@@ -22,7 +22,8 @@ use Rattle.paper.specs.Forward.{forward}
 use Rattle.paper.specs.Machine.{State, wake, isAwake, stopsOn, step}
 use Rattle.paper.specs.State.{half, channelsIn, stateOf}
 use Rattle.paper.specs.Calls.{verdict, asNumber, accepted, checkedAs, checkCall, forwardAs, forwardCall, numberOf, offsetOf, countOf}
-use Rattle.laws.specs.Names.{lineOf, program, relaidBy, longForm}
+use Rattle.laws.specs.Names.{relaidBy, longForm}
+use Rattle.paper.specs.Program.{lineOf, program}
 use Rattle.laws.specs.Places.{found}
 use Rattle.laws.specs.Forward.{forward-same}
 use Rattle.laws.specs.Finish.{step-store, ends-within}

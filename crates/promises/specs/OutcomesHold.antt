@@ -6,15 +6,15 @@ use mathlib.Core.Path.{_≡_, sym, ap, _∙_}
 use Prim.Native.Nat.{ℕ, _*_}
 use native.Mathlib.Omega.{arith}
 use lib.ListN.{length, take, drop}
-use Rattle.paper.specs.Calls.{Answer, asNumber, Written, checkCall, forwardCall, packCall, unpackCall, shortenCall, expandCall, decodeCall, decodePart, startCall, stepCall, runCall, numberOf}
+use Rattle.paper.specs.Calls.{Answer, asNumber, Written, checkCall, forwardCall, packCall, unpackCall, pairCall, shortenCall, expandCall, decodeCall, decodePart, startCall, stepCall, runCall, numberOf}
 use Rattle.laws.specs.Calls.{Confined, pack-confined, unpack-confined, shorten-confined, expand-confined, start-confined, decode-refused, step-unchanged, run-unchanged}
 use Rattle.contracts.specs.Contracts.{numberIn, offsetIn, countIn, Wrote}
-use Rattle.answers.specs.Numbers.{checkNumbers, forwardNumbers, packNumbers, unpackNumbers, shortenNumbers, expandNumbers, decodeNumbers, startNumbers, stepNumbers, runNumbers}
+use Rattle.answers.specs.Numbers.{checkNumbers, forwardNumbers, packNumbers, unpackNumbers, pairNumbers, shortenNumbers, expandNumbers, decodeNumbers, startNumbers, stepNumbers, runNumbers}
 use Rattle.contracts.specs.OneOutcomeHolds.{one-outcome}
 use Rattle.promises.specs.Promises.{Told, Answers, Kept, Refusals, Demand1}
 use Rattle.answers.specs.Small.{number-back, offset-back, count-back}
 use Rattle.promises.specs.Results.{decode-inside, part-are, part-length}
-use Rattle.answers.specs.Calls.{Fine, check-fine, forward-fine, pack-fine, unpack-fine, shorten-fine, expand-fine, decode-fine, start-fine, step-fine, run-fine}
+use Rattle.answers.specs.Calls.{Fine, check-fine, forward-fine, pack-fine, unpack-fine, pair-fine, shorten-fine, expand-fine, decode-fine, start-fine, step-fine, run-fine}
 
 -- ---- every answer is one of the paper's
 
@@ -36,6 +36,7 @@ answers =
       forward = λ dictionary kernel r p. told forwardNumbers (forwardCall dictionary kernel) r (forward-fine dictionary kernel) p;
       pack = λ dictionary kernel out r out′ p. told packNumbers (packCall dictionary kernel out .answer) r (pack-fine dictionary kernel out) (p .0);
       unpack = λ dictionary kernel out r out′ p. told unpackNumbers (unpackCall dictionary kernel out .answer) r (unpack-fine dictionary kernel out) (p .0);
+      pair = λ dictionary long sent r p. told pairNumbers (pairCall dictionary long sent) r (pair-fine dictionary long sent) p;
       shorten = λ dictionary word out r out′ p. told shortenNumbers (shortenCall dictionary word out .answer) r (shorten-fine dictionary word out) (p .0);
       expand = λ dictionary word out r out′ p. told expandNumbers (expandCall dictionary word out .answer) r (expand-fine dictionary word out) (p .0);
       decode = λ dictionary kernel place r p. told decodeNumbers (decodeCall dictionary kernel place) r (decode-fine dictionary kernel place) p;

@@ -14,7 +14,8 @@ use Rattle.paper.specs.Kernel.{Instr, Forms, longAndShort, longOnly, good}
 use Rattle.paper.specs.Packing.{Form, encode, relay}
 use Rattle.paper.specs.Calls.{Answer, asNumber, verdict, Written, accepted, packCall, unpackCall, numberOf, countOf}
 use Rattle.laws.specs.Bytes.{bytes-append, bytes-bytesOf}
-use Rattle.laws.specs.Names.{lineOf, program, relaidBy, longForm}
+use Rattle.paper.specs.Program.{lineOf, program}
+use Rattle.laws.specs.Names.{relaidBy, longForm}
 use Rattle.laws.specs.Items.{Item, itemBytes, allBytes, instrsFrom}
 use Rattle.laws.specs.Packing.{kernel-of, long-accepted, packed-accepted, packed-program, unpacked-accepted, unpacked-program, packed-items}
 use Rattle.laws.specs.Relay.{itemsOf, relay-items}

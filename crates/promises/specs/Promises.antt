@@ -1,6 +1,6 @@
 -- The promises of the exported calls, for all that can be lent to them. Read this file first, and after it what it names: the contracts (Contracts and OneOutcome
 -- of the crate `spokeshaver`) and the lists of numbers (Numbers of `answers`). It states them and proves none: `demand-1` of OutcomesHold, `demand-2` of
--- PackingHolds, `demand-3` of RunningHolds, `passed-before` of PassedHolds and `still-answered` of LongerHolds are the theorems. Finishing goes on from here, with when a kernel
+-- PackingHolds, `demand-3` of RunningHolds, `pairs` of PairsHold, `passed-before` of PassedHolds and `still-answered` of LongerHolds are the theorems. Finishing goes on from here, with when a kernel
 -- must finish and what a step may change. A hypothesis such as `PackPromise dictionary kernel out r out′` says: spokeshaver_pack, lent
 -- these, answered r and left out′ in its output; that is the contract of the call, proved with its code. `numberIn`, `offsetIn` and `countIn` take an answer
 -- apart as the header's macros do. Demands 2 and 3 ask besides that what is lent is bytes (`areBytes`) and 16-bit numbers, as the types in C say.
@@ -16,12 +16,13 @@ use Rattle.paper.specs.Bits.{numberAt}
 use Rattle.paper.specs.Dictionary.{dictionaryOf}
 use Rattle.paper.specs.Expand.{expand}
 use Rattle.paper.specs.Shorten.{Shortens, Least}
-use Rattle.paper.specs.Kernel.{Instr, Forms, longAndShort, longOnly, good}
+use Rattle.paper.specs.Kernel.{Instr, Forms, longAndShort, longOnly, good, bad}
 use Rattle.paper.specs.Machine.{Ways, State}
 use Rattle.paper.specs.State.{half, channelsIn, stateLegal}
 use Rattle.paper.specs.Packing.{index}
-use Rattle.paper.specs.Calls.{Answer, verdict, refusal, asNumber, accepted, checkCall, forwardCall, packCall, unpackCall, shortenCall, expandCall, decodeCall, decodePart, startCall, stepCall, runCall, numberOf, offsetOf, countOf}
-use Rattle.laws.specs.Names.{renameC, program}
+use Rattle.paper.specs.Calls.{Answer, verdict, refusal, asNumber, accepted, checkCall, forwardCall, packCall, unpackCall, pairCall, loadPart, shortenCall, expandCall, decodeCall, decodePart, startCall, stepCall, runCall, numberOf, offsetOf, countOf}
+use Rattle.paper.specs.Program.{program}
+use Rattle.laws.specs.Names.{renameC}
 use Rattle.laws.specs.Items.{Item, allBytes, instrsFrom}
 use Rattle.laws.specs.Packing.{AllShortest}
 use Rattle.laws.specs.Otherwise.{judgeAtBy, Judgement, checkCallBy, packCallBy, unpackCallBy, stepCallBy, runCallBy}
@@ -29,10 +30,10 @@ use Rattle.laws.specs.VotesBefore.{refusalBefore, stepAtBefore}
 use Rattle.laws.specs.LeavingBefore.{formerJudge, formerStep}
 use Rattle.laws.specs.Leaving.{Leaves, wordAt}
 use Rattle.laws.specs.Longer.{bytesBefore, instructionsBefore, Settled, sizedWithin, acceptedWithin, checkWithin, packWithin, unpackWithin, decodeWithin, stepWithin, runWithin}
-use Rattle.contracts.specs.Contracts.{numberIn, offsetIn, countIn, Wrote, Left, CheckPromise, ForwardPromise, PackPromise, UnpackPromise, ShortenPromise, ExpandPromise}
+use Rattle.contracts.specs.Contracts.{numberIn, offsetIn, countIn, Wrote, Left, CheckPromise, ForwardPromise, PackPromise, UnpackPromise, PairPromise, ShortenPromise, ExpandPromise, DecodePromise, StartPromise, StepPromise, RunPromise}
 use Rattle.contracts.specs.Contracts.{DecodePromise, StartPromise, StepPromise, RunPromise}
 use Rattle.contracts.specs.OneOutcome.{OneOutcome}
-use Rattle.answers.specs.Numbers.{checkNumbers, forwardNumbers, packNumbers, unpackNumbers, shortenNumbers, expandNumbers, decodeNumbers, startNumbers, stepNumbers, runNumbers}
+use Rattle.answers.specs.Numbers.{checkNumbers, forwardNumbers, packNumbers, unpackNumbers, pairNumbers, shortenNumbers, expandNumbers, decodeNumbers, startNumbers, stepNumbers, runNumbers}
 
 -- ==== demand 1: one outcome, from the paper's list, and a refusal changes nothing
 
@@ -51,6 +52,7 @@ pub record Answers : Type 0 where
       → Told packNumbers (packCall dictionary kernel out .answer) r
   pub unpack : (dictionary kernel out : List ℕ) (r : ℕ) (out′ : List ℕ) → UnpackPromise dictionary kernel out r out′
       → Told unpackNumbers (unpackCall dictionary kernel out .answer) r
+  pub pair : (dictionary long sent : List ℕ) (r : ℕ) → PairPromise dictionary long sent r → Told pairNumbers (pairCall dictionary long sent) r
   pub shorten : (dictionary word out : List ℕ) (r : ℕ) (out′ : List ℕ) → ShortenPromise dictionary word out r out′
       → Told shortenNumbers (shortenCall dictionary word out .answer) r
   pub expand : (dictionary word out : List ℕ) (r : ℕ) (out′ : List ℕ) → ExpandPromise dictionary word out r out′
@@ -272,6 +274,33 @@ pub record Demand3 : Type 0 where
   -- So do a kernel that unpack answered with 0, and the bytes that it wrote.
   pub alikeUnpacked : (dictionary kernel out : List ℕ) → areBytes kernel ≡ true → (p : ℕ) (out′ : List ℕ) → UnpackPromise dictionary kernel out p out′
       → numberIn p ≡ 0 → Alike dictionary kernel (result p out′)
+
+-- ==== a long kernel and one that was sent for it
+
+-- A part beside an answer of pair: as many bytes as the answer counts. It is the sent kernel where the answer's number is 0, else the long one, and nothing where
+-- the long one is refused.
+pub record Loads (dictionary long sent : List ℕ) (r : ℕ) (bytes : List ℕ) : Type 0 where
+  pub counted : length bytes ≡ countIn r
+  pub theSent : numberIn r ≡ 0 → bytes ≡ sent
+  pub theLong : (numberIn r ≡ 0 → ⊥) → (k : List Instr) → accepted longOnly dictionary long ≡ good k → bytes ≡ long
+  pub nothing : (number offset : ℕ) → accepted longOnly dictionary long ≡ bad number offset → bytes ≡ []
+
+pub record Pairs : Type 0 where
+  -- If pair answers 0, then unpack of the sent kernel, with room for the long one, answers 0 and writes the long one's bytes.
+  pub unpacks : (dictionary long sent : List ℕ) → areBytes long ≡ true → areBytes sent ≡ true → (r : ℕ) → PairPromise dictionary long sent r → numberIn r ≡ 0
+      → (out : List ℕ) → length long ≤ length out → (u : ℕ) (out′ : List ℕ) → UnpackPromise dictionary sent out u out′
+      → (numberIn u ≡ 0) × (result u out′ ≡ long)
+  -- And only then: if unpack of the sent kernel answers 0 and writes the long one's bytes, then pair answers 0, whoever packed it.
+  pub accepts : (dictionary long sent : List ℕ) → areBytes sent ≡ true → (out : List ℕ) (u : ℕ) (out′ : List ℕ) → UnpackPromise dictionary sent out u out′
+      → numberIn u ≡ 0 → result u out′ ≡ long → (r : ℕ) → PairPromise dictionary long sent r → (numberIn r ≡ 0) × (countIn r ≡ length sent)
+  -- It answers 0 to a kernel and what pack wrote for it.
+  pub packed : (dictionary kernel out : List ℕ) → areBytes kernel ≡ true → (p : ℕ) (out′ : List ℕ) → PackPromise dictionary kernel out p out′ → numberIn p ≡ 0
+      → (r : ℕ) → PairPromise dictionary kernel (result p out′) r → (numberIn r ≡ 0) × (countIn r ≡ countIn p)
+  -- Two kernels that it answers with 0 run alike, just as a kernel and what pack wrote for it do.
+  pub alike : (dictionary long sent : List ℕ) → areBytes long ≡ true → areBytes sent ≡ true → (r : ℕ) → PairPromise dictionary long sent r → numberIn r ≡ 0
+      → Alike dictionary long sent
+  -- `loadPart` is what is handed back inside Rattle (`load` of the crate `pair`).
+  pub loads : (dictionary long sent : List ℕ) (r : ℕ) → PairPromise dictionary long sent r → Loads dictionary long sent r (loadPart dictionary long sent)
 
 -- ==== kernels that passed before
 

@@ -27,7 +27,7 @@ pub no-zero : (number : ℕ) → KernelNo number → number ≡ 0 → ⊥
 no-zero number (inl low) e = omega (arith, low .0)
 no-zero number (inr last) e = omega arith
 
-near-no-zero : (number offset : ℕ) → Near kernelBytes instructionLimit (bad number offset) → number ≡ 0 → ⊥
+pub near-no-zero : (number offset : ℕ) → Near kernelBytes instructionLimit (bad number offset) → number ≡ 0 → ⊥
 near-no-zero number offset h = no-zero number (near-number kernelBytes instructionLimit number offset h)
 
 -- ---- check

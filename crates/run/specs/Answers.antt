@@ -22,6 +22,8 @@ use Rattle.laws.specs.Demands.{Ready, run-ready, step-ready}
 use Rattle.words.specs.declared.answer.Answer.the-variants.{Told, Refused}
 use Rattle.words.specs.Answer.{Left}
 use Rattle.words.specs.declared.answer.Answer.{Answer}
+use Rattle.kernel.specs.declared.walk.Said.{Said}
+use Rattle.kernel.specs.declared.walk.Said.the-variants.{Good, Bad}
 use Rattle.kernel.specs.Marks.{marked, Says, says-refused, says-instrs}
 use Rattle.kernel.specs.Accepting.{accepted-kernel}
 use Rattle.machine.specs.declared.step.Stand.{Stand}
@@ -91,23 +93,23 @@ Admits dictionary kernel registers bytes marks (Barred number offset) =
 Admits dictionary kernel registers bytes marks Fine = Lawful dictionary kernel registers bytes × MarksLand dictionary kernel marks
 
 module _ (dictionary kernel bytes : List ℕ) (right : sized dictionary kernel ≡ true)
-    (marks : List ℕ) (said : Answer) (says : Says (accepted longAndShort dictionary kernel) said marks) where
+    (marks : List ℕ) (said : Said) (says : Says (accepted longAndShort dictionary kernel) said marks) where
   judged-is : judgedKernel longAndShort dictionary kernel ≡ accepted longAndShort dictionary kernel
   unfolding accepted
   judged-is = rw right
 
-  pub admits-refused : (number offset : ℕ) → said ≡ Refused number offset → (registers : List ℕ) → Admits dictionary kernel registers bytes marks (Barred number offset)
+  pub admits-refused : (number offset : ℕ) → said ≡ Bad number offset → (registers : List ℕ) → Admits dictionary kernel registers bytes marks (Barred number offset)
   admits-refused number offset e registers go =
       ap (onState registers bytes go) (judged-is ∙ says-refused (accepted longAndShort dictionary kernel) said marks says number offset e)
 
-  module _ (number count : ℕ) (told : said ≡ Told number count) where
+  module _ (count : ℕ) (told : said ≡ Good count) where
     is-good : accepted longAndShort dictionary kernel ≡ good (instructions dictionary kernel)
     unfolding instructions
-    is-good = says-instrs (accepted longAndShort dictionary kernel) said marks says number count told .0
+    is-good = says-instrs (accepted longAndShort dictionary kernel) said marks says count told .0
 
     marks-land : MarksLand dictionary kernel marks
     unfolding instructions
-    marks-land = says-instrs (accepted longAndShort dictionary kernel) said marks says number count told .1
+    marks-land = says-instrs (accepted longAndShort dictionary kernel) said marks says count told .1
 
     legal-is : (registers : List ℕ) → legalBy (marked marks) bytes ≡ stateLegal (instructions dictionary kernel) registers bytes
     legal-is registers = legal-same (marked marks) (instructions dictionary kernel) marks-land registers bytes

@@ -3,6 +3,7 @@ use crate::lawful::made_lawful;
 use crate::legal::is_legal;
 use kernel::accept::accept;
 use kernel::accept::is_sized;
+use kernel::walk::Said;
 use words::answer::Answer;
 use words::limits::BUDGET_LIMIT;
 use words::limits::PLACES;
@@ -43,7 +44,7 @@ fn admit(dictionary: &[u8], kernel: &[u8], state: &[u8], marks: &mut [u8; PLACES
     ensures { λ r. ⌜ ((registers : List ℕ) → Admits (now (dictionary .entry)) (now (kernel .entry)) registers (now (state .entry)) (now (marks .exit)) r) ⌝ }
 {
     let said = accept(false, dictionary, kernel, marks);
-    if let Answer::Refused(number, offset) = said {
+    if let Said::Bad(number, offset) = said {
         return Admission::Barred(number, offset);
     }
     if !is_legal(marks, state) {

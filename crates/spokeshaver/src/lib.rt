@@ -8,11 +8,12 @@ use kernel::forward::forward;
 use machine::start::start;
 use packer::pack::pack;
 use packer::pack::unpack;
+use pair::pair::pair;
 use run::calls::run;
 use run::calls::step;
 use short::calls::expand_word;
 use short::calls::shorten_word;
-ghost use Rattle.contracts.specs.Contracts.{CheckPromise, ForwardPromise, PackPromise, UnpackPromise, ShortenPromise, ExpandPromise};
+ghost use Rattle.contracts.specs.Contracts.{CheckPromise, ForwardPromise, PackPromise, UnpackPromise, PairPromise, ShortenPromise, ExpandPromise};
 ghost use Rattle.contracts.specs.Contracts.{DecodePromise, StartPromise, StepPromise, RunPromise};
 
 // Is the kernel accepted; the count is its instructions.
@@ -45,6 +46,14 @@ pub extern "C" fn spokeshaver_unpack(dictionary: &[u8], kernel: &[u8], out: &mut
     ensures { λ r. ⌜ UnpackPromise (now (dictionary .entry)) (now (kernel .entry)) (now (out .entry)) r (now (out .exit)) ⌝ }
 {
     number_of(unpack(dictionary, kernel, out))
+}
+
+// Is the sent kernel the same program as the long one; the count is the bytes of the one to load.
+#[no_mangle]
+pub extern "C" fn spokeshaver_pair(dictionary: &[u8], long: &[u8], sent: &[u8]) -> u64
+    ensures { λ r. ⌜ PairPromise (now (dictionary .entry)) (now (long .entry)) (now (sent .entry)) r ⌝ }
+{
+    number_of(pair(dictionary, long, sent))
 }
 
 // The smallest short word that expands to the long word; the count is 8.

@@ -3,13 +3,14 @@ use mathlib.Core.List.{List}
 use mathlib.Core.Path.{_≡_, sym, _∙_}
 use Prim.Native.Nat.{ℕ}
 use Rattle.paper.specs.Calls as paper
-use Rattle.paper.specs.Calls.{verdict, refusal, Written, Changed}
+use Rattle.paper.specs.Calls.{verdict, refusal, refusalWith, Written, Changed}
 use Rattle.words.specs.declared.answer.Answer.{Answer}
-use Rattle.words.specs.declared.answer.Answer.the-variants.{Told, Refused}
+use Rattle.words.specs.declared.answer.Answer.the-variants.{Told, Refused, RefusedWith}
 
 abbrev pub answerIs : Answer → paper.Answer
 answerIs (Told number count) = verdict number count
 answerIs (Refused number offset) = refusal number offset
+answerIs (RefusedWith number offset count) = refusalWith number offset count
 
 -- The answer is r, and the one lent buffer then holds out′.
 abbrev pub Wrote : Written → Answer → List ℕ → Type 0
@@ -25,8 +26,13 @@ Left c r registers′ state′ = (answerIs r ≡ c .answer) × (registers′ ≡
 answer-back : (r s : Answer) → answerIs r ≡ answerIs s → r ≡ s
 answer-back (Told n c) (Told m d) e = cc
 answer-back (Told n c) (Refused m d) e = cc
+answer-back (Told n c) (RefusedWith m d f) e = cc
 answer-back (Refused n c) (Told m d) e = cc
 answer-back (Refused n c) (Refused m d) e = cc
+answer-back (Refused n c) (RefusedWith m d f) e = cc
+answer-back (RefusedWith n c b) (Told m d) e = cc
+answer-back (RefusedWith n c b) (Refused m d) e = cc
+answer-back (RefusedWith n c b) (RefusedWith m d f) e = cc
 
 pub one-answer : (a : paper.Answer) (r s : Answer) → answerIs r ≡ a → answerIs s ≡ a → r ≡ s
 one-answer a r s p q = answer-back r s (p ∙ sym q)

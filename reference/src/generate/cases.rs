@@ -3,9 +3,12 @@
 use super::damage::{short_branch, unlisted_opcode};
 use super::dictionaries::{dictionary_for, lend_dictionary};
 use super::instructions::legal_word;
-use super::kernels::{any_pair, branch_word, forward_pair, legal_pair, with_other_indices, Laying, Pair};
+use super::kernels::{
+    any_pair, branch_word, forward_pair, legal_pair, with_other_indices, Laying, Pair,
+};
+use super::pairs::pair_case;
 use super::states::{mask, registers, state_for};
-use super::{Call, Case};
+use super::{Call, Case, CALLS};
 use crate::calls::BUDGET_LIMIT;
 use crate::dictionary::Dictionary;
 use crate::operations::BRANCHES;
@@ -15,19 +18,19 @@ use crate::rules::{read_kernel, Accepts};
 use crate::state::STATE_BYTES;
 use crate::words::{shorten, LongWord, SHORT_BIT};
 
-/// How many calls there are.
-pub const CALLS: u64 = 10;
+/// How many calls draw from one stream of seeds. Each later one has a stream of its own, so that a
+/// new call leaves the cases of all others as they were.
+const FIRST_CALLS: u64 = 9;
 
-/// How far apart the random numbers of a call's cases begin: nine, as when there were nine calls,
-/// so that a call more leaves the cases of the others as they are.
-const APART: u64 = 9;
-
-/// The case of a seed. As many seeds in a row as there are calls give each call once.
+/// The case of a seed. `CALLS` seeds in a row give every call.
 pub fn case(seed: u64) -> Case {
-    let mut random = Random::new(seed / CALLS * APART + seed % CALLS);
+    let (round, number) = (seed / CALLS, seed % CALLS);
+    let own =
+        if number < FIRST_CALLS { FIRST_CALLS * round + number } else { number << 56 | round };
+    let mut random = Random::new(own);
     let random = &mut random;
     random.number();
-    let (dictionary, call) = match seed % CALLS {
+    let (dictionary, call) = match number {
         0 => check_case(random),
         1 => pack_case(random),
         2 => unpack_case(random),
@@ -37,12 +40,13 @@ pub fn case(seed: u64) -> Case {
         6 => start_case(random),
         7 => step_case(random),
         8 => run_case(random),
-        _ => forward_case(random),
+        9 => forward_case(random),
+        _ => pair_case(random),
     };
     Case { seed, dictionary, call }
 }
 
-fn any_laying(random: &mut Random) -> Laying {
+pub fn any_laying(random: &mut Random) -> Laying {
     random.pick(&[Laying::AllLong, Laying::AllShort, Laying::Mixed])
 }
 

@@ -60,8 +60,8 @@ pub fn forward_pair(random: &mut Random, laying: Laying) -> Pair {
     let length = length(random);
     let mut plan = plan(random, length);
     for (own, planned) in plan.iter_mut().enumerate() {
-        if let Planned::Branch { target, .. } = planned {
-            *target = (*target).max(own + 1);
+        if let Planned::Branch { targets, .. } = planned {
+            targets.iter_mut().for_each(|target| *target = (*target).max(own + 1));
         }
     }
     finish(random, &plan, laying)
@@ -83,7 +83,7 @@ fn plain_word(planned: &Planned) -> Option<LongWord> {
 }
 
 /// How many instructions: mostly few, at times up to the limit.
-fn length(random: &mut Random) -> usize {
+pub fn length(random: &mut Random) -> usize {
     match random.below(40) {
         0 => 0,
         1 => random.pick(&[KERNEL_INSTRUCTIONS - 1, KERNEL_INSTRUCTIONS]),
@@ -130,7 +130,7 @@ fn jump_across(random: &mut Random, plan: &mut [Planned]) {
 }
 
 /// A cut plan may have lost the instructions that jumps name: those go to the end.
-fn keep_targets_inside(plan: &mut [Planned]) {
+pub fn keep_targets_inside(plan: &mut [Planned]) {
     let end = plan.len();
     for planned in plan {
         if let Planned::Branch { targets, .. } = planned {

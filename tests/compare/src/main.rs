@@ -2,10 +2,9 @@
 //!
 //! `compare FIRST COUNT COMMAND..` takes the seeds from FIRST on, COUNT of them, and the
 //! command that starts tests/serve.c. After every call the answer and every byte of every
-//! buffer that was lent must be the same on both sides. As many seeds in a row as there are
-//! calls give each call once. The table at the end says how often each call gave each answer,
-//! forward's count of 1 under the name `ahead`; an answer that can come up and never did is a
-//! failure too.
+//! buffer that was lent must be the same on both sides. `CALLS` seeds in a row give every
+//! call. The table at the end says how often each call gave each answer, forward's count of 1
+//! under the name `ahead`; an answer that can come up and never did is a failure too.
 #![forbid(unsafe_code)]
 
 use spokeshaver_compare::server::Server;

@@ -30,6 +30,8 @@ fn request(call: &Call) -> Request<'_> {
         Call::Step { kernel, .. } => Request(7, [0; 3], kernel),
         Call::Run { kernel, budget, .. } => Request(8, [*budget, 0, 0], kernel),
         Call::Forward { kernel } => Request(9, [0; 3], kernel),
+        // The sent kernel goes where outputs go, so that it is seen to stay as it is.
+        Call::Pair { long, .. } => Request(10, [0; 3], long),
     }
 }
 

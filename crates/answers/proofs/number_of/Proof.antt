@@ -19,11 +19,21 @@ enum-known-answer-2 c = search needs
 refused-requires : tie.Need-refused-requires
 refused-requires c κs = small-as _ _ (ap answerIs (c .before .answer2 .given .1)) (c .before .before .before .pre) .offset
 
+enum-known-answer-3 : tie.Need-enum-known-answer-3
+enum-known-answer-3 c = search needs
+
+refused-with-requires : tie.Need-refused-with-requires
+refused-with-requires c κs =
+    let s = small-as _ _ (ap answerIs (c .before .answer3 .given .1)) (c .before .before .before .pre) in (s .offset, s .count)
+
 returns : tie.Need-returns
 returns c = c .told .ensures ∙ sym (ap asNumber (ap answerIs (c .before .before .answer .given .1)))
 
 returns-2 : tie.Need-returns-2
 returns-2 c = c .refused .ensures ∙ sym (ap asNumber (ap answerIs (c .before .before .answer2 .given .1)))
+
+returns-3 : tie.Need-returns-3
+returns-3 c = c .refused-with .ensures ∙ sym (ap asNumber (ap answerIs (c .before .before .answer3 .given .1)))
 
 pub number-of-spec : {M : Type 1} → statement M
 number-of-spec =
@@ -33,5 +43,8 @@ number-of-spec =
     told-requires
     enum-known-answer-2
     refused-requires
+    enum-known-answer-3
+    refused-with-requires
     returns
-    returns-2)
+    returns-2
+    returns-3)

@@ -2,7 +2,7 @@
 use mathlib.Core.List.{List}
 use mathlib.Core.Path.{sym, ap, _∙_}
 use Rattle.paper.specs.Jump.{Distance}
-use Rattle.laws.specs.Names.{blanked}
+use Rattle.paper.specs.Program.{blanked}
 use Rattle.words.specs.Words.{toWord}
 use Rattle.distances.specs.Distances.{distancesIs}
 use borrow.Author.Needs.{needs}

@@ -42,7 +42,7 @@ returns-3 c =
 first-astray-requires : tie.Need-first-astray-requires
 first-astray-requires c κs =
     let s = c .before .before .before .before .before .before .before .before .before .before .before .is-sized .ensures .1 (not-false _ (c .before .before .before .before .before .before .before .before .before .before .if1 .left)) in
-    (s .dictionary-is, s .kernel-most, parse-standing _ _ _ _ _ (c .before .before .before .before .walk .ensures) _ _ (c .before .before .walked .given .1))
+    (s .dictionary-is, s .kernel-most, parse-standing _ _ _ _ _ (c .before .before .before .before .walk .ensures) _ (c .before .before .walked .given .1))
 
 enum-told-2 : tie.Need-enum-told-2
 enum-told-2 c = search needs
@@ -54,13 +54,13 @@ returns-4 : tie.Need-returns-4
 returns-4 c =
     let z = sym (c .before .before .before .before .before .before .before .before .before .before .before .before .before .before .is-sized .ensures .0) ∙ not-false _ (c .before .before .before .before .before .before .before .before .before .before .before .before .before .if1 .left) in
     let d = sym (c .before .before .before .before .before .before .before .before .before .before .before .before .in-range .ensures) ∙ not-false _ (c .before .before .before .before .before .before .before .before .before .before .before .if2 .left) in
-    accept-good _ _ _ _ z d _ (c .before .before .before .before .before .before .before .walk .ensures) _ _ (c .before .before .before .before .before .walked .given .1) _ (c .before .before .first-astray .ensures) (c .enum-told2 .given .1)
+    accept-good _ _ _ _ z d _ (c .before .before .before .before .before .before .before .walk .ensures) _ (c .before .before .before .before .before .walked .given .1) _ (c .before .before .first-astray .ensures) (c .enum-told2 .given .1)
 
 returns-5 : tie.Need-returns-5
 returns-5 c =
     let z = sym (c .before .before .before .before .before .before .before .before .before .before .before .before .before .before .before .is-sized .ensures .0) ∙ not-false _ (c .before .before .before .before .before .before .before .before .before .before .before .before .before .before .if1 .left) in
     let d = sym (c .before .before .before .before .before .before .before .before .before .before .before .before .before .in-range .ensures) ∙ not-false _ (c .before .before .before .before .before .before .before .before .before .before .before .before .if2 .left) in
-    accept-astray _ _ _ _ z d _ (c .before .before .before .before .before .before .before .before .walk .ensures) _ _ (c .before .before .before .before .before .before .walked .given .1) _ (c .before .before .before .first-astray .ensures) _ (c .before .offset .given .1)
+    accept-astray _ _ _ _ z d _ (c .before .before .before .before .before .before .before .before .walk .ensures) _ (c .before .before .before .before .before .before .walked .given .1) _ (c .before .before .before .first-astray .ensures) _ (c .before .offset .given .1)
 
 pub accept-spec : {M : Type 1} → statement M
 accept-spec =

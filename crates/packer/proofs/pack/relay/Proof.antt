@@ -12,7 +12,7 @@ enum-told : tie.Need-enum-told
 enum-told c = search needs
 
 lay-out-requires : tie.Need-lay-out-requires
-lay-out-requires c κs = call-taken _ _ _ _ _ (c .before .before .before .accept .ensures) _ _ (c .before .enum-told .given .1)
+lay-out-requires c κs = call-taken _ _ _ _ _ (c .before .before .before .accept .ensures) _ (c .before .enum-told .given .1)
 
 enum-known-said : tie.Need-enum-known-said
 enum-known-said c = search needs
@@ -24,7 +24,7 @@ returns : tie.Need-returns
 returns c =
     let a = c .before .before .before .before .before .before .before .before .before .before .before .args in
     let w = c .before .before .lay-out in
-    call-laid (a .packs) (now (a .dictionary)) (now (a .kernel)) _ _ (c .before .before .before .before .before .before .accept .ensures) _ _ (c .before .before .before .before .enum-told .given .1) (w .result) (now (a .out)) _ (w .ensures)
+    call-laid (a .packs) (now (a .dictionary)) (now (a .kernel)) _ _ (c .before .before .before .before .before .before .accept .ensures) _ (c .before .before .before .before .enum-told .given .1) (w .result) (now (a .out)) _ (w .ensures)
 
 returns-2 : tie.Need-returns-2
 returns-2 c =

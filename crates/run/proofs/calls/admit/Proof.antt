@@ -23,11 +23,11 @@ is-legal-requires c κs = search needs
 
 returns-2 : tie.Need-returns-2
 returns-2 c =
-    admits-illegal _ _ _ (c .before .before .before .before .before .before .before .before .before .before .pre .0) _ _ (c .before .before .before .before .before .accept .ensures) _ _ (c .before .before .before .enum-told .given .1) (sym (c .before .is-legal .ensures) ∙ not-true _ (c .if1 .taken))
+    admits-illegal _ _ _ (c .before .before .before .before .before .before .before .before .before .before .pre .0) _ _ (c .before .before .before .before .before .accept .ensures) _ (c .before .before .before .enum-told .given .1) (sym (c .before .is-legal .ensures) ∙ not-true _ (c .if1 .taken))
 
 returns-3 : tie.Need-returns-3
 returns-3 c =
-    admits-fine _ _ _ (c .before .before .before .before .before .before .before .before .before .before .pre .0) _ _ (c .before .before .before .before .before .accept .ensures) _ _ (c .before .before .before .enum-told .given .1) (sym (c .before .is-legal .ensures) ∙ not-false _ (c .if1 .left))
+    admits-fine _ _ _ (c .before .before .before .before .before .before .before .before .before .before .pre .0) _ _ (c .before .before .before .before .before .accept .ensures) _ (c .before .before .before .enum-told .given .1) (sym (c .before .is-legal .ensures) ∙ not-false _ (c .if1 .left))
 
 pub admit-spec : {M : Type 1} → statement M
 admit-spec =
