@@ -141,10 +141,11 @@ fn differences_come_up() {
 }
 
 /// Each refusal of the long kernel comes up, and each of the sent one beside a long one that passes.
+/// The count tells them apart but for an empty long kernel, which is passed over.
 #[test]
 fn refusals_of_both_come_up() {
     let (mut ours, mut theirs) = (BTreeSet::new(), BTreeSet::new());
-    for made in made() {
+    for made in made().filter(|made| !made.long.is_empty()) {
         match (made.answer.number, made.answer.count) {
             (0 | 31, _) => {}
             (number, 0) => drop(ours.insert(number)),
