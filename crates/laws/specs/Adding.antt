@@ -249,6 +249,7 @@ module _ (judge : Judgement) (act : ℕ → ℕ → Ways → State → State) (d
       ap (onState registers bytes f) (judged-same e)
       ∙ on-same registers bytes f g (judgedKernelBy judge longAndShort dictionary kernel) (λ k q. alike k (acts k (rw e q)))
 
+  -- So are the calls.
   pub stays-same : Stays judge act dictionary kernel
   unfolding checkCall checkCallBy unpackCall unpackCallBy stepCall stepCallBy runCall runCallBy
   stays-same =

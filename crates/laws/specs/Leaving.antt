@@ -1,12 +1,11 @@
 -- What 02 §9 added, exactly: an instruction is judged and acts as it did, or it has one of the two opcodes that were not listed, and was 4. So a kernel without
 -- them is judged, packed, unpacked and run as it was. Assumes nothing.
 use mathlib.Core.Bool.{Bool, true, false, not, cond, _||_, true≢false}
-use mathlib.Core.List.{List, [], _∷_, map}
+use mathlib.Core.List.{List, [], map}
 use mathlib.Core.Logic.{_⊎_, inl, inr}
 use mathlib.Core.Option.{Option, none, some}
 use mathlib.Core.Path.{_≡_, refl, sym, ap, _∙_}
 use Prim.Native.Nat.{ℕ, zero, suc, _+_, _-_, _*_, _/_}
-use native.Mathlib.Omega.{arith}
 use lib.Dec.{eqb, ltb}
 use lib.ListN.{length}
 use borrow.Author.Tests.{eqb-true}
@@ -18,7 +17,7 @@ use Rattle.paper.specs.Expand.{isShort, expand}
 use Rattle.paper.specs.Shorten.{shorten}
 use Rattle.paper.specs.Operation.{Operation, unlisted, operationOf, operation, isListed, isBranch}
 use Rattle.paper.specs.Legal.{reservedSet, refusalOf}
-use Rattle.paper.specs.Kernel.{Instr, Forms, longAndShort, longOnly, takesShort, Judged, refused, passed, judgeWord, judgeShort, judgeLong, judgeAt, Parsed, bad, good, prepend, enter, walk, parse}
+use Rattle.paper.specs.Kernel.{Instr, Forms, longAndShort, longOnly, takesShort, Judged, refused, passed, judgeShort, judgeLong, judgeAt, Parsed, bad, good, prepend, enter, walk, parse}
 use Rattle.paper.specs.Jump.{withJumps, fetch}
 use Rattle.paper.specs.Machine.{State, Ways, wake, perform, stepAt, waysOf, stepOn, step}
 use Rattle.paper.specs.Calls.{refusal, sized, judgedKernel, accepted, checkedAs, relaid, packCall}
@@ -62,10 +61,12 @@ module _ (w : ℕ) (same : formerOperation w ≡ operation w) where
 abbrev pub wordAt : List ℕ → ℕ → ℕ
 wordAt kernel from = cond (isShort (numberAt kernel from 8)) (numberAt kernel from 8) (numberAt kernel from 16)
 
+-- A long word is judged as it was, or was 4 for one of the two opcodes;
 long-either : (w : ℕ) → (formerLong w ≡ judgeLong w) ⊎ ((formerLong w ≡ refused 4) × Leaves w)
 unfolding formerLong judgeLong
 long-either w = elim (operation-either w) [ inl e ↦ inl (rw (e, refusal-former w e)) | inr u ↦ inr (rw (u .1) refl, u .0) ]
 
+-- so is a short one,
 short-either : (forms : Forms) (D : Dictionary) (s : ℕ) → (formerShort forms D s ≡ judgeShort forms D s) ⊎ ((formerShort forms D s ≡ refused 4) × Leaves s)
 unfolding formerShort judgeShort
 short-either forms D s =
@@ -76,7 +77,7 @@ short-either forms D s =
       | inr u ↦ inr (rw (u .1) refl, u .0)
     ]
 
--- It is judged as it was, or was 4 for one of the two opcodes.
+-- and what stands at a byte.
 pub judged-either : (forms : Forms) (D : Dictionary) (kernel : List ℕ) (from : ℕ)
     → (formerJudge forms D kernel from ≡ judgeAt forms D kernel from) ⊎ ((formerJudge forms D kernel from ≡ refused 4) × Leaves (wordAt kernel from))
 unfolding formerJudge judgeAt
@@ -100,9 +101,11 @@ judged-either forms D kernel from = go (ltb (length kernel - from) 8) (isShort (
 
 -- Two judgements of which the first, where it is another, is 4 with Q: then so are two walks.
 module _ (judge judge′ : ℕ → Judged) (end : ℕ) (Q : ℕ → Type 0) (either : (from : ℕ) → (judge from ≡ judge′ from) ⊎ ((judge from ≡ refused 4) × Q from)) where
+  -- Refused as 4, at an instruction with Q.
   abbrev Four : Parsed → Type 0
   Four q = (at : ℕ) × (q ≡ bad 4 at) × Q at
 
+  -- The walks say the same, or the first one says that.
   walk-either : (n from : ℕ) → (walk judge end n from ≡ walk judge′ end n from) ⊎ Four (walk judge end n from)
   unfolding walk
   walk-either zero from = inl refl

@@ -1,7 +1,7 @@
 -- The rules as they stood before break and cont were listed (02 §9): opcodes 0x28 and 0x29 were 4. What an operation asks and does did not change; only which
 -- opcodes have one did. Assumes nothing.
 use mathlib.Core.Bool.{Bool, not, cond, _&&_, _||_}
-use mathlib.Core.List.{List, map}
+use mathlib.Core.List.{map}
 use Prim.Native.Nat.{ℕ, _-_}
 use lib.Dec.{eqb, ltb}
 use lib.ListN.{length}

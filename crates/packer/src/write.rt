@@ -42,7 +42,7 @@ fn write_word(short: u64, w: Word, out: &mut [u8], from: usize)
     }
 }
 
-// The place at which comes to stand what the distance d of word w, an instruction of `size` places from the old place `here` on, leads to.
+// The new place of what the distance d leads to, in word w of an instruction of `size` places from the old place `here` on.
 fn new_place(places: &[u16; PLACES], d: Distance, w: Word, here: u64, size: u64) -> u64
     requires { ⌜ (here < placeCount) × (size ≤ 2) × ReachesAt (now places) (oldPlace (distanceIs d) (toWord w) here size) ⌝ }
     ensures { λ r. ⌜ (r ≡ getD (now (places .entry)) (oldPlace (distanceIs d) (toWord w) here size) 0) × (r < placeCount) ⌝ }

@@ -3,7 +3,7 @@ use mathlib.Core.List.{List, [], _∷_, _++_, map}
 use Prim.Native.Nat.{ℕ, _+_, _-_, _^_}
 use Rattle.paper.specs.Bits.{_at_, bytesOf}
 use Rattle.paper.specs.Jump.{targetsOf, placeOf}
-use Rattle.paper.specs.Calls.{checkCall, packCall, unpackCall, shortenCall, expandCall}
+use Rattle.paper.specs.Calls.{packCall, unpackCall, shortenCall, expandCall}
 use Rattle.paper.specs.Assembler.{op, structuredTo, leaveTo, nopWord, long, blankDictionary, dictionaryA, begin}
 use Rattle.paper.specs.Sheet.{Row, _gives_, written, room, longA, shortA}
 use Rattle.paper.specs.SheetMore.{ranOver, stateIs}

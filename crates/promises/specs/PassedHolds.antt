@@ -45,6 +45,7 @@ calls-kept judge act dictionary kernel s =
 
 -- Rules that only add to 6 to 11.
 module _ (rule : ℕ → ℕ) (act : ℕ → ℕ → Ways → State → State) (adds : Adds rule act) where
+  -- What check accepted by them is answered as it was,
   accepted-kept : (dictionary kernel : List ℕ) (n : ℕ) → checkCallBy (judgeAtBy rule) dictionary kernel ≡ verdict 0 n
       → AsBy (judgeAtBy rule) act dictionary kernel
   unfolding checkCallBy
@@ -52,6 +53,7 @@ module _ (rule : ℕ → ℕ) (act : ℕ → ℕ → Ways → State → State) (
       let g = checked-good (acceptedBy (judgeAtBy rule) longAndShort dictionary kernel) n e in
       calls-kept (judgeAtBy rule) act dictionary kernel (stays rule act adds dictionary kernel (g .0) (g .1))
 
+  -- and what pack accepted is packed as it was.
   pack-kept : (dictionary kernel out : List ℕ) (n : ℕ) → packCallBy (judgeAtBy rule) dictionary kernel out .answer ≡ verdict 0 n
       → (r : ℕ) (out′ : List ℕ) → Wrote (packCall dictionary kernel out) r out′ → Wrote (packCallBy (judgeAtBy rule) dictionary kernel out) r out′
   unfolding packCallBy
