@@ -3,7 +3,9 @@
 use super::damage::{short_branch, unlisted_opcode};
 use super::dictionaries::{dictionary_for, lend_dictionary};
 use super::instructions::legal_word;
-use super::kernels::{any_pair, branch_word, forward_pair, legal_pair, with_other_indices, Laying, Pair};
+use super::kernels::{
+    any_pair, branch_word, forward_pair, legal_pair, with_other_indices, Laying, Pair,
+};
 use super::states::{mask, registers, state_for};
 use super::{Call, Case};
 use crate::calls::BUDGET_LIMIT;
