@@ -51,7 +51,8 @@ fn compare(first: u64, count: u64, lane: u64, command: &[String]) -> Table {
             fail(&format!("seed {seed}: {}: {difference}", told(&case)));
         }
         let number = Answer::of(expected.answer).number;
-        *table.entry(counted_as(&case, expected.answer)).or_default().entry(number).or_default() += 1;
+        let name = counted_as(&case, expected.answer);
+        *table.entry(name).or_default().entry(number).or_default() += 1;
     }
     match server.finish() {
         Ok(true) => table,
