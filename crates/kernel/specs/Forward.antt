@@ -11,10 +11,9 @@ use Rattle.paper.specs.Kernel.{Instr, Forms, longAndShort}
 use Rattle.paper.specs.Operation.{operation}
 use Rattle.paper.specs.Jump.{Distance, distances, reach, targetsOf}
 use Rattle.paper.specs.Forward.{lieAfter, forward}
-use Rattle.paper.specs.Calls.{verdict, accepted, forwardAs, forwardCall}
-use Rattle.words.specs.Answer.{answerIs}
-use Rattle.words.specs.declared.answer.Answer.{Answer}
-use Rattle.words.specs.declared.answer.Answer.the-variants.{Told, Refused}
+use Rattle.paper.specs.Calls.{verdict, refusal, accepted, forwardAs, forwardCall}
+use Rattle.kernel.specs.declared.walk.Said.{Said}
+use Rattle.kernel.specs.declared.walk.Said.the-variants.{Good, Bad}
 use Rattle.kernel.specs.Standing.{Stands, Standing}
 use Rattle.kernel.specs.Marks.{Says, says-refused, Accepts, says-accepted}
 use Rattle.kernel.specs.Jumps.{landsAt, landBy, instrOf, none-lands, one-lands, two-land}
@@ -44,16 +43,15 @@ module _ (here size w : ℕ) where
 abbrev pub Tells : Dictionary → List ℕ → Bool → Type 0
 Tells D kernel r = (forms : Forms) (k : List Instr) → Stands forms D kernel 0 k → r ≡ forward k
 
-module _ (dictionary kernel marks : List ℕ) (judged : Answer) (says : Says (accepted longAndShort dictionary kernel) judged marks) where
+module _ (dictionary kernel marks : List ℕ) (judged : Said) (says : Says (accepted longAndShort dictionary kernel) judged marks) where
   -- What check refuses is refused so.
-  pub forward-refused : (number offset : ℕ) → judged ≡ Refused number offset → answerIs judged ≡ forwardCall dictionary kernel
+  pub forward-refused : (number offset : ℕ) → judged ≡ Bad number offset → refusal number offset ≡ forwardCall dictionary kernel
   unfolding forwardCall
-  forward-refused number offset e =
-      ap answerIs e ∙ sym (ap forwardAs (says-refused (accepted longAndShort dictionary kernel) judged marks says number offset e))
+  forward-refused number offset e = sym (ap forwardAs (says-refused (accepted longAndShort dictionary kernel) judged marks says number offset e))
 
-  module _ (number count : ℕ) (accepting : judged ≡ Told number count) where
+  module _ (count : ℕ) (accepting : judged ≡ Good count) where
     abbrev accepts : Accepts (accepted longAndShort dictionary kernel) marks
-    accepts = says-accepted (accepted longAndShort dictionary kernel) judged marks says number count accepting
+    accepts = says-accepted (accepted longAndShort dictionary kernel) judged marks says count accepting
 
     -- What it accepts stands in the bytes.
     pub forward-kernel : AcceptedKernel longAndShort dictionary kernel (accepts .instrs)

@@ -1,6 +1,7 @@
 // Do all jumps of a kernel go forward: every target lies after its branch.
 use crate::accept::accept;
 use crate::fetch::word_at;
+use crate::walk::Said;
 use distances::branch::Distances;
 use distances::branch::distances_in;
 use distances::distance::Distance;
@@ -84,11 +85,13 @@ pub fn forward(dictionary: &[u8], kernel: &[u8]) -> Answer
 {
     let mut marks = [0u8; PLACES];
     let judged = accept(false, dictionary, kernel, &mut marks);
-    let Answer::Told(_, _) = judged else {
-        return judged;
-    };
-    if all_forward(dictionary, kernel) {
-        return Answer::Told(0, 1);
+    match judged {
+        Said::Good(_) => {
+            if all_forward(dictionary, kernel) {
+                return Answer::Told(0, 1);
+            }
+            Answer::Told(0, 0)
+        }
+        Said::Bad(number, offset) => Answer::Refused(number, offset),
     }
-    Answer::Told(0, 0)
 }
