@@ -1,11 +1,13 @@
 //! When a kernel must finish, and what a step may change (02 §14), over generated kernels.
 
 use spokeshaver_reference::answers::Answer;
-use spokeshaver_reference::assemble::{branch, jmpi, kernel_of, word};
+use spokeshaver_reference::assemble::{branch, jmpi, kernel_of, leave, word};
 use spokeshaver_reference::calls;
 use spokeshaver_reference::dictionary::Dictionary;
 use spokeshaver_reference::generate::{case, lent, perform, Call, Case, Reference, CALLS};
-use spokeshaver_reference::operations::Operation::{self, Else, Endif, If, Jmpi, Nop, While};
+use spokeshaver_reference::operations::Operation::{
+    self, Break, Cont, Else, Endif, If, Jmpi, Nop, While,
+};
 use spokeshaver_reference::operations::BRANCHES;
 use spokeshaver_reference::random::Random;
 use spokeshaver_reference::rules::{read_kernel, Accepts, Program};
@@ -79,10 +81,9 @@ fn each_branch_comes_up() {
         let branches: Vec<(Operation, i64)> = program(&case.dictionary, &kernel)
             .instructions
             .iter()
-            .flat_map(|made| {
-                made.target_places()
-                    .into_iter()
-                    .map(|target| (made.operation, target - made.place as i64))
+            .filter_map(|made| {
+                let least = made.target_places().into_iter().min()?;
+                Some((made.operation, least - made.place as i64))
             })
             .collect();
         let behind: Vec<_> = branches.iter().filter(|(_, distance)| *distance <= 0).collect();
@@ -112,19 +113,32 @@ fn distances_of_none() {
         assert_eq!(forward(&[branch(operation, 0)]), 0);
         assert_eq!(forward(&[branch(operation, 2)]), 1);
     }
+    for operation in [Break, Cont] {
+        let both = [(2, 2), (2, 0), (0, 2)];
+        let told = both.map(|(jip, uip)| forward(&[leave(operation, jip, uip)]));
+        assert_eq!(told, [1, 0, 0]);
+    }
 }
 
-/// Six instructions with every kind of branch take six steps; one jump back never ends.
+/// Eight instructions with every kind of branch take eight steps; one jump back never ends.
 #[test]
 fn at_its_bound_and_never() {
-    let words =
-        [jmpi(0), branch(If, 4), branch(Else, 2), branch(While, 2), branch(Endif, 2), word(Nop, 1)];
+    let words = [
+        jmpi(0),
+        branch(If, 4),
+        branch(Else, 2),
+        leave(Break, 2, 2),
+        leave(Cont, 2, 2),
+        branch(While, 2),
+        branch(Endif, 2),
+        word(Nop, 1),
+    ];
     let mut random = Random::new(1);
     let mut state = State::start(0xFFFF, 0, 0).to_bytes();
     let kernel = kernel_of(&words);
-    let ran = calls::run(&EMPTY, &kernel, 6, &mut random.bytes(4096), &mut state);
+    let ran = calls::run(&EMPTY, &kernel, 8, &mut random.bytes(4096), &mut state);
     let ran = Answer::of(ran);
-    assert_eq!((ran.number, ran.count, forward(&words)), (20, 6, 1));
+    assert_eq!((ran.number, ran.count, forward(&words)), (20, 8, 1));
     let back = [word(Nop, 1), jmpi(-4)];
     let ran = run(&mut random, &EMPTY, &kernel_of(&back), 1_000_000);
     assert_eq!((ran.number, ran.count, forward(&back)), (21, 1_000_000, 0));

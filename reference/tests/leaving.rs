@@ -4,7 +4,7 @@ use spokeshaver_reference::answers::Answer;
 use spokeshaver_reference::assemble::{branch, kernel_of, leave, word};
 use spokeshaver_reference::calls;
 use spokeshaver_reference::dictionary::{Dictionary, DICTIONARY_BYTES};
-use spokeshaver_reference::generate::{case, Call};
+use spokeshaver_reference::generate::{case, Call, CALLS};
 use spokeshaver_reference::operations::Operation::*;
 use spokeshaver_reference::rules::{read_kernel, Accepts, KERNEL_BYTES};
 use spokeshaver_reference::state::State;
@@ -132,7 +132,7 @@ fn rules_are_those_of_if() {
 #[test]
 fn rewritten_distances_come_up() {
     let mut seen = BTreeSet::new();
-    for case in (1..9_000).step_by(9).map(case) {
+    for case in (1..1_000 * CALLS).step_by(CALLS as usize).map(case) {
         let Call::Pack { kernel, .. } = &case.call else { continue };
         if case.dictionary.len() != DICTIONARY_BYTES || kernel.len() > KERNEL_BYTES {
             continue;
@@ -159,7 +159,7 @@ fn rewritten_distances_come_up() {
 #[test]
 fn leaving_comes_up() {
     let mut seen = BTreeSet::new();
-    for case in (7..27_000).step_by(9).map(case) {
+    for case in (7..3_000 * CALLS).step_by(CALLS as usize).map(case) {
         let Call::Step { kernel, registers, state } = &case.call else { continue };
         let (mut registers, mut after) = (registers.clone(), state.clone());
         if calls::step(&case.dictionary, kernel, &mut registers, &mut after) != 0 {
