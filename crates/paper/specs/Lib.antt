@@ -22,6 +22,7 @@ pub mod State
 pub mod Packing
 pub mod Program
 pub mod Calls
+pub mod Text
 pub mod Assembler
 pub mod Sheet
 pub mod SheetMore

@@ -1,0 +1,3 @@
+// Texts in lent buffers: written from a place on, and read at a place.
+pub mod read;
+pub mod write;
