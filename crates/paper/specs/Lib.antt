@@ -23,6 +23,7 @@ pub mod Packing
 pub mod Program
 pub mod Calls
 pub mod Text
+pub mod Log
 pub mod Assembler
 pub mod Sheet
 pub mod SheetMore
