@@ -111,29 +111,93 @@ line-answers s name b l at v n x g m e w f =
     ap (λ (j : ℕ). answered v (at + j) x) k
     ∙ (ap (answered v (at + length (line name (decimal v)))) (f ∙ ap (λ (r : List ℕ). found r (drop at s)) t) ∙ sym (by-number s name at v (sym g)))
 
--- A line that is cut off in its name is told,
-cut-name : (s name : List ℕ) (at j : ℕ) → j ≤ length name → drop at s ≡ take j name → lineAt s at name ≡ short
-unfolding line
-cut-name s name at j k e =
-    let z : drop (at + length name) s ≡ [] = sym (drop-drop (length name) at s) ∙ (ap (drop (length name)) e ∙ drop-of-length-le (take j name) {i = length name} (omega (arith, length-take j name))) in
-    by-number s name at 0 (ap (digitsFrom 0) z ∙ digits-none 0)
-    ∙ ap (answered 0 _) (ap (found _) (e ∙ sym (take-append-le j name (decimal 0 ++ (10 ∷ [])) k)) ∙ found-start (name ++ (decimal 0 ++ (10 ∷ []))) j (omega (arith, length-append name (decimal 0 ++ (10 ∷ [])), length-append (decimal 0) (10 ∷ []))))
+-- A line of a number up to n is torn off at a place: of the number that the digits there make.
+pub record TornLine (s name : List ℕ) (at n : ℕ) : Type 0 where
+  pub number : ℕ
+  pub digits : digitsFrom 0 (drop (at + length name) s) ≡ number
+  pub most : number ≤ n
+  pub tears : found (line name (decimal number)) (drop at s) ≡ torn
 
--- and so past the end.
+-- A line is torn off in its name,
+torn-name : (s name : List ℕ) (at n j : ℕ) → j ≤ length name → drop at s ≡ take j name → TornLine s name at n
+unfolding line
+torn-name s name at n j k e =
+    let z : drop (at + length name) s ≡ [] = sym (drop-drop (length name) at s) ∙ (ap (drop (length name)) e ∙ drop-of-length-le (take j name) {i = length name} (omega (arith, length-take j name))) in
+    record {
+      number = 0;
+      digits = ap (digitsFrom 0) z ∙ digits-none 0;
+      most = omega arith;
+      tears =
+        ap (found _) (e ∙ sym (take-append-le j name (decimal 0 ++ (10 ∷ [])) k))
+        ∙ found-start (name ++ (decimal 0 ++ (10 ∷ []))) j (omega (arith, length-append name (decimal 0 ++ (10 ∷ [])), length-append (decimal 0) (10 ∷ [])));
+    }
+
+-- or in its digits,
+torn-digits : (s name : List ℕ) (at n m : ℕ) → m < 10000000000 → m ≤ n → drop at s ≡ name ++ decimal m → TornLine s name at n
+unfolding line
+torn-digits s name at n m h l e =
+    record {
+      number = m;
+      digits = ap (digitsFrom 0) (after-text s name (decimal m) at e ∙ sym (append-nil (decimal m))) ∙ (digits-decimal m [] h ∙ digits-none m);
+      most = l;
+      tears = ap (found _) e ∙ (ap (λ (x : List ℕ). found x (name ++ decimal m)) (sym (append-assoc name (decimal m) (10 ∷ []))) ∙ found-cut (name ++ decimal m) 10 []);
+    }
+
+-- wherever it is torn off.
+pub line-torn : (s name : List ℕ) (at n j : ℕ) → n < 10000000000 → j < length (line name (decimal n)) → drop at s ≡ take j (line name (decimal n)) → TornLine s name at n
+unfolding line
+line-torn s name at n j h l e = ⊎-elim in-digits in-name (below (length name) j)
+  where
+    in-digits : length name < j → TornLine s name at n
+    in-digits k =
+        let f = length-append name (decimal n ++ (10 ∷ [])) in
+        let g = length-append (decimal n) (10 ∷ []) in
+        let i : j ≡ length name + (j - length name) = omega arith in
+        let r = decimal-take n (j - length name) (omega arith) (omega arith) in
+        torn-digits s name at n (r .0) (omega (arith, r .1 .1)) (r .1 .1)
+        (e ∙ (ap (λ (m : ℕ). take m (name ++ (decimal n ++ (10 ∷ [])))) i ∙ (take-append-add name (decimal n ++ (10 ∷ [])) (j - length name)
+        ∙ ap (λ (x : List ℕ). name ++ x) (take-append-le (j - length name) (decimal n) (10 ∷ []) (omega arith) ∙ r .1 .0))))
+
+    in-name : j ≤ length name → TornLine s name at n
+    in-name k = torn-name s name at n j k (e ∙ take-append-le j name (decimal n ++ (10 ∷ [])) k)
+
+-- Past the end a line is torn off,
+pub past-torn : (s name : List ℕ) (at n : ℕ) → length s ≤ at → TornLine s name at n
+past-torn s name at n h = torn-name s name at n 0 (omega arith) (drop-of-length-le s {i = at} h)
+
+-- and a line that is torn off is told,
+torn-short : (s name : List ℕ) (at n : ℕ) → TornLine s name at n → lineAt s at name ≡ short
+torn-short s name at n t = by-number s name at (t .number) (t .digits) ∙ ap (answered (t .number) _) (t .tears)
+
+-- also past the end.
 pub line-past : (s name : List ℕ) (at : ℕ) → length s ≤ at → lineAt s at name ≡ short
-line-past s name at h = cut-name s name at 0 (omega arith) (drop-of-length-le s {i = at} h)
+line-past s name at h = torn-short s name at 0 (past-torn s name at 0 h)
 
 -- A line with a short name and a number of ten digits has room in 32 bytes.
 pub line-most : (name : List ℕ) (v : ℕ) → length name ≤ 21 → v < 10000000000 → length (line name (decimal v)) ≤ 32
 line-most name v h k = omega (arith, length-line name v, decimal-most 9 v k)
 
+-- Any number's line has room in 32 bytes if its name is shorter still.
+pub line-room : (name : List ℕ) (v : ℕ) → length name ≤ 11 → v < 2 ^ 64 → length (line name (decimal v)) ≤ 32
+line-room name v h k = omega (arith, length-line name v, decimal-most 19 v (omega arith))
+
+-- The first bytes of a buffer in which a text was stored at the start.
+pub stored-first : (b l t : List ℕ) (n : ℕ) → length t ≤ length b → n ≡ 0 + length t → l ≡ sets b 0 t → take n l ≡ t
+stored-first b l t n m e w =
+    let k : n ≡ length t = omega arith in
+    ap (λ (j : ℕ). take j l) k ∙ (ap (take (length t)) w ∙ sets-start t b m)
+
+-- The digits of a line that stands there make its number.
+pub line-digits : (s name rest : List ℕ) (at n : ℕ) → n < 10000000000 → drop at s ≡ line name (decimal n) ++ rest → digitsFrom 0 (drop (at + length name) s) ≡ n
+unfolding line
+line-digits s name rest at n h e =
+    let f : drop at s ≡ name ++ (decimal n ++ (10 ∷ rest)) = e ∙ (append-assoc name (decimal n ++ (10 ∷ [])) rest ∙ ap (λ (r : List ℕ). name ++ r) (append-assoc (decimal n) (10 ∷ []) rest)) in
+    ap (digitsFrom 0) (after-text s name _ at f) ∙ (digits-decimal n (10 ∷ rest) h ∙ digits-line n rest)
+
 -- A line that was written is read;
 pub line-read : (s name rest : List ℕ) (at n : ℕ) → n < 10000000000 → drop at s ≡ line name (decimal n) ++ rest → lineAt s at name ≡ value n (at + length (line name (decimal n)))
-unfolding line
 line-read s name rest at n h e =
-    let f : drop at s ≡ name ++ (decimal n ++ (10 ∷ rest)) = e ∙ (append-assoc name (decimal n ++ (10 ∷ [])) rest ∙ ap (λ (r : List ℕ). name ++ r) (append-assoc (decimal n) (10 ∷ []) rest)) in
-    by-number s name at n (ap (digitsFrom 0) (after-text s name _ at f) ∙ (digits-decimal n (10 ∷ rest) h ∙ digits-line n rest))
-    ∙ ap (answered n _) (ap (found _) e ∙ found-whole _ rest)
+    by-number s name at n (line-digits s name rest at n h e) ∙ ap (answered n _) (ap (found _) e ∙ found-whole _ rest)
 
 -- nothing else is;
 pub line-only : (s name : List ℕ) (at n next : ℕ) → lineAt s at name ≡ value n next → (next ≡ at + length (line name (decimal n))) × (drop at s ≡ line name (decimal n) ++ drop next s)
@@ -152,27 +216,6 @@ line-only s name at n next e = go (digitsFrom 0 (drop (at + length name) s)) ref
         by torn q w = absurd (let z : _≡_ {A = ℕ} 0 1 = cc in omega arith)
         by other q w = absurd (let z : _≡_ {A = ℕ} 0 1 = cc in omega arith)
 
--- and a line that is cut off is told, in its digits too,
-cut-digits : (s name : List ℕ) (at m : ℕ) → m < 10000000000 → drop at s ≡ name ++ decimal m → lineAt s at name ≡ short
-unfolding line
-cut-digits s name at m h e =
-    by-number s name at m (ap (digitsFrom 0) (after-text s name (decimal m) at e ∙ sym (append-nil (decimal m))) ∙ (digits-decimal m [] h ∙ digits-none m))
-    ∙ ap (answered m _) (ap (found _) e ∙ (ap (λ (x : List ℕ). found x (name ++ decimal m)) (sym (append-assoc name (decimal m) (10 ∷ []))) ∙ found-cut (name ++ decimal m) 10 []))
-
--- anywhere.
+-- and a line that is torn off anywhere is told.
 pub line-cut : (s name : List ℕ) (at n j : ℕ) → n < 10000000000 → j < length (line name (decimal n)) → drop at s ≡ take j (line name (decimal n)) → lineAt s at name ≡ short
-unfolding line
-line-cut s name at n j h l e = ⊎-elim in-digits in-name (below (length name) j)
-  where
-    in-digits : length name < j → lineAt s at name ≡ short
-    in-digits k =
-        let f = length-append name (decimal n ++ (10 ∷ [])) in
-        let g = length-append (decimal n) (10 ∷ []) in
-        let i : j ≡ length name + (j - length name) = omega arith in
-        let r = decimal-take n (j - length name) (omega arith) (omega arith) in
-        cut-digits s name at (r .0) (omega (arith, r .1 .1))
-        (e ∙ (ap (λ (m : ℕ). take m (name ++ (decimal n ++ (10 ∷ [])))) i ∙ (take-append-add name (decimal n ++ (10 ∷ [])) (j - length name)
-        ∙ ap (λ (x : List ℕ). name ++ x) (take-append-le (j - length name) (decimal n) (10 ∷ []) (omega arith) ∙ r .1 .0))))
-
-    in-name : j ≤ length name → lineAt s at name ≡ short
-    in-name k = cut-name s name at j k (e ∙ take-append-le j name (decimal n ++ (10 ∷ [])) k)
+line-cut s name at n j h l e = torn-short s name at n (line-torn s name at n j h l e)

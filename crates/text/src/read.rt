@@ -41,7 +41,7 @@ pub fn find(s: &[u8], at: usize, text: &[u8]) -> Found
 }
 
 // The number that the digits at a place make, at most ten of them.
-fn digits(s: &[u8], from: usize) -> u64
+pub fn digits(s: &[u8], from: usize) -> u64
     ensures { λ r. ⌜ (r ≡ digitsFrom 0 (drop from (now (s .entry)))) × (r < 10000000000) ⌝ }
 {
     let mut v: u64 = 0;

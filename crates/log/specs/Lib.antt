@@ -1,0 +1,4 @@
+-- Answers of reading in the paper's terms; laws of reading and writing a log.
+pub mod Meaning
+pub mod Rooms
+pub mod Items
