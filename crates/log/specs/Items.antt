@@ -244,39 +244,39 @@ items-stand s [] at next e =
       allowed = tt;
       stands = record { next-is = omega arith; is = ap (λ (n : ℕ). drop n s) k };
     }
-items-stand s (i ∷ is) at next e = go (itemAt s i at) refl e
+items-stand s (i ∷ is) at next e = go (λ mid f. items-stand s is mid next f) (itemAt s i at) refl e
   where
-    go : (r : Reach) → itemAt s i at ≡ r → readItems s is r ≡ upto next → ItemsStand s (i ∷ is) at next
-    go (upto mid) w e =
+    go : ((mid : ℕ) → readItems s is (upto mid) ≡ upto next → ItemsStand s is mid next) → (r : Reach) → itemAt s i at ≡ r → readItems s is r ≡ upto next → ItemsStand s (i ∷ is) at next
+    go later (upto mid) w e =
         let h = item-stands s i at mid w in
-        let t = items-stand s is mid next e in
+        let t = later mid e in
         record {
           numbers = h .0 ∷ t .numbers;
           allowed = (h .1, t .allowed);
           stands = stands-more s (itemText i (h .0)) (itemsText is (t .numbers)) at mid next (h .2) (t .stands);
         }
-    go tornOff w e = let z = sym (stuck-torn s is) ∙ e in absurd (let z : _≡_ {A = ℕ} 0 1 = cc in omega arith)
-    go astray w e = let z = sym (stuck-astray s is) ∙ e in absurd (let z : _≡_ {A = ℕ} 0 1 = cc in omega arith)
+    go later tornOff w e = let z = sym (stuck-torn s is) ∙ e in absurd (let z : _≡_ {A = ℕ} 0 1 = cc in omega arith)
+    go later astray w e = let z = sym (stuck-astray s is) ∙ e in absurd (let z : _≡_ {A = ℕ} 0 1 = cc in omega arith)
 
 pub items-tear : (s : List ℕ) (is : List Item) (at : ℕ) → readItems s is (upto at) ≡ tornOff → ItemsTear s is at
 unfolding readItems itemsText
 items-tear s [] at e = absurd (let z : _≡_ {A = ℕ} 0 1 = cc in omega arith)
-items-tear s (i ∷ is) at e = go (itemAt s i at) refl e
+items-tear s (i ∷ is) at e = go (λ mid f. items-tear s is mid f) (itemAt s i at) refl e
   where
-    go : (r : Reach) → itemAt s i at ≡ r → readItems s is r ≡ tornOff → ItemsTear s (i ∷ is) at
-    go (upto mid) w e =
+    go : ((mid : ℕ) → readItems s is (upto mid) ≡ tornOff → ItemsTear s is mid) → (r : Reach) → itemAt s i at ≡ r → readItems s is r ≡ tornOff → ItemsTear s (i ∷ is) at
+    go later (upto mid) w e =
         let h = item-stands s i at mid w in
-        let t = items-tear s is mid e in
+        let t = later mid e in
         record {
           numbers = h .0 ∷ t .numbers;
           allowed = (h .1, t .allowed);
           tears = tears-more s (itemText i (h .0)) (itemsText is (t .numbers)) at mid (h .2) (t .tears);
         }
-    go tornOff w e =
+    go later tornOff w e =
         let h = item-tears s i at w in
         record {
           numbers = h .0 ∷ leasts is;
           allowed = (h .1, leasts-allowed is);
           tears = tears-before s (itemText i (h .0)) (itemsText is (leasts is)) at (h .2);
         }
-    go astray w e = let z = sym (stuck-astray s is) ∙ e in absurd (let z : _≡_ {A = ℕ} 0 1 = cc in omega arith)
+    go later astray w e = let z = sym (stuck-astray s is) ∙ e in absurd (let z : _≡_ {A = ℕ} 0 1 = cc in omega arith)

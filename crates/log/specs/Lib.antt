@@ -2,3 +2,4 @@
 pub mod Meaning
 pub mod Rooms
 pub mod Items
+pub mod Records
