@@ -3,3 +3,4 @@ pub mod Meaning
 pub mod Rooms
 pub mod Items
 pub mod Records
+pub mod Logs
