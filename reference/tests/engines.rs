@@ -50,7 +50,7 @@ fn generated<'a>(dictionary: &'a [u8], call: &'a Call) -> Option<(Inputs<'a>, Ve
 #[test]
 fn engines_agree_on_generated_runs() {
     let mut made = 0;
-    for seed in (0..90_000).filter(|seed| [7, 8].contains(&(seed % CALLS))) {
+    for seed in (0..135_000).filter(|seed| [7, 8].contains(&(seed % CALLS))) {
         let case = case(seed);
         let Some((inputs, budgets)) = generated(&case.dictionary, &case.call) else { continue };
         for budget in budgets {

@@ -4,3 +4,5 @@ pub mod Rooms
 pub mod Items
 pub mod Records
 pub mod Logs
+pub mod Writing
+pub mod Calls

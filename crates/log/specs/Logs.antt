@@ -89,15 +89,15 @@ torn-here s run at e h t =
     let z = add-zero run in
     record {
       cut =
-        record {
-          entries = [];
-          legal = tt;
-          next = e;
-          next-legal = h;
-          bytes = t .bytes;
-          short = rw z (t .short);
-          is = t .is ∙ ap (λ (n : ℕ). take (t .bytes) (recordText n e)) (sym z);
-        };
+          record {
+            entries = [];
+            legal = tt;
+            next = e;
+            next-legal = h;
+            bytes = t .bytes;
+            short = rw z (t .short);
+            is = t .is ∙ ap (λ (n : ℕ). take (t .bytes) (recordText n e)) (sym z);
+          };
       runs-are = sym z;
       bytes-are = sym (add-zero at);
     }
@@ -110,17 +110,17 @@ one-more s run at mid runs bytes e h t r =
     let z : suc run + length (c .entries) ≡ run + suc (length (c .entries)) = omega arith in
     record {
       cut =
-        record {
-          entries = e ∷ c .entries;
-          legal = (h, c .legal);
-          next = c .next;
-          next-legal = c .next-legal;
-          bytes = c .bytes;
-          short = rw (← z) (c .short);
-          is =
-            t .is ∙ (ap (λ (x : List ℕ). recordText run e ++ x) (c .is ∙ ap (λ (n : ℕ). logText (suc run) (c .entries) ++ take (c .bytes) (recordText n (c .next))) z)
-            ∙ sym (append-assoc (recordText run e) (logText (suc run) (c .entries)) _));
-        };
+          record {
+            entries = e ∷ c .entries;
+            legal = (h, c .legal);
+            next = c .next;
+            next-legal = c .next-legal;
+            bytes = c .bytes;
+            short = rw (← z) (c .short);
+            is =
+                t .is ∙ (ap (λ (x : List ℕ). recordText run e ++ x) (c .is ∙ ap (λ (n : ℕ). logText (suc run) (c .entries) ++ take (c .bytes) (recordText n (c .next))) z)
+                ∙ sym (append-assoc (recordText run e) (logText (suc run) (c .entries)) _));
+          };
       runs-are = r .runs-are ∙ z;
       bytes-are = omega (arith, r .bytes-are, t .next-is, length-append (recordText run e) (logText (suc run) (c .entries)));
     }

@@ -2,6 +2,7 @@
 use Prim.Native.Nat.{ℕ, _≤_}
 use Rattle.paper.specs.Log as paper
 use Rattle.paper.specs.Log.{upto, tornOff, astray, readable, unreadable}
+use Rattle.log.specs.declared.write.Entry.{Entry}
 use Rattle.log.specs.declared.read.Reach.{Reach}
 use Rattle.log.specs.declared.read.Reach.the-variants.{Upto, Torn, Astray}
 use Rattle.log.specs.declared.read.Reading.{Reading}
@@ -20,3 +21,6 @@ readingIs Unreadable = unreadable
 abbrev pub Within : ℕ → paper.Reading → Type 0
 Within n (readable runs bytes) = (runs ≤ n) × (bytes ≤ n)
 Within n unreadable = Unit {0}
+
+abbrev pub entryIs : Entry → paper.Entry
+entryIs e = record { verdict = e .verdict; steps = e .steps; place = e .place; awake = e .awake }

@@ -128,8 +128,8 @@ torn-name s name at n j k e =
       digits = ap (digitsFrom 0) z ∙ digits-none 0;
       most = omega arith;
       tears =
-        ap (found _) (e ∙ sym (take-append-le j name (decimal 0 ++ (10 ∷ [])) k))
-        ∙ found-start (name ++ (decimal 0 ++ (10 ∷ []))) j (omega (arith, length-append name (decimal 0 ++ (10 ∷ [])), length-append (decimal 0) (10 ∷ [])));
+          ap (found _) (e ∙ sym (take-append-le j name (decimal 0 ++ (10 ∷ [])) k))
+          ∙ found-start (name ++ (decimal 0 ++ (10 ∷ []))) j (omega (arith, length-append name (decimal 0 ++ (10 ∷ [])), length-append (decimal 0) (10 ∷ [])));
     }
 
 -- or in its digits,

@@ -59,8 +59,7 @@ loop-again c =
     let l = c .before .before .before .before .before .loop in
     let s = now (c .before .before .before .before .before .before .before .args .s) in
     let g = c .before .next .given in
-    let e = sym (c .before .before .before .record-at .ensures) ∙ ap reachIs (g .1) in
-    (
+    let e = sym (c .before .before .before .record-at .ensures) ∙ ap reachIs (g .1) in (
       sym (read-step (l .left) s (l .run) (l .at) (upto (g .0 .0)) (c .before .before .before .before .loop-test .taken) e) ∙ l .inv .0,
       (omega arith, record-room s (l .run) (l .at) (g .0 .0) e),
     )
