@@ -31,3 +31,4 @@ pub mod SheetRefusals
 pub mod SheetVotes
 pub mod SheetHolds
 pub mod SheetPairs
+pub mod SheetLogs

@@ -2,6 +2,7 @@
 -- appending leaves, and the full outcome of each call. Assumes nothing.
 use mathlib.Core.Bool.{Bool, true, false, not, cond, _&&_, _||_}
 use mathlib.Core.List.{List, [], _∷_, _++_}
+use mathlib.Core.Path.{_≡_}
 use Prim.Native.Nat.{ℕ, zero, suc, _+_, _/_, _%_, _^_}
 use lib.Dec.{eqb, ltb, leb}
 use lib.ListN.{length, take, drop}
@@ -20,6 +21,9 @@ pub record Entry : Type 0 where
   pub steps : ℕ
   pub place : ℕ
   pub awake : ℕ
+
+abbrev pub entry : ℕ → ℕ → ℕ → ℕ → Entry
+entry number steps place awake = record { verdict = number; steps = steps; place = place; awake = awake }
 
 -- Verdict is 20 to 22, steps to 1,000,000, place to 8,192, awake to 16.
 unfoldable pub entryLegal : Entry → Bool
@@ -59,6 +63,17 @@ recordText run e =
 unfoldable pub logText : ℕ → List Entry → List ℕ
 logText run [] = []
 logText run (e ∷ es) = recordText run e ++ logText (suc run) es
+
+unfoldable pub allLegal : List Entry → Bool
+allLegal [] = true
+allLegal (e ∷ es) = entryLegal e && allLegal es
+
+-- A beginning of a log: some first bytes of the log of legal entries.
+pub record Beginning (s : List ℕ) : Type 0 where
+  pub entries : List Entry
+  pub legal : allLegal entries ≡ true
+  pub rest : List ℕ
+  pub is : s ++ rest ≡ logText 0 entries
 
 -- ---- reading a record
 

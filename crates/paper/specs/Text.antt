@@ -12,7 +12,9 @@ use lib.ListN.{length, drop}
 -- digits down.
 unfoldable pub decimalBy : ℕ → ℕ → List ℕ
 decimalBy zero n = (48 + n) ∷ []
-decimalBy (suc f) n = cond (ltb n 10) ((48 + n) ∷ []) (decimalBy f (n / 10) ++ ((48 + n % 10) ∷ []))
+decimalBy (suc f) n =
+    let more = decimalBy f (n / 10) ++ ((48 + n % 10) ∷ []) in
+    cond (ltb n 10) ((48 + n) ∷ []) more
 
 unfoldable pub decimal : ℕ → List ℕ
 decimal n = decimalBy n n
@@ -50,7 +52,9 @@ isDigit b = leb 48 b && ltb b 58
 -- The number v with the digits at the start of s after it, as many as make ten digits.
 unfoldable pub digitsFrom : ℕ → List ℕ → ℕ
 digitsFrom v [] = v
-digitsFrom v (b ∷ s) = cond (isDigit b && ltb v 1000000000) (digitsFrom (v * 10 + (b - 48)) s) v
+digitsFrom v (b ∷ s) =
+    let more = digitsFrom (v * 10 + (b - 48)) s in
+    cond (isDigit b && ltb v 1000000000) more v
 
 -- The number of a hex digit; 0 of any other byte.
 abbrev pub hexValue : ℕ → ℕ
