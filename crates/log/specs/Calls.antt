@@ -14,11 +14,8 @@ use Rattle.paper.specs.Enable.{howMany}
 use Rattle.paper.specs.State.{half, awakeBit}
 use Rattle.paper.specs.Calls.{Answer, verdict, refusal, Written}
 use Rattle.paper.specs.Log.{Entry, entryLegal, recordText, Reading, readable, unreadable, reading, logSized, bytesRead, runsRead, logReadCall, logRunsCall, partRead, logPart, addedAt, appendedTo, appended, logAppendCall, awakeCount, entryOf, logRunCall}
+use Rattle.laws.specs.Truth.{both-true}
 use Rattle.log.specs.Meaning.{Within}
-
-both-true : (a b : Bool) → (a && b) ≡ true → (a ≡ true) × (b ≡ true)
-both-true true b e = (refl, e)
-both-true false b e = absurd (let z : _≡_ {A = ℕ} 0 1 = cc in omega arith)
 
 -- What was read lies within.
 pub within-bytes : (n m runs bytes : ℕ) (q : Reading) → q ≡ readable runs bytes → Within n q → n ≤ m → bytes ≤ m

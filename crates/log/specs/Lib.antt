@@ -4,5 +4,7 @@ pub mod Rooms
 pub mod Items
 pub mod Records
 pub mod Logs
+pub mod Beginnings
+pub mod Appends
 pub mod Writing
 pub mod Calls

@@ -151,3 +151,12 @@ reads-cut (suc f) s run at runs bytes m w = go (λ mid k v. reads-cut f s (suc r
 pub log-reads : (s : List ℕ) (runs bytes : ℕ) → reading s ≡ readable runs bytes → ReadAs s 0 0 runs bytes
 unfolding reading
 log-reads s runs bytes w = reads-cut (length s) s 0 0 runs bytes (omega arith) w
+
+-- They lie within it, and there are at most as many.
+pub read-within : (s : List ℕ) (runs bytes : ℕ) → reading s ≡ readable runs bytes → (runs ≤ length s) × (bytes ≤ length s)
+read-within s runs bytes w =
+    let r = log-reads s runs bytes w in
+    let c = r .cut in
+    let n = length-append (logText 0 (c .entries)) (take (c .bytes) (recordText (0 + length (c .entries)) (c .next))) in
+    let m : length s ≡ length (logText 0 (c .entries) ++ take (c .bytes) (recordText (0 + length (c .entries)) (c .next))) = ap length (c .is) in
+    (omega (arith, r .runs-are, count-most 0 (c .entries)), omega (arith, r .bytes-are))

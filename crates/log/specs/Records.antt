@@ -11,6 +11,7 @@ use Rattle.paper.specs.Limits.{budgetLimit, lastPlace}
 use Rattle.paper.specs.Text.{decimal, line}
 use Rattle.paper.specs.Log.{Entry, entryLegal, runName, verdictName, stepsName, placeName, awakeName, endName, recordText, Reach, upto, tornOff, Item, exactly, atMost, readItems, items, recordAt}
 use Rattle.text.specs.Decimals.{decimal-one, decimal-more}
+use Rattle.laws.specs.Truth.{both-true}
 use Rattle.log.specs.Items.{AllAllowed, AllModest, itemText, itemsText, item-some, Stands, Tears, items-read, items-torn, items-stand, items-tear}
 
 -- ---- legal entries
@@ -21,10 +22,6 @@ pub record Legal (e : Entry) : Type 0 where
   pub steps : e .steps ≤ budgetLimit
   pub place : e .place ≤ lastPlace
   pub awake : e .awake ≤ 16
-
-both-true : (a b : Bool) → (a && b) ≡ true → (a ≡ true) × (b ≡ true)
-both-true true b e = (refl, e)
-both-true false b e = absurd (let z : _≡_ {A = ℕ} 0 1 = cc in omega arith)
 
 pub legal-is : (e : Entry) → entryLegal e ≡ true → Legal e
 unfolding entryLegal
