@@ -1,4 +1,4 @@
-/* Measures how the time of check, pack and run grows with a kernel's instructions, and how deep the stack of each call goes on the longest kernel
+/* Measures how the time of check, pack, run and pair grows with a kernel's instructions, and how deep the stack of each call goes on the longest kernel
  * (docs/PERFORMANCE.md). Times are medians of RUNS calls. The exit status is 1 if a call answers otherwise than it must. */
 #define _GNU_SOURCE
 #include "spokeshaver.h"
@@ -45,6 +45,7 @@ static uint64_t check(void) { return spokeshaver_check(dictionary, sizeof dictio
 static uint64_t decode(void) { return spokeshaver_decode(dictionary, sizeof dictionary, kernel, kernel_len, 2); }
 static uint64_t pack(void) { return spokeshaver_pack(dictionary, sizeof dictionary, kernel, kernel_len, out, sizeof out); }
 static uint64_t unpack(void) { return spokeshaver_unpack(dictionary, sizeof dictionary, packed, packed_len, out, sizeof out); }
+static uint64_t pair(void) { return spokeshaver_pair(dictionary, sizeof dictionary, kernel, kernel_len, packed, packed_len); }
 static uint64_t shorten(void) { return spokeshaver_shorten(dictionary, sizeof dictionary, kernel + 16, 16, out, sizeof out); }
 static uint64_t expand(void) { return spokeshaver_expand(dictionary, sizeof dictionary, packed + 16, 8, out, sizeof out); }
 static uint64_t start(void) { return spokeshaver_start(0xFFFF, 0, 0, state, sizeof state); }
@@ -63,11 +64,13 @@ struct call {
     uint64_t (*make)(void);
     unsigned number;
 };
-static const struct call timed[] = {{"check", check, SPOKESHAVER_ACCEPTED}, {"pack", pack, SPOKESHAVER_ACCEPTED}, {"run", run, SPOKESHAVER_SPENT}};
+static const struct call timed[] = {
+    {"check", check, SPOKESHAVER_ACCEPTED}, {"pack", pack, SPOKESHAVER_ACCEPTED}, {"run", run, SPOKESHAVER_SPENT}, {"pair", pair, SPOKESHAVER_ACCEPTED}};
 static const struct call all[] = {
     {"check", check, SPOKESHAVER_ACCEPTED},     {"decode", decode, SPOKESHAVER_ACCEPTED}, {"pack", pack, SPOKESHAVER_ACCEPTED},
     {"unpack", unpack, SPOKESHAVER_ACCEPTED},   {"shorten", shorten, SPOKESHAVER_ACCEPTED}, {"expand", expand, SPOKESHAVER_ACCEPTED},
     {"start", start, SPOKESHAVER_ACCEPTED},     {"step", step, SPOKESHAVER_ACCEPTED},     {"run", run, SPOKESHAVER_SPENT},
+    {"pair", pair, SPOKESHAVER_ACCEPTED},
 };
 
 static void must(const struct call *call, uint64_t answer) {
@@ -110,7 +113,7 @@ static double median(const struct call *call) {
 
 static void print_times(void) {
     static const size_t sizes[] = {256, 1024, SPOKESHAVER_INSTRUCTIONS_MOST};
-    printf("instructions  check, us  pack, us  run, us (as many steps)\n");
+    printf("instructions  check, us  pack, us  run, us (as many steps)  pair, us\n");
     for (size_t i = 0; i < sizeof sizes / sizeof *sizes; i++) {
         make_ready(sizes[i]);
         printf("%12zu", sizes[i]);

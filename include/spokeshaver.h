@@ -51,10 +51,11 @@ extern "C" {
 
 /* An answer is one number; these take it apart.
  *   NUMBER  a verdict or a refusal, below
- *   OFFSET  of a refused instruction, in bytes from the kernel's start; 0 for 1, 2, 13 to 16, decode's 3 at or past the end, and every verdict
- *   COUNT   instructions (check); bytes of the result (pack, unpack, shorten, expand) or of the instruction (decode); steps made (run);
- *           bytes or records of a log (log_read, log_append, log_run; log_runs);
- *           0 for start, step and every refusal, but the count given for 14 of a log */
+ *   OFFSET  of a refused instruction, in bytes from the kernel's start; 0 for 1, 2, 13 to 16, 32, decode's 3 at or past the end, and every verdict;
+ *           for 31 an instruction's number, counted from 0
+ *   COUNT   instructions (check); bytes of the result (pack, unpack, shorten, expand), of the instruction (decode) or of the kernel to load (pair,
+ *           refusals too); steps made (run); bytes of a log (log_read, log_append, log_run) or its records (log_runs); 0 for start, step and every
+ *           refusal but pair's and 14 of a log, which gives the count back */
 #define SPOKESHAVER_NUMBER(answer) ((unsigned)((uint64_t)(answer) & 0xFF))
 #define SPOKESHAVER_OFFSET(answer) ((uint32_t)((uint64_t)(answer) >> 8 & 0xFFFFFF))
 #define SPOKESHAVER_COUNT(answer) ((uint32_t)((uint64_t)(answer) >> 32))
@@ -83,6 +84,7 @@ extern "C" {
 #define SPOKESHAVER_NO_SHORT_WORD 13    /* shorten: no short word expands to it */
 #define SPOKESHAVER_NO_LOG 32           /* logs: the text is no beginning of a log, or a value is out of its range; judged before 14 */
 #define SPOKESHAVER_OUTPUT_TOO_SHORT 14 /* the output is shorter than the result */
+#define SPOKESHAVER_DIFFERS 31          /* pair: the sent kernel is another program than the long one */
 
 /* Is the kernel accepted? ACCEPTED with its instructions as count; or 1, 2, 3 to 12, 17. */
 uint64_t spokeshaver_check(const uint8_t *dictionary, size_t dictionary_len, const uint8_t *kernel, size_t kernel_len);
@@ -95,6 +97,14 @@ uint64_t spokeshaver_pack(const uint8_t *dictionary, size_t dictionary_len, cons
 /* Unpacks a kernel: every word becomes long. 16 bytes for each instruction are enough, and so 2 * kernel_len bytes are.
  * ACCEPTED with the result's bytes as count; or what check refuses, 14. */
 uint64_t spokeshaver_unpack(const uint8_t *dictionary, size_t dictionary_len, const uint8_t *kernel, size_t kernel_len, uint8_t *out, size_t out_len);
+
+/* Compares a long kernel with one that somebody else packed and sent for it, under one dictionary for both. ACCEPTED exactly if both pass check, the long
+ * one with long words only, and unpacking the sent one gives the long one: each word of the sent kernel is the long word itself or any short word that expands
+ * to it, and each branch is its partner but for distances, which reach the same instruction counted from the first. An accepted kernel runs as the long one does.
+ * What check refuses of the long kernel comes first (5 for a short word in it), then what it refuses of the sent one; then DIFFERS, with the number of the
+ * first instruction that differs in the place of the offset, or the smaller number of instructions if one kernel is the beginning of the other.
+ * The count is the length of the kernel to load, whatever the number: the sent one if ACCEPTED, else the long one; 0 where the long one is refused. */
+uint64_t spokeshaver_pair(const uint8_t *dictionary, size_t dictionary_len, const uint8_t *long_kernel, size_t long_len, const uint8_t *sent, size_t sent_len);
 
 /* Shortens one long word of 16 bytes to the smallest short word that expands to it. ACCEPTED with count 8; or 1, 2, 4, 5, 13, 14. */
 uint64_t spokeshaver_shorten(const uint8_t *dictionary, size_t dictionary_len, const uint8_t *word, size_t word_len, uint8_t *out, size_t out_len);

@@ -12,6 +12,18 @@ pub struct Report {
     pub bytes: u64,
 }
 
+// What is printed for a refusal: neither instructions nor bytes.
+fn refused(number: u8, offset: u64) -> Report
+    ensures { λ r. ⌜ reportIs r ≡ record { verdict = number; at = offset; instructions = 0; bytes = 0 } ⌝ }
+{
+    Report {
+        verdict: number as u64,
+        at: offset,
+        instructions: 0,
+        bytes: 0,
+    }
+}
+
 // What is printed for a dictionary and a kernel: its length too where it is accepted.
 pub fn report_on(dictionary: &[u8], kernel: &[u8]) -> Report
     ensures { λ r. ⌜ reportIs r ≡ printed (now (dictionary .entry)) (now (kernel .entry)) ⌝ }
@@ -24,17 +36,7 @@ pub fn report_on(dictionary: &[u8], kernel: &[u8]) -> Report
             instructions: count,
             bytes: bytes,
         },
-        Answer::Refused(number, offset) => Report {
-            verdict: number as u64,
-            at: offset,
-            instructions: 0,
-            bytes: 0,
-        },
-        Answer::RefusedWith(number, offset, _) => Report {
-            verdict: number as u64,
-            at: offset,
-            instructions: 0,
-            bytes: 0,
-        },
+        Answer::Refused(number, offset) => refused(number, offset),
+        Answer::RefusedWith(number, offset, _) => refused(number, offset),
     }
 }

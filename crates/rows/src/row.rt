@@ -43,6 +43,8 @@ pub const PACK: u64 = 0x7061636B_0;
 
 pub const UNPACK: u64 = 0x756E7061636B_0;
 
+pub const PAIR: u64 = 0x70616972_0;
+
 pub const SHORTEN: u64 = 0x73686F7274656E_0;
 
 pub const EXPAND: u64 = 0x657870616E64_0;
@@ -62,6 +64,8 @@ pub const HOLDS: u64 = 0x686F6C6473_2;
 pub const STANDS: u64 = 0x7374616E6473_2;
 
 pub const PART: u64 = 0x70617274_3;
+
+pub const LOADS: u64 = 0x6C6F616473_2;
 
 // The line's command, known or not. A comment has the key 0, as an empty line has.
 pub fn row_of(line: &[u8]) -> Row {

@@ -1,5 +1,6 @@
-// The commands that make a call of the C boundary, and the one that looks at the part of the kernel that decoding hands back.
+// The commands that make a call of the C boundary, and those that look at the part of a kernel that is handed back: by decoding, and as the kernel to load.
 use kernel::decode::part;
+use pair::load::load;
 use rows::bytes::dword_at;
 use rows::bytes::least;
 use rows::desk::Desk;
@@ -8,7 +9,9 @@ use rows::expect::compared;
 use rows::row::CHECK;
 use rows::row::DECODE;
 use rows::row::EXPAND;
+use rows::row::LOADS;
 use rows::row::PACK;
+use rows::row::PAIR;
 use rows::row::PART;
 use rows::row::RUN;
 use rows::row::Row;
@@ -24,6 +27,7 @@ use spokeshaver::spokeshaver_check;
 use spokeshaver::spokeshaver_decode;
 use spokeshaver::spokeshaver_expand;
 use spokeshaver::spokeshaver_pack;
+use spokeshaver::spokeshaver_pair;
 use spokeshaver::spokeshaver_run;
 use spokeshaver::spokeshaver_shorten;
 use spokeshaver::spokeshaver_start;
@@ -39,7 +43,8 @@ pub enum Answered {
     With(u64),
 }
 
-// `check`, `decode PLACE`, `pack`, `unpack`, `shorten`, `expand`. The kernel's bytes are the word to shorten or to expand.
+// `check`, `decode PLACE`, `pack`, `unpack`, `pair`, `shorten`, `expand`. The kernel's bytes are the word to shorten or to expand; the output's are the kernel
+// that was sent for it.
 fn asked(row: Row, dictionary: &[u8], kernel: &[u8], out: &mut [u8]) -> Answered {
     if row.key == CHECK {
         return Answered::With(spokeshaver_check(dictionary, kernel));
@@ -52,6 +57,9 @@ fn asked(row: Row, dictionary: &[u8], kernel: &[u8], out: &mut [u8]) -> Answered
     }
     if row.key == UNPACK {
         return Answered::With(spokeshaver_unpack(dictionary, kernel, out));
+    }
+    if row.key == PAIR {
+        return Answered::With(spokeshaver_pair(dictionary, kernel, out));
     }
     if row.key == SHORTEN {
         return Answered::With(spokeshaver_shorten(dictionary, kernel, out));
@@ -143,7 +151,7 @@ pub(crate) fn moved_by(
 }
 
 // `part PLACE BYTE DWORD`: what the bytes of the instruction at a place hold.
-pub(crate) fn part_of(row: Row, desk: Desk, table: &[u8]) -> Outcome
+fn part_of(row: Row, desk: Desk, table: &[u8]) -> Outcome
     requires { ⌜ length (now table) ≡ tableBytes ⌝ }
 {
     if row.key != PART {
@@ -153,6 +161,31 @@ pub(crate) fn part_of(row: Row, desk: Desk, table: &[u8]) -> Outcome
     let end = KERNEL + least(desk.kernel, LONGEST);
     let held = part(&table[0..numbers], &table[KERNEL..end], row.a);
     compared(dword_at(held, row.b as usize), row.c)
+}
+
+// `loads BYTE DWORD`: what the kernel to load holds, of the kernel and of the one in the output.
+fn load_of<'a>(row: Row, desk: Desk, table: &'a [u8], board: &'a [u8]) -> Outcome
+    requires { ⌜ (length (now table) ≡ tableBytes) × (length (now board) ≡ boardBytes) ⌝ }
+{
+    let numbers = least(desk.dictionary, KERNEL);
+    let end = KERNEL + least(desk.kernel, LONGEST);
+    let room = OUTPUT + least(desk.room, LONGEST);
+    let held = load(
+        &table[0..numbers],
+        &table[KERNEL..end],
+        &board[OUTPUT..room],
+    );
+    compared(dword_at(held, row.a as usize), row.b)
+}
+
+// What a part that is handed back holds.
+pub(crate) fn handed_back<'a>(row: Row, desk: Desk, table: &'a [u8], board: &'a [u8]) -> Outcome
+    requires { ⌜ (length (now table) ≡ tableBytes) × (length (now board) ≡ boardBytes) ⌝ }
+{
+    if row.key == LOADS {
+        return load_of(row, desk, table, board);
+    }
+    part_of(row, desk, table)
 }
 
 // The call's answer, if there was a call.

@@ -1,7 +1,7 @@
 // A file's lines one after the other.
 use crate::call::asked_of;
+use crate::call::handed_back;
 use crate::call::moved_by;
-use crate::call::part_of;
 use libc::STDOUT_FILENO;
 use rows::desk::Desk;
 use rows::desk::bare;
@@ -64,14 +64,14 @@ fn laid(
 }
 
 // How what the row expects came out.
-fn seen(
+fn seen<'a>(
     row: Row,
     desk: Desk,
-    table: &[u8; TABLE],
-    board: &[u8; BOARD],
+    table: &'a [u8; TABLE],
+    board: &'a [u8; BOARD],
     state: &[u8; STATE],
 ) -> Outcome {
-    let outcome = part_of(row, desk, table);
+    let outcome = handed_back(row, desk, table, board);
     match outcome {
         Outcome::Unasked => expected(row, desk.answer, board, state),
         Outcome::Right => Outcome::Right,

@@ -18,14 +18,14 @@ cast-t13 c = search needs
 enum-known-number-2 : tie.Need-enum-known-number-2
 enum-known-number-2 c = search needs
 
-cast-t14 : tie.Need-cast-t14
-cast-t14 c = search needs
+refused-requires : tie.Need-refused-requires
+refused-requires c κs = search needs
 
 enum-known-number-3 : tie.Need-enum-known-number-3
 enum-known-number-3 c = search needs
 
-cast-t15 : tie.Need-cast-t15
-cast-t15 c = search needs
+refused-requires-2 : tie.Need-refused-requires-2
+refused-requires-2 c κs = search needs
 
 returns : tie.Need-returns
 unfolding printedAs
@@ -33,11 +33,13 @@ returns c = sym (printed-by _ _ _ (sym (c .before .before .before .check .ensure
 
 returns-2 : tie.Need-returns-2
 unfolding printedAs
-returns-2 c = sym (printed-by _ _ _ (sym (c .before .before .before .check .ensures) ∙ ap answerIs (c .before .number2 .given .1)))
+returns-2 c =
+    c .refused .ensures ∙ sym (printed-by _ _ _ (sym (c .before .before .before .before .check .ensures) ∙ ap answerIs (c .before .before .number2 .given .1)))
 
 returns-3 : tie.Need-returns-3
 unfolding printedAs
-returns-3 c = sym (printed-by _ _ _ (sym (c .before .before .before .check .ensures) ∙ ap answerIs (c .before .number3 .given .1)))
+returns-3 c =
+    c .refused2 .ensures ∙ sym (printed-by _ _ _ (sym (c .before .before .before .before .check .ensures) ∙ ap answerIs (c .before .before .number3 .given .1)))
 
 pub report-on-spec : {M : Type 1} → statement M
 report-on-spec =
@@ -47,9 +49,9 @@ report-on-spec =
     enum-known-number
     cast-t13
     enum-known-number-2
-    cast-t14
+    refused-requires
     enum-known-number-3
-    cast-t15
+    refused-requires-2
     returns
     returns-2
     returns-3)

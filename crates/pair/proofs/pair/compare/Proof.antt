@@ -21,7 +21,7 @@ returns c =
     let d = now (s .args .dictionary) in
     let long = now (s .args .long) in
     let sent = now (s .args .sent) in
-    compared-longer long sent (kernelOf true d long) (kernelOf false d sent) (s .args .longer) (s .args .shorter) (s .pre .1 .0) (s .pre .1 .1) _ (c .before .common .ensures) (c .if1 .taken)
+    compared-longer long sent (kernelOf true d long) (kernelOf false d sent) (s .args .ours) (s .args .theirs) (s .pre .1 .0) (s .pre .1 .1) _ (c .before .common .ensures) (c .if1 .taken)
 
 returns-2 : tie.Need-returns-2
 returns-2 c =
@@ -29,7 +29,7 @@ returns-2 c =
     let d = now (s .args .dictionary) in
     let long = now (s .args .long) in
     let sent = now (s .args .sent) in
-    compared-shorter long sent (kernelOf true d long) (kernelOf false d sent) (s .args .longer) (s .args .shorter) (s .pre .1 .0) (s .pre .1 .1) _ (c .before .before .common .ensures) (c .before .if1 .left) (c .if2 .taken)
+    compared-shorter long sent (kernelOf true d long) (kernelOf false d sent) (s .args .ours) (s .args .theirs) (s .pre .1 .0) (s .pre .1 .1) _ (c .before .before .common .ensures) (c .before .if1 .left) (c .if2 .taken)
 
 returns-3 : tie.Need-returns-3
 returns-3 c =
@@ -37,7 +37,7 @@ returns-3 c =
     let d = now (s .args .dictionary) in
     let long = now (s .args .long) in
     let sent = now (s .args .sent) in
-    compared-whole long sent (kernelOf true d long) (kernelOf false d sent) (s .args .longer) (s .args .shorter) (s .pre .1 .0) (s .pre .1 .1) _ (c .before .before .common .ensures) (c .before .if1 .left) (c .if2 .left)
+    compared-whole long sent (kernelOf true d long) (kernelOf false d sent) (s .args .ours) (s .args .theirs) (s .pre .1 .0) (s .pre .1 .1) _ (c .before .before .common .ensures) (c .before .if1 .left) (c .if2 .left)
 
 pub compare-spec : {M : Type 1} → statement M
 compare-spec = tie.close (tie.spec place-long-requires common-requires returns returns-2 returns-3)

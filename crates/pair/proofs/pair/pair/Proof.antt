@@ -10,8 +10,8 @@ use Rattle.pair.proofs.pair.pair.Tie as tie
 accept-requires : tie.Need-accept-requires
 accept-requires c κs = search needs
 
-enum-known-longer : tie.Need-enum-known-longer
-enum-known-longer c = search needs
+enum-known-ours : tie.Need-enum-known-ours
+enum-known-ours c = search needs
 
 with-sent-requires : tie.Need-with-sent-requires
 with-sent-requires c κs =
@@ -19,7 +19,7 @@ with-sent-requires c κs =
     let d = now (s .args .dictionary) in
     let long = now (s .args .long) in
     let says = c .before .before .before .accept .ensures in
-    let e = c .before .longer .given .1 in
+    let e = c .before .ours .given .1 in
     (said-taken true d long _ _ says _ e, said-count true d long _ _ says _ e)
 
 enum-known-number : tie.Need-enum-known-number
@@ -31,7 +31,7 @@ returns c =
     let d = now (s .args .dictionary) in
     let long = now (s .args .long) in
     let sent = now (s .args .sent) in
-    let e = said-good true d long _ _ (c .before .before .before .before .accept .ensures) _ (c .before .before .longer .given .1) in
+    let e = said-good true d long _ _ (c .before .before .before .before .accept .ensures) _ (c .before .before .ours .given .1) in
     paired-good d long sent (kernelOf true d long) e _ (c .with-sent .ensures)
 
 returns-2 : tie.Need-returns-2
@@ -47,7 +47,7 @@ pair-spec =
     tie.close
     (tie.spec
     accept-requires
-    enum-known-longer
+    enum-known-ours
     with-sent-requires
     enum-known-number
     returns

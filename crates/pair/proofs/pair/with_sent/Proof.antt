@@ -10,8 +10,8 @@ use Rattle.pair.proofs.pair.with_sent.Tie as tie
 accept-requires : tie.Need-accept-requires
 accept-requires c κs = search needs
 
-enum-known-shorter : tie.Need-enum-known-shorter
-enum-known-shorter c = search needs
+enum-known-theirs : tie.Need-enum-known-theirs
+enum-known-theirs c = search needs
 
 compare-requires : tie.Need-compare-requires
 compare-requires c κs =
@@ -19,7 +19,7 @@ compare-requires c κs =
     let d = now (s .args .dictionary) in
     let sent = now (s .args .sent) in
     let says = c .before .before .before .accept .ensures in
-    let e = c .before .shorter .given .1 in
+    let e = c .before .theirs .given .1 in
     ((s .pre .0, said-taken false d sent _ _ says _ e), (s .pre .1, said-count false d sent _ _ says _ e))
 
 enum-known-number : tie.Need-enum-known-number
@@ -31,7 +31,7 @@ returns c =
     let d = now (s .args .dictionary) in
     let long = now (s .args .long) in
     let sent = now (s .args .sent) in
-    let e = said-good false d sent _ _ (c .before .before .before .before .accept .ensures) _ (c .before .before .shorter .given .1) in
+    let e = said-good false d sent _ _ (c .before .before .before .before .accept .ensures) _ (c .before .before .theirs .given .1) in
     sent-good d long sent (kernelOf true d long) (kernelOf false d sent) e _ (c .compare .ensures)
 
 returns-2 : tie.Need-returns-2
@@ -47,7 +47,7 @@ with-sent-spec =
     tie.close
     (tie.spec
     accept-requires
-    enum-known-shorter
+    enum-known-theirs
     compare-requires
     enum-known-number
     returns
