@@ -1,5 +1,5 @@
 -- What follows from the contracts of the exported calls. Promises states it, and the others prove it: demand 1 in OutcomesHold, demand 2 in PackingHolds (a
--- single word in WordsHold), demand 3 in RunningHolds (two kernels in AlikeHolds), a kernel that was sent in PairsHold, kernels that passed before in PassedHolds, and what longer kernels leave as it was in LongerHolds.
+-- single word in WordsHold), demand 3 in RunningHolds (two kernels in AlikeHolds), a kernel that was sent in PairsHold, kernels that passed before in PassedHolds, what longer kernels leave as it was in LongerHolds, and logs in LogsHold.
 pub mod Promises
 pub mod Results
 pub mod Words
@@ -14,3 +14,4 @@ pub mod RunningHolds
 pub mod PairsHold
 pub mod PassedHolds
 pub mod LongerHolds
+pub mod LogsHold
