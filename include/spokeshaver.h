@@ -1,4 +1,4 @@
-/* Spokeshaver: decode, check, pack, unpack and run small graphics kernels.
+/* Spokeshaver: decode, check, pack, unpack and run small graphics kernels, and keep a log of their runs.
  *
  * Link with libspokeshaver.a (x86-64 Linux; it needs only memcpy and memset of the C library). No call keeps anything between calls, takes memory,
  * writes a file or fails to return. Every call's answer, and every byte of what is lent to it, is proved to be what the rules say, for all inputs.
@@ -17,6 +17,7 @@
  *   kernel      0 to 65,536 bytes, 0 to 4,096 instructions of 8 bytes (short) or 16 bytes (long)
  *   registers   4,096 bytes: r0 to r127, 32 bytes each
  *   state       42 bytes, below
+ *   log         up to 4,294,967,295 bytes, of which the first `count` are the log, below
  *   A place is an offset in a kernel in units of 8 bytes.
  *
  * The state's bytes, all numbers 16 bits little-endian
@@ -50,10 +51,11 @@ extern "C" {
 
 /* An answer is one number; these take it apart.
  *   NUMBER  a verdict or a refusal, below
- *   OFFSET  of a refused instruction, in bytes from the kernel's start; 0 for 1, 2, 13 to 16, decode's 3 at or past the end, and every verdict;
+ *   OFFSET  of a refused instruction, in bytes from the kernel's start; 0 for 1, 2, 13 to 16, 32, decode's 3 at or past the end, and every verdict;
  *           for 31 an instruction's number, counted from 0
  *   COUNT   instructions (check); 1 or 0 (forward); bytes of the result (pack, unpack, shorten, expand), of the instruction (decode) or of the kernel
- *           to load (pair, refusals too); steps made (run); 0 for start, step and every refusal but pair's */
+ *           to load (pair, refusals too); steps made (run); bytes of a log (log_read, log_append, log_run) or its records (log_runs); 0 for start,
+ *           step and every refusal but pair's and 14 of a log, which gives the count back */
 #define SPOKESHAVER_NUMBER(answer) ((unsigned)((uint64_t)(answer) & 0xFF))
 #define SPOKESHAVER_OFFSET(answer) ((uint32_t)((uint64_t)(answer) >> 8 & 0xFFFFFF))
 #define SPOKESHAVER_COUNT(answer) ((uint32_t)((uint64_t)(answer) >> 32))
@@ -80,6 +82,7 @@ extern "C" {
 #define SPOKESHAVER_STRAY_JUMP 12       /* a jump lands on no instruction's start and not on the end; of break and cont JIP or UIP */
 #define SPOKESHAVER_BAD_STATE 15        /* a place in the state is no instruction's start and not the end, or a channel is none of the three */
 #define SPOKESHAVER_NO_SHORT_WORD 13    /* shorten: no short word expands to it */
+#define SPOKESHAVER_NO_LOG 32           /* logs: the text is no beginning of a log, or a value is out of its range; judged before 14 */
 #define SPOKESHAVER_OUTPUT_TOO_SHORT 14 /* the output is shorter than the result */
 #define SPOKESHAVER_DIFFERS 31          /* pair: the sent kernel is another program than the long one */
 
@@ -131,6 +134,31 @@ uint64_t spokeshaver_step(const uint8_t *dictionary, size_t dictionary_len, cons
  * as they were, no run from there ever ends. */
 uint64_t spokeshaver_run(const uint8_t *dictionary, size_t dictionary_len, const uint8_t *kernel, size_t kernel_len, uint64_t budget,
                          uint8_t *registers, size_t registers_len, uint8_t *state, size_t state_len);
+
+/* A log of finished runs: the first `count` bytes of a buffer. Each record is six lines, a newline after each, numbers in decimal without leading zeros:
+ *   run=0          the runs count up from 0
+ *   verdict=20     20 to 22
+ *   steps=0        to 1,000,000
+ *   place=0        to 8,192
+ *   awake=16       how many channels are awake at the end, to 16
+ *   end=1
+ * Power may go after any byte. What is then left is a beginning of a log: whole records, and perhaps a part of one more. Any other text is refused (32), also
+ * where only the torn tail is wrong. After a cut: log_read first, cut what is kept (a file, say) to its count, and only then append. A count that still takes in
+ * a torn tail is no harm to a call; but if power goes again while that tail is overwritten, such a count covers a mixture of old and new. */
+
+/* Reads a log. ACCEPTED with the bytes of its whole records as count, which are the buffer's first; or 1 (a count over log_len, or log_len over 4,294,967,295), 32. */
+uint64_t spokeshaver_log_read(const uint8_t *log, size_t log_len, uint64_t count);
+
+/* The same with the number of whole records as count. */
+uint64_t spokeshaver_log_runs(const uint8_t *log, size_t log_len, uint64_t count);
+
+/* Appends a record where the whole records stop; a torn tail is cut off first. ACCEPTED with the log's bytes as count, what lies behind them as it was; or 1, 32 (a
+ * value out of its range too), 14 with the count given, if the record does not fit in log_len bytes. */
+uint64_t spokeshaver_log_append(uint8_t *log, size_t log_len, uint64_t count, uint64_t verdict, uint64_t steps, uint64_t place, uint64_t awake);
+
+/* Appends what a run answered and the state that it left: its NUMBER, its COUNT, the state's place and how many bits of the awake mask are set. Nothing else of
+ * answer and state is looked at. As log_append; 1 also for a state of another size. */
+uint64_t spokeshaver_log_run(uint8_t *log, size_t log_len, uint64_t count, uint64_t answer, const uint8_t *state, size_t state_len);
 
 #ifdef __cplusplus
 }

@@ -1,8 +1,8 @@
 /* Makes the bench's calls for a program on the other side of a pipe, so that the archive can be compared with the reference also where the
  * comparing program cannot link it.
  *
- * A request is eight numbers of 64 bits in the machine's order, and then bytes: which call, three plain arguments, the lengths of four buffers; the
- * buffers. The buffers are the dictionary, the kernel or word, the output, the registers or the sent kernel, and the state; one that the call does not take has length 0.
+ * A request is ten numbers of 64 bits in the machine's order, and then bytes: which call, five plain arguments, the lengths of four buffers; the
+ * buffers. The buffers are the dictionary, the kernel or word, the output, the registers, the sent kernel or the log, and the state; one that the call does not take has length 0.
  * A reply is two numbers and then bytes: the answer; 0, or what the call touched though it must not; the last two buffers as the call left them.
  *
  * Each buffer ends where a page begins that may be neither read nor written, so that one byte too far ends the program. What lies before it, and what
@@ -16,7 +16,7 @@
 #include <unistd.h>
 
 enum { DICTIONARY, KERNEL, OUT, STATE, BUFFERS };
-enum { CALL, FIRST, SECOND, THIRD, LENGTHS, NUMBERS = LENGTHS + BUFFERS };
+enum { CALL, FIRST, SECOND, THIRD, FOURTH, FIFTH, LENGTHS, NUMBERS = LENGTHS + BUFFERS };
 enum { ROOM = 1 << 17, MARGIN = 64, MARK = 0xA5 };
 
 /* Where each buffer's room ends, and what was lent in it, the margin before it included. */
@@ -69,8 +69,12 @@ static uint64_t call(const uint64_t *number) {
     case 6: return spokeshaver_start((uint16_t)number[FIRST], (uint16_t)number[SECOND], (uint16_t)number[THIRD], state, s);
     case 7: return spokeshaver_step(dictionary, d, kernel, k, out, o, state, s);
     case 8: return spokeshaver_run(dictionary, d, kernel, k, number[FIRST], out, o, state, s);
-    case 9: return spokeshaver_forward(dictionary, d, kernel, k);
-    case 10: return spokeshaver_pair(dictionary, d, kernel, k, out, o);
+    case 9: return spokeshaver_pair(dictionary, d, kernel, k, out, o);
+    case 10: return spokeshaver_log_append(out, o, number[FIRST], number[SECOND], number[THIRD], number[FOURTH], number[FIFTH]);
+    case 11: return spokeshaver_log_read(out, o, number[FIRST]);
+    case 12: return spokeshaver_log_runs(out, o, number[FIRST]);
+    case 13: return spokeshaver_log_run(out, o, number[FIRST], number[SECOND], state, s);
+    case 14: return spokeshaver_forward(dictionary, d, kernel, k);
     default: return UINT64_MAX;
     }
 }

@@ -7,23 +7,25 @@ mod damage;
 mod dictionaries;
 mod instructions;
 mod kernels;
+mod logs;
 mod pairs;
 mod states;
 
 use crate::answers::Answer;
 use crate::calls;
+use crate::log;
 use std::collections::BTreeSet;
 
 pub use cases::case;
 
 /// How many calls there are. So many seeds in a row give each of them once.
-pub const CALLS: u64 = 11;
+pub const CALLS: u64 = 15;
 
 /// One call with all its inputs. Vectors that the call may write are lent as they stand here.
 #[derive(Clone, PartialEq, Eq, Debug)]
 pub struct Case {
     pub seed: u64,
-    /// Empty for start, which has none.
+    /// Empty for start and for logs, which have none.
     pub dictionary: Vec<u8>,
     pub call: Call,
 }
@@ -42,6 +44,10 @@ pub enum Call {
     Run { kernel: Vec<u8>, budget: u64, registers: Vec<u8>, state: Vec<u8> },
     Forward { kernel: Vec<u8> },
     Pair { long: Vec<u8>, sent: Vec<u8> },
+    LogAppend { log: Vec<u8>, count: u64, values: log::Values },
+    LogRead { log: Vec<u8>, count: u64 },
+    LogRuns { log: Vec<u8>, count: u64 },
+    LogRun { log: Vec<u8>, count: u64, answer: u64, state: Vec<u8> },
 }
 
 impl Call {
@@ -58,6 +64,10 @@ impl Call {
             Call::Run { .. } => "run",
             Call::Forward { .. } => "forward",
             Call::Pair { .. } => "pair",
+            Call::LogAppend { .. } => "log_append",
+            Call::LogRead { .. } => "log_read",
+            Call::LogRuns { .. } => "log_runs",
+            Call::LogRun { .. } => "log_run",
         }
     }
 }
@@ -100,6 +110,10 @@ impl Bench for Reference {
             }
             Call::Forward { kernel } => calls::forward(dictionary, kernel),
             Call::Pair { long, .. } => calls::pair(dictionary, long, out),
+            Call::LogAppend { count, values, .. } => log::log_append(out, *count, values),
+            Call::LogRead { count, .. } => log::log_read(out, *count),
+            Call::LogRuns { count, .. } => log::log_runs(out, *count),
+            Call::LogRun { count, answer, .. } => log::log_run(out, *count, *answer, state),
         }
     }
 }
@@ -121,6 +135,14 @@ pub fn lent(case: &Case) -> Outcome {
         | Call::Expand { out, .. } => before.out = out.clone(),
         // Nothing is written there: it must stay as it is.
         Call::Pair { sent, .. } => before.out = sent.clone(),
+        Call::LogRead { log, .. } | Call::LogRuns { log, .. } | Call::LogAppend { log, .. } => {
+            before.out = log.clone()
+        }
+        // Of the state too nothing is written.
+        Call::LogRun { log, state, .. } => {
+            before.out = log.clone();
+            before.state = state.clone();
+        }
         Call::Start { state, .. } => before.state = state.clone(),
         Call::Step { registers, state, .. } | Call::Run { registers, state, .. } => {
             before.registers = registers.clone();
@@ -158,6 +180,8 @@ pub fn possible(name: &str) -> BTreeSet<u8> {
         "start" => [0, 1].into(),
         "step" => with(&[0, 15, 17, 20]),
         "pair" => with(&[0, 17, 31]),
+        "log_read" | "log_runs" => [0, 1, 32].into(),
+        "log_append" | "log_run" => [0, 1, 14, 32].into(),
         _ => with(&[15, 16, 17, 20, 21]),
     }
 }

@@ -20,7 +20,7 @@ const SEEDS: u64 = 3_000 * CALLS;
 
 /// The cases of forward, each with its kernel.
 fn forward_cases() -> impl Iterator<Item = (Case, Vec<u8>)> {
-    (9..SEEDS).step_by(CALLS as usize).map(case).filter_map(|case| match &case.call {
+    (14..SEEDS).step_by(CALLS as usize).map(case).filter_map(|case| match &case.call {
         Call::Forward { kernel } => Some((case.clone(), kernel.clone())),
         _ => None,
     })

@@ -47,7 +47,9 @@ fn refusals_change_nothing() {
             let before = Outcome { answer: after.answer, ..lent(&case) };
             assert_eq!(after, before, "seed {seed}");
             // Of a pair the long kernel may be loaded although the sent one is refused.
-            assert!(answer.count == 0 || case.call.name() == "pair", "seed {seed}");
+            // A record that does not fit leaves the log's count as it was.
+            let counts = case.call.name() == "pair" || answer.number == 14;
+            assert!(answer.count == 0 || counts, "seed {seed}");
             let names_none = matches!(answer.number, 1 | 2 | 13..=16);
             assert!(!names_none || answer.at == 0, "seed {seed}");
         }

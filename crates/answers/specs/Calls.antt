@@ -41,7 +41,7 @@ use Rattle.laws.specs.Truth.{both-true}
 -- ---- choices and refusals
 
 -- What holds of both holds of a choice between them.
-by-cond : {A : Type 0} (Q : A → Type 0) (b : Bool) (x y : A) → (b ≡ true → Q x) → (b ≡ false → Q y) → Q (cond b x y)
+pub by-cond : {A : Type 0} (Q : A → Type 0) (b : Bool) (x y : A) → (b ≡ true → Q x) → (b ≡ false → Q y) → Q (cond b x y)
 by-cond Q true x y h g = h refl
 by-cond Q false x y h g = g refl
 

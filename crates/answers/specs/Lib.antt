@@ -5,4 +5,5 @@ pub mod Small
 pub mod Judging
 pub mod Kernels
 pub mod Calls
+pub mod Logs
 pub mod OneAnswer

@@ -50,3 +50,11 @@ stepNumbers n = oneTo 12 n || (eqb n 0 || (eqb n 15 || (eqb n 17 || eqb n 20)))
 -- Run: 20, 21, or 1 to 12, 15, 16 or 17.
 abbrev pub runNumbers : ℕ → Bool
 runNumbers n = oneTo 12 n || (eqb n 15 || (eqb n 16 || (eqb n 17 || (eqb n 20 || eqb n 21))))
+
+-- Reading a log: 0, 1 or 32.
+abbrev pub logReadNumbers : ℕ → Bool
+logReadNumbers n = eqb n 0 || (eqb n 1 || eqb n 32)
+
+-- Appending to it: 14 too.
+abbrev pub logAppendNumbers : ℕ → Bool
+logAppendNumbers n = logReadNumbers n || eqb n 14

@@ -4,11 +4,12 @@ use mathlib.Core.List.{List}
 use mathlib.Core.Path.{_≡_}
 use Prim.Native.Nat.{ℕ}
 use Rattle.paper.specs.Calls.{checkCall, forwardCall, packCall, unpackCall, pairCall, shortenCall, expandCall, decodeCall, startCall, stepCall, runCall}
+use Rattle.paper.specs.Log.{Entry, logReadCall, logRunsCall, logAppendCall, logRunCall}
 use Rattle.words.specs.declared.answer.Answer.{Answer}
 use Rattle.words.specs.Answer.{answerIs, Wrote, Left, one-answer, one-written, one-changed}
 
--- `check`, `forward`, `pack`, `unpack`, `pair`, `shorten_word`, `expand_word`, `decode_size`, `start`, `step` and `run`.
-
+-- `check`, `forward`, `pack`, `unpack`, `pair`, `shorten_word`, `expand_word`, `decode_size`, `start`, `step` and `run`; of logs `append`, `whole_bytes`,
+-- `whole_runs` and `append_run`.
 pub record OneAnswer : Type 0 where
   pub check : (dictionary kernel : List ℕ) (r s : Answer) → answerIs r ≡ checkCall dictionary kernel → answerIs s ≡ checkCall dictionary kernel → r ≡ s
   pub forward : (dictionary kernel : List ℕ) (r s : Answer)
@@ -33,6 +34,12 @@ pub record OneAnswer : Type 0 where
   pub run : (dictionary kernel : List ℕ) (budget : ℕ) (registers state : List ℕ) (r s : Answer) (registers′ registers″ state′ state″ : List ℕ)
       → Left (runCall dictionary kernel budget registers state) r registers′ state′ → Left (runCall dictionary kernel budget registers state) s registers″ state″
       → (r ≡ s) × (registers′ ≡ registers″) × (state′ ≡ state″)
+  pub logAppend : (log : List ℕ) (count : ℕ) (e : Entry) (r s : Answer) (log′ log″ : List ℕ)
+      → Wrote (logAppendCall log count e) r log′ → Wrote (logAppendCall log count e) s log″ → (r ≡ s) × (log′ ≡ log″)
+  pub logRead : (log : List ℕ) (count : ℕ) (r s : Answer) → answerIs r ≡ logReadCall log count → answerIs s ≡ logReadCall log count → r ≡ s
+  pub logRuns : (log : List ℕ) (count : ℕ) (r s : Answer) → answerIs r ≡ logRunsCall log count → answerIs s ≡ logRunsCall log count → r ≡ s
+  pub logRun : (log : List ℕ) (count answer : ℕ) (state : List ℕ) (r s : Answer) (log′ log″ : List ℕ)
+      → Wrote (logRunCall log count answer state) r log′ → Wrote (logRunCall log count answer state) s log″ → (r ≡ s) × (log′ ≡ log″)
 
 pub one-outcome : OneAnswer
 one-outcome =
@@ -48,4 +55,8 @@ one-outcome =
       start = λ mask flag0 flag1 state. one-written (startCall mask flag0 flag1 state);
       step = λ dictionary kernel registers state. one-changed (stepCall dictionary kernel registers state);
       run = λ dictionary kernel budget registers state. one-changed (runCall dictionary kernel budget registers state);
+      logAppend = λ log count e. one-written (logAppendCall log count e);
+      logRead = λ log count. one-answer (logReadCall log count);
+      logRuns = λ log count. one-answer (logRunsCall log count);
+      logRun = λ log count answer state. one-written (logRunCall log count answer state);
     }

@@ -4,6 +4,7 @@
 use mathlib.Core.Path.{_≡_}
 use mathlib.Core.List.{List}
 use Prim.Native.Nat.{ℕ, _/_, _%_, _^_}
+use Rattle.paper.specs.Log.{entry, logReadCall, logRunsCall, logAppendCall, logRunCall}
 use Rattle.paper.specs.Calls.{asNumber, Written, Changed, checkCall, forwardCall, packCall, unpackCall, pairCall, shortenCall, expandCall, decodeCall, startCall, stepCall, runCall}
 
 -- ---- an answer taken apart, as the header's macros do
@@ -65,3 +66,15 @@ StepPromise dictionary kernel registers state r registers′ state′ = Left (st
 abbrev pub RunPromise : List ℕ → List ℕ → ℕ → List ℕ → List ℕ → ℕ → List ℕ → List ℕ → Type 0
 RunPromise dictionary kernel budget registers state r registers′ state′ =
     Left (runCall dictionary kernel budget registers state) r registers′ state′
+
+abbrev pub LogAppendPromise : List ℕ → ℕ → ℕ → ℕ → ℕ → ℕ → ℕ → List ℕ → Type 0
+LogAppendPromise log count verdict steps place awake r log′ = Wrote (logAppendCall log count (entry verdict steps place awake)) r log′
+
+abbrev pub LogReadPromise : List ℕ → ℕ → ℕ → Type 0
+LogReadPromise log count r = r ≡ asNumber (logReadCall log count)
+
+abbrev pub LogRunsPromise : List ℕ → ℕ → ℕ → Type 0
+LogRunsPromise log count r = r ≡ asNumber (logRunsCall log count)
+
+abbrev pub LogRunPromise : List ℕ → ℕ → ℕ → List ℕ → ℕ → List ℕ → Type 0
+LogRunPromise log count answer state r log′ = Wrote (logRunCall log count answer state) r log′

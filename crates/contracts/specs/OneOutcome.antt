@@ -5,6 +5,7 @@ use mathlib.Core.Path.{_≡_}
 use Prim.Native.Nat.{ℕ}
 use Rattle.contracts.specs.Contracts.{CheckPromise, ForwardPromise, PackPromise, UnpackPromise, PairPromise, ShortenPromise, ExpandPromise}
 use Rattle.contracts.specs.Contracts.{DecodePromise, StartPromise, StepPromise, RunPromise}
+use Rattle.contracts.specs.Contracts.{LogAppendPromise, LogReadPromise, LogRunsPromise, LogRunPromise}
 
 -- The contract of each call admits one outcome only: one answer, and one final content of each buffer that is lent for writing.
 pub record OneOutcome : Type 0 where
@@ -28,3 +29,9 @@ pub record OneOutcome : Type 0 where
   pub run : (dictionary kernel : List ℕ) (budget : ℕ) (registers state : List ℕ) (r s : ℕ) (registers′ registers″ state′ state″ : List ℕ)
       → RunPromise dictionary kernel budget registers state r registers′ state′ → RunPromise dictionary kernel budget registers state s registers″ state″
       → (r ≡ s) × (registers′ ≡ registers″) × (state′ ≡ state″)
+  pub logAppend : (log : List ℕ) (count verdict steps place awake r s : ℕ) (log′ log″ : List ℕ)
+      → LogAppendPromise log count verdict steps place awake r log′ → LogAppendPromise log count verdict steps place awake s log″ → (r ≡ s) × (log′ ≡ log″)
+  pub logRead : (log : List ℕ) (count r s : ℕ) → LogReadPromise log count r → LogReadPromise log count s → r ≡ s
+  pub logRuns : (log : List ℕ) (count r s : ℕ) → LogRunsPromise log count r → LogRunsPromise log count s → r ≡ s
+  pub logRun : (log : List ℕ) (count answer : ℕ) (state : List ℕ) (r s : ℕ) (log′ log″ : List ℕ)
+      → LogRunPromise log count answer state r log′ → LogRunPromise log count answer state s log″ → (r ≡ s) × (log′ ≡ log″)

@@ -2,6 +2,7 @@
 use mathlib.Core.List.{List}
 use mathlib.Core.Path.{_≡_, sym, _∙_}
 use Prim.Native.Nat.{ℕ}
+use Rattle.paper.specs.Log.{entry, logAppendCall, logRunCall}
 use Rattle.paper.specs.Calls.{Written, Changed, packCall, unpackCall, shortenCall, expandCall, startCall, stepCall, runCall}
 use Rattle.contracts.specs.Contracts.{Wrote, Left}
 use Rattle.contracts.specs.OneOutcome.{OneOutcome}
@@ -28,4 +29,8 @@ one-outcome =
       start = λ mask flag0 flag1 state. one-written (startCall mask flag0 flag1 state);
       step = λ dictionary kernel registers state. one-changed (stepCall dictionary kernel registers state);
       run = λ dictionary kernel budget registers state. one-changed (runCall dictionary kernel budget registers state);
+      logAppend = λ log count verdict steps place awake. one-written (logAppendCall log count (entry verdict steps place awake));
+      logRead = λ log count r s p q. p ∙ sym q;
+      logRuns = λ log count r s p q. p ∙ sym q;
+      logRun = λ log count answer state. one-written (logRunCall log count answer state);
     }

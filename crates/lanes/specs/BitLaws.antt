@@ -10,10 +10,9 @@ use lib.Bits.{bitAnd, bitOr, and-shr, and-step, or-shr, or-step, and-lt}
 use lib.Count.{ones, ones-cat}
 use borrow.Author.Tests.{ltb-true, ltb-false, eq-eqb}
 use Rattle.paper.specs.Bits.{bits, bit}
-use Rattle.paper.specs.Enable.{digit, ofBits}
+use Rattle.paper.specs.Enable.{digit, ofBits, howMany}
 use Rattle.laws.specs.Bits.{bits-above, bits-low}
 use Rattle.laws.specs.Masks.{bit-above, ofBits-less, bit-ofBits, ofBits-mod, ofBits-bit, same-bits}
-use Rattle.lanes.specs.Masks.{howMany}
 
 -- ---- and, or
 

@@ -5,7 +5,7 @@ use mathlib.Core.List.{List, [], _∷_}
 use Prim.Native.Nat.{ℕ, zero, suc, _+_, _-_, _*_, _/_, _%_, _^_}
 use lib.Dec.{eqb}
 use Rattle.paper.specs.Bits.{bit}
-use Rattle.paper.specs.Enable.{anyBit, groupStart, vote, predicate, digit, ofBits}
+use Rattle.paper.specs.Enable.{anyBit, groupStart, vote, predicate, ofBits}
 
 -- ---- votes
 
@@ -69,8 +69,3 @@ awakeFrom mask n (suc c) = bit mask n ∷ awakeFrom mask (suc n) c
 -- Which of the 16 channels are awake, by their mask.
 unfoldable pub awakeList : ℕ → List Bool
 awakeList mask = awakeFrom mask 0 16
-
--- How many of f 0, …, f (n − 1) are true.
-unfoldable pub howMany : (ℕ → Bool) → ℕ → ℕ
-howMany f zero = 0
-howMany f (suc n) = digit (f n) + howMany f n

@@ -3,7 +3,8 @@ use crate::votes::vote_mask;
 ghost use mathlib.Core.Path.{_≡_};
 ghost use Prim.Native.Nat.{_*_, _<_};
 ghost use Rattle.paper.specs.Bits.{bit};
-ghost use Rattle.lanes.specs.Masks.{predicateMask, unmaskedMask, passedMask, enableMask, quarterMask, raisedMask, howMany};
+ghost use Rattle.paper.specs.Enable.{howMany};
+ghost use Rattle.lanes.specs.Masks.{predicateMask, unmaskedMask, passedMask, enableMask, quarterMask, raisedMask};
 
 // Bit k of a mask is 1.
 pub fn bit(mask: u64, k: u64) -> bool

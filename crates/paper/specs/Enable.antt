@@ -75,6 +75,11 @@ unfoldable pub ofBits : (ℕ → Bool) → ℕ → ℕ
 ofBits f zero = 0
 ofBits f (suc n) = digit (f n) at n + ofBits f n
 
+-- How many of f 0, …, f (n − 1) are true.
+unfoldable pub howMany : (ℕ → Bool) → ℕ → ℕ
+howMany f zero = 0
+howMany f (suc n) = digit (f n) + howMany f n
+
 -- Bit m of a flag after a cmp on n channels from `first` on: an enabled channel's result. The bits of its disabled channels stay, as all others do (02 §4).
 unfoldable pub flagBit : ℕ → ℕ → ℕ → (ℕ → Bool) → (ℕ → Bool) → ℕ → Bool
 flagBit old first n on result m = cond ((leb first m && ltb m (first + n)) && on m) (result m) (bit old m)

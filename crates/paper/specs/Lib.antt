@@ -23,6 +23,8 @@ pub mod State
 pub mod Packing
 pub mod Program
 pub mod Calls
+pub mod Text
+pub mod Log
 pub mod Assembler
 pub mod Sheet
 pub mod SheetMore
@@ -32,3 +34,4 @@ pub mod SheetLeaving
 pub mod SheetForward
 pub mod SheetHolds
 pub mod SheetPairs
+pub mod SheetLogs

@@ -1,5 +1,5 @@
 -- What follows from the contracts of the exported calls. Promises states it, and the others prove it: demand 1 in OutcomesHold, demand 2 in PackingHolds (a
--- single word in WordsHold), demand 3 in RunningHolds (two kernels in AlikeHolds), a kernel that was sent in PairsHold, kernels that passed before in PassedHolds, and what longer kernels leave as it was in LongerHolds.
+-- single word in WordsHold), demand 3 in RunningHolds (two kernels in AlikeHolds), a kernel that was sent in PairsHold, kernels that passed before in PassedHolds, what longer kernels leave as it was in LongerHolds, and logs in LogsHold.
 -- Finishing states when a kernel must finish, and what a step may change; FinishingHolds proves it.
 pub mod Promises
 pub mod Results
@@ -17,3 +17,4 @@ pub mod PassedHolds
 pub mod LongerHolds
 pub mod Finishing
 pub mod FinishingHolds
+pub mod LogsHold

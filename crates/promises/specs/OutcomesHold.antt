@@ -8,8 +8,11 @@ use native.Mathlib.Omega.{arith}
 use lib.ListN.{length, take, drop}
 use Rattle.paper.specs.Calls.{Answer, asNumber, Written, checkCall, forwardCall, packCall, unpackCall, pairCall, shortenCall, expandCall, decodeCall, decodePart, startCall, stepCall, runCall, numberOf}
 use Rattle.laws.specs.Calls.{Confined, pack-confined, unpack-confined, shorten-confined, expand-confined, start-confined, decode-refused, step-unchanged, run-unchanged}
+use Rattle.paper.specs.Log.{entry, logAppendCall, logReadCall, logRunsCall, logRunCall}
+use Rattle.log.specs.Appends.{append-confined, run-confined}
+use Rattle.answers.specs.Logs.{log-append-fine, log-read-fine, log-runs-fine, log-run-fine}
 use Rattle.contracts.specs.Contracts.{numberIn, offsetIn, countIn, Wrote}
-use Rattle.answers.specs.Numbers.{checkNumbers, forwardNumbers, packNumbers, unpackNumbers, pairNumbers, shortenNumbers, expandNumbers, decodeNumbers, startNumbers, stepNumbers, runNumbers}
+use Rattle.answers.specs.Numbers.{checkNumbers, forwardNumbers, packNumbers, unpackNumbers, pairNumbers, shortenNumbers, expandNumbers, decodeNumbers, startNumbers, stepNumbers, runNumbers, logReadNumbers, logAppendNumbers}
 use Rattle.contracts.specs.OneOutcomeHolds.{one-outcome}
 use Rattle.promises.specs.Promises.{Told, Answers, Kept, Refusals, Demand1}
 use Rattle.answers.specs.Small.{number-back, offset-back, count-back}
@@ -45,6 +48,12 @@ answers =
           told stepNumbers (stepCall dictionary kernel registers state .answer) r (step-fine dictionary kernel registers state) (p .0);
       run = λ dictionary kernel budget registers state r registers′ state′ p.
           told runNumbers (runCall dictionary kernel budget registers state .answer) r (run-fine dictionary kernel budget registers state) (p .0);
+      logAppend = λ log count v steps place awake r log′ p.
+          told logAppendNumbers (logAppendCall log count (entry v steps place awake) .answer) r (log-append-fine log count (entry v steps place awake)) (p .0);
+      logRead = λ log count r p. told logReadNumbers (logReadCall log count) r (log-read-fine log count) p;
+      logRuns = λ log count r p. told logReadNumbers (logRunsCall log count) r (log-runs-fine log count) p;
+      logRun = λ log count answer state r log′ p.
+          told logAppendNumbers (logRunCall log count answer state .answer) r (log-run-fine log count answer state) (p .0);
     }
 
 -- ---- a refusal changes nothing
@@ -82,6 +91,11 @@ refusals =
           let t = answers .run dictionary kernel budget registers state r registers′ state′ p in
           let u = run-unchanged dictionary kernel budget registers state (λ e. n (t .number ∙ e)) (λ e. m (t .number ∙ e)) in
           (p .1 ∙ u .sameRegisters, p .2 ∙ u .sameState);
+      logAppend = λ log count v steps place awake r log′.
+          kept logAppendNumbers (logAppendCall log count (entry v steps place awake)) log r log′ (log-append-fine log count (entry v steps place awake))
+          (append-confined log count (entry v steps place awake));
+      logRun = λ log count answer state r log′.
+          kept logAppendNumbers (logRunCall log count answer state) log r log′ (log-run-fine log count answer state) (run-confined log count answer state);
     }
 
 -- ---- the demand

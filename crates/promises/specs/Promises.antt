@@ -1,11 +1,11 @@
 -- The promises of the exported calls, for all that can be lent to them. Read this file first, and after it what it names: the contracts (Contracts and OneOutcome
 -- of the crate `spokeshaver`) and the lists of numbers (Numbers of `answers`). It states them and proves none: `demand-1` of OutcomesHold, `demand-2` of
--- PackingHolds, `demand-3` of RunningHolds, `pairs` of PairsHold, `passed-before` of PassedHolds and `still-answered` of LongerHolds are the theorems. Finishing goes on from here, with when a kernel
+-- PackingHolds, `demand-3` of RunningHolds, `pairs` of PairsHold, `passed-before` of PassedHolds, `still-answered` of LongerHolds and `logs` of LogsHold are the theorems. Finishing goes on from here, with when a kernel
 -- must finish and what a step may change. A hypothesis such as `PackPromise dictionary kernel out r out′` says: spokeshaver_pack, lent
 -- these, answered r and left out′ in its output; that is the contract of the call, proved with its code. `numberIn`, `offsetIn` and `countIn` take an answer
 -- apart as the header's macros do. Demands 2 and 3 ask besides that what is lent is bytes (`areBytes`) and 16-bit numbers, as the types in C say.
 use mathlib.Core.Bool.{Bool, true}
-use mathlib.Core.List.{List, [], _++_, map}
+use mathlib.Core.List.{List, [], _∷_, _++_, map}
 use mathlib.Core.Logic.{_⊎_}
 use mathlib.Core.Path.{_≡_}
 use Prim.Native.Nat.{ℕ, suc, _+_, _*_, _^_, _<_, _≤_}
@@ -18,9 +18,10 @@ use Rattle.paper.specs.Expand.{expand}
 use Rattle.paper.specs.Shorten.{Shortens, Least}
 use Rattle.paper.specs.Kernel.{Instr, Forms, longAndShort, longOnly, good, bad}
 use Rattle.paper.specs.Machine.{Ways, State}
-use Rattle.paper.specs.State.{half, channelsIn, stateLegal}
+use Rattle.paper.specs.State.{half, channelsIn, allThree, stateLegal}
 use Rattle.paper.specs.Packing.{index}
 use Rattle.paper.specs.Calls.{Answer, verdict, refusal, asNumber, accepted, checkCall, forwardCall, packCall, unpackCall, pairCall, loadPart, shortenCall, expandCall, decodeCall, decodePart, startCall, stepCall, runCall, numberOf, offsetOf, countOf}
+use Rattle.paper.specs.Log.{Entry, entry, entryLegal, recordText, logText, allLegal, Beginning, logSized, logReadCall, logRunsCall, logPart, logAppendCall, logRunCall, awakeAmong, awakeCount, entryOf}
 use Rattle.paper.specs.Program.{program}
 use Rattle.laws.specs.Names.{renameC}
 use Rattle.laws.specs.Items.{Item, allBytes, instrsFrom}
@@ -32,8 +33,9 @@ use Rattle.laws.specs.Leaving.{Leaves, wordAt}
 use Rattle.laws.specs.Longer.{bytesBefore, instructionsBefore, Settled, sizedWithin, acceptedWithin, checkWithin, packWithin, unpackWithin, decodeWithin, stepWithin, runWithin}
 use Rattle.contracts.specs.Contracts.{numberIn, offsetIn, countIn, Wrote, Left, CheckPromise, ForwardPromise, PackPromise, UnpackPromise, PairPromise, ShortenPromise, ExpandPromise, DecodePromise, StartPromise, StepPromise, RunPromise}
 use Rattle.contracts.specs.Contracts.{DecodePromise, StartPromise, StepPromise, RunPromise}
+use Rattle.contracts.specs.Contracts.{LogAppendPromise, LogReadPromise, LogRunsPromise, LogRunPromise}
 use Rattle.contracts.specs.OneOutcome.{OneOutcome}
-use Rattle.answers.specs.Numbers.{checkNumbers, forwardNumbers, packNumbers, unpackNumbers, pairNumbers, shortenNumbers, expandNumbers, decodeNumbers, startNumbers, stepNumbers, runNumbers}
+use Rattle.answers.specs.Numbers.{checkNumbers, forwardNumbers, packNumbers, unpackNumbers, pairNumbers, shortenNumbers, expandNumbers, decodeNumbers, startNumbers, stepNumbers, runNumbers, logReadNumbers, logAppendNumbers}
 
 -- ==== demand 1: one outcome, from the paper's list, and a refusal changes nothing
 
@@ -65,6 +67,12 @@ pub record Answers : Type 0 where
       → StepPromise dictionary kernel registers state r registers′ state′ → Told stepNumbers (stepCall dictionary kernel registers state .answer) r
   pub run : (dictionary kernel : List ℕ) (budget : ℕ) (registers state : List ℕ) (r : ℕ) (registers′ state′ : List ℕ)
       → RunPromise dictionary kernel budget registers state r registers′ state′ → Told runNumbers (runCall dictionary kernel budget registers state .answer) r
+  pub logAppend : (log : List ℕ) (count v steps place awake r : ℕ) (log′ : List ℕ) → LogAppendPromise log count v steps place awake r log′
+      → Told logAppendNumbers (logAppendCall log count (entry v steps place awake) .answer) r
+  pub logRead : (log : List ℕ) (count r : ℕ) → LogReadPromise log count r → Told logReadNumbers (logReadCall log count) r
+  pub logRuns : (log : List ℕ) (count r : ℕ) → LogRunsPromise log count r → Told logReadNumbers (logRunsCall log count) r
+  pub logRun : (log : List ℕ) (count answer : ℕ) (state : List ℕ) (r : ℕ) (log′ : List ℕ) → LogRunPromise log count answer state r log′
+      → Told logAppendNumbers (logRunCall log count answer state .answer) r
 
 -- What a call leaves of the output that it was lent: all of it unless the answer's number is 0; what lies past the count's bytes, and the length, always.
 pub record Kept (out : List ℕ) (r : ℕ) (out′ : List ℕ) : Type 0 where
@@ -86,6 +94,8 @@ pub record Refusals : Type 0 where
   pub run : (dictionary kernel : List ℕ) (budget : ℕ) (registers state : List ℕ) (r : ℕ) (registers′ state′ : List ℕ)
       → RunPromise dictionary kernel budget registers state r registers′ state′ → (numberIn r ≡ 20 → ⊥) → (numberIn r ≡ 21 → ⊥)
       → (registers′ ≡ registers) × (state′ ≡ state)
+  pub logAppend : (log : List ℕ) (count v steps place awake r : ℕ) (log′ : List ℕ) → LogAppendPromise log count v steps place awake r log′ → Kept log r log′
+  pub logRun : (log : List ℕ) (count answer : ℕ) (state : List ℕ) (r : ℕ) (log′ : List ℕ) → LogRunPromise log count answer state r log′ → Kept log r log′
 
 -- A part of the kernel beside an answer of decode: the bytes from the place on, as many as the answer counts; empty exactly where the answer refuses.
 pub record Part (kernel : List ℕ) (place r : ℕ) (bytes : List ℕ) : Type 0 where
@@ -356,3 +366,36 @@ pub record StillAnswered : Type 0 where
   pub run : (dictionary kernel : List ℕ) (budget : ℕ) (registers state : List ℕ) → SettledBefore longAndShort dictionary kernel
       → (r : ℕ) (registers′ state′ : List ℕ) → RunPromise dictionary kernel budget registers state r registers′ state′
       → Left (runWithin bytesBefore instructionsBefore dictionary kernel budget registers state) r registers′ state′
+
+-- ==== logs (02 §12): power may go after any byte
+
+-- The first bytes of a buffer are the log of some runs, legal entries all, and of one more record its first bytes, which may be none and are not all.
+pub record CutLog (log : List ℕ) (count : ℕ) (entries : List Entry) : Type 0 where
+  pub sized : logSized log count ≡ true
+  pub legal : allLegal entries ≡ true
+  pub next : Entry
+  pub next-legal : entryLegal next ≡ true
+  pub bytes : ℕ
+  pub short : bytes < length (recordText (length entries) next)
+  pub is : take count log ≡ logText 0 entries ++ take bytes (recordText (length entries) next)
+
+pub record Logs : Type 0 where
+  -- What is left after a cut reads as exactly the records that were whole: their bytes, and their number.
+  pub readsBack : (log : List ℕ) (count : ℕ) (entries : List Entry) → CutLog log count entries → (r : ℕ) → LogReadPromise log count r
+      → (numberIn r ≡ 0) × (result r log ≡ logText 0 entries)
+  pub countsBack : (log : List ℕ) (count : ℕ) (entries : List Entry) → CutLog log count entries → (r : ℕ) → LogRunsPromise log count r
+      → (numberIn r ≡ 0) × (countIn r ≡ length entries)
+  -- Every beginning of a log is such a cut, so it is read; and nothing else is.
+  pub reads : (log : List ℕ) (count : ℕ) → logSized log count ≡ true → Beginning (take count log) → (r : ℕ) → LogReadPromise log count r → numberIn r ≡ 0
+  pub readsOnly : (log : List ℕ) (count r : ℕ) → LogReadPromise log count r → numberIn r ≡ 0 → Beginning (take count log)
+  -- Appending goes on as if nothing else had been there: the log is then that of the whole records and the new one.
+  pub goesOn : (log : List ℕ) (count : ℕ) (entries : List Entry) → CutLog log count entries
+      → (v steps place awake : ℕ) → entryLegal (entry v steps place awake) ≡ true → length (logText 0 (entries ++ (entry v steps place awake ∷ []))) ≤ length log
+      → (r : ℕ) (log′ : List ℕ) → LogAppendPromise log count v steps place awake r log′
+      → (numberIn r ≡ 0) × (result r log′ ≡ logText 0 (entries ++ (entry v steps place awake ∷ [])))
+  -- `logPart` is what reading hands back inside Rattle (`whole` of the crate `log`): the buffer's first bytes, as many as log_read counts, so none on refusal.
+  pub part : (log : List ℕ) (count r : ℕ) → LogReadPromise log count r → logPart log count ≡ result r log
+  -- Logging a run is appending its verdict, steps, place and awake mask's ones; of a state whose every channel is one of the three these are the awake channels.
+  pub logsRun : (log : List ℕ) (count answer : ℕ) (state : List ℕ) (r : ℕ) (log′ : List ℕ) → LogRunPromise log count answer state r log′ → length state ≡ stateLength
+      → LogAppendPromise log count (numberIn answer) (countIn answer) (half state 4) (awakeCount state) r log′
+  pub awake : (state : List ℕ) → allThree state 16 ≡ true → awakeCount state ≡ awakeAmong (channelsIn state 0 16)

@@ -5,6 +5,11 @@ use answers::number_of;
 use kernel::check::check;
 use kernel::decode::decode_size;
 use kernel::forward::forward;
+use log::calls::append;
+use log::calls::append_run;
+use log::calls::whole_bytes;
+use log::calls::whole_runs;
+use log::write::Entry;
 use machine::start::start;
 use packer::pack::pack;
 use packer::pack::unpack;
@@ -15,6 +20,7 @@ use short::calls::expand_word;
 use short::calls::shorten_word;
 ghost use Rattle.contracts.specs.Contracts.{CheckPromise, ForwardPromise, PackPromise, UnpackPromise, PairPromise, ShortenPromise, ExpandPromise};
 ghost use Rattle.contracts.specs.Contracts.{DecodePromise, StartPromise, StepPromise, RunPromise};
+ghost use Rattle.contracts.specs.Contracts.{LogAppendPromise, LogReadPromise, LogRunsPromise, LogRunPromise};
 
 // Is the kernel accepted; the count is its instructions.
 #[no_mangle]
@@ -113,4 +119,49 @@ pub extern "C" fn spokeshaver_run(
     ensures { λ r. ⌜ RunPromise (now (dictionary .entry)) (now (kernel .entry)) budget (now (registers .entry)) (now (state .entry)) r (now (registers .exit)) (now (state .exit)) ⌝ }
 {
     number_of(run(dictionary, kernel, budget, registers, state))
+}
+
+// Appends a record to a log, where its whole records stop; the count is the log's bytes.
+#[no_mangle]
+pub extern "C" fn spokeshaver_log_append(
+    log: &mut [u8],
+    count: u64,
+    verdict: u64,
+    steps: u64,
+    place: u64,
+    awake: u64,
+) -> u64
+    ensures { λ r. ⌜ LogAppendPromise (now (log .entry)) count verdict steps place awake r (now (log .exit)) ⌝ }
+{
+    let entry = Entry {
+        verdict: verdict,
+        steps: steps,
+        place: place,
+        awake: awake,
+    };
+    number_of(append(log, count, entry))
+}
+
+// Reads a log; the count is the bytes of its whole records.
+#[no_mangle]
+pub extern "C" fn spokeshaver_log_read(log: &[u8], count: u64) -> u64
+    ensures { λ r. ⌜ LogReadPromise (now (log .entry)) count r ⌝ }
+{
+    number_of(whole_bytes(log, count))
+}
+
+// Reads a log; the count is the number of its whole records.
+#[no_mangle]
+pub extern "C" fn spokeshaver_log_runs(log: &[u8], count: u64) -> u64
+    ensures { λ r. ⌜ LogRunsPromise (now (log .entry)) count r ⌝ }
+{
+    number_of(whole_runs(log, count))
+}
+
+// Appends what a run answered and the state that it left; the count is the log's bytes.
+#[no_mangle]
+pub extern "C" fn spokeshaver_log_run(log: &mut [u8], count: u64, answer: u64, state: &[u8]) -> u64
+    ensures { λ r. ⌜ LogRunPromise (now (log .entry)) count answer (now (state .entry)) r (now (log .exit)) ⌝ }
+{
+    number_of(append_run(log, count, answer, state))
 }

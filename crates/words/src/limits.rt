@@ -15,6 +15,9 @@ pub const KERNEL_BYTES: usize = 65536;
 // A kernel's instructions, at the most.
 pub const INSTRUCTION_LIMIT: u64 = 4096;
 
+// The largest place: the end of the longest kernel, eight bytes a place.
+pub const LAST_PLACE: u64 = KERNEL_BYTES as u64 / 8;
+
 // A run's budget, at the most.
 pub const BUDGET_LIMIT: u64 = 1000000;
 

@@ -6,6 +6,7 @@ use super::instructions::legal_word;
 use super::kernels::{
     any_pair, branch_word, forward_pair, legal_pair, with_other_indices, Laying, Pair,
 };
+use super::logs::{log_append_case, log_read_case, log_run_case, log_runs_case};
 use super::pairs::pair_case;
 use super::states::{mask, registers, state_for};
 use super::{Call, Case, CALLS};
@@ -40,8 +41,12 @@ pub fn case(seed: u64) -> Case {
         6 => start_case(random),
         7 => step_case(random),
         8 => run_case(random),
-        9 => forward_case(random),
-        _ => pair_case(random),
+        9 => pair_case(random),
+        10 => log_append_case(random),
+        11 => log_read_case(random),
+        12 => log_runs_case(random),
+        13 => log_run_case(random),
+        _ => forward_case(random),
     };
     Case { seed, dictionary, call }
 }

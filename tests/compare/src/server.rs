@@ -14,24 +14,31 @@ pub struct Server {
 }
 
 /// Which call, its plain arguments, and the kernel or word that it is lent.
-struct Request<'a>(u64, [u64; 3], &'a [u8]);
+struct Request<'a>(u64, [u64; 5], &'a [u8]);
 
 fn request(call: &Call) -> Request<'_> {
     match call {
-        Call::Check { kernel } => Request(0, [0; 3], kernel),
-        Call::Pack { kernel, .. } => Request(1, [0; 3], kernel),
-        Call::Unpack { kernel, .. } => Request(2, [0; 3], kernel),
-        Call::Shorten { word, .. } => Request(3, [0; 3], word),
-        Call::Expand { word, .. } => Request(4, [0; 3], word),
-        Call::Decode { kernel, place } => Request(5, [*place, 0, 0], kernel),
+        Call::Check { kernel } => Request(0, [0; 5], kernel),
+        Call::Pack { kernel, .. } => Request(1, [0; 5], kernel),
+        Call::Unpack { kernel, .. } => Request(2, [0; 5], kernel),
+        Call::Shorten { word, .. } => Request(3, [0; 5], word),
+        Call::Expand { word, .. } => Request(4, [0; 5], word),
+        Call::Decode { kernel, place } => Request(5, [*place, 0, 0, 0, 0], kernel),
         Call::Start { mask, flag0, flag1, .. } => {
-            Request(6, [*mask, *flag0, *flag1].map(u64::from), &[])
+            Request(6, [*mask, *flag0, *flag1, 0, 0].map(u64::from), &[])
         }
-        Call::Step { kernel, .. } => Request(7, [0; 3], kernel),
-        Call::Run { kernel, budget, .. } => Request(8, [*budget, 0, 0], kernel),
-        Call::Forward { kernel } => Request(9, [0; 3], kernel),
+        Call::Step { kernel, .. } => Request(7, [0; 5], kernel),
+        Call::Run { kernel, budget, .. } => Request(8, [*budget, 0, 0, 0, 0], kernel),
         // The sent kernel goes where outputs go, so that it is seen to stay as it is.
-        Call::Pair { long, .. } => Request(10, [0; 3], long),
+        Call::Pair { long, .. } => Request(9, [0; 5], long),
+        // So does a log.
+        Call::LogAppend { count, values: [verdict, steps, place, awake], .. } => {
+            Request(10, [*count, *verdict, *steps, *place, *awake], &[])
+        }
+        Call::LogRead { count, .. } => Request(11, [*count, 0, 0, 0, 0], &[]),
+        Call::LogRuns { count, .. } => Request(12, [*count, 0, 0, 0, 0], &[]),
+        Call::LogRun { count, answer, .. } => Request(13, [*count, *answer, 0, 0, 0], &[]),
+        Call::Forward { kernel } => Request(14, [0; 5], kernel),
     }
 }
 
