@@ -16,7 +16,7 @@ use spokeshaver_reference::words::LongWord;
 use std::collections::BTreeSet;
 
 const EMPTY: [u8; 512] = [0; 512];
-const SEEDS: u64 = 3_000 * CALLS;
+const SEEDS: u64 = 6_000 * CALLS;
 
 /// The cases of forward, each with its kernel.
 fn forward_cases() -> impl Iterator<Item = (Case, Vec<u8>)> {
