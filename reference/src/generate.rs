@@ -17,6 +17,7 @@ use crate::log;
 use std::collections::BTreeSet;
 
 pub use cases::case;
+pub use logs::every_log_case;
 
 /// How many calls there are. So many seeds in a row give each of them once.
 pub const CALLS: u64 = 15;

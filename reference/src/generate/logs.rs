@@ -1,12 +1,12 @@
 //! Logs to lend: whole, cut off at any byte, changed in a byte, with old bytes behind them; and
 //! values at and past their limits.
 
-use super::Call;
+use super::{Call, Case};
 use crate::log::{record, Values};
 use crate::random::Random;
 use crate::state::STATE_BYTES;
 
-/// A buffer, how many of its first bytes are the log, and how many of these are whole records.
+/// A buffer, and how many of its first bytes are the log.
 struct Lent {
     log: Vec<u8>,
     count: u64,
@@ -143,4 +143,36 @@ fn counted(random: &mut Random, count: u64, length: usize) -> u64 {
         2 => length as u64,
         _ => count,
     }
+}
+
+/// Every cut of a log of a dozen records, read and appended to with old bytes behind the cut; and
+/// every change of a byte of a log of three.
+pub fn every_log_case() -> Vec<Case> {
+    let mut random = Random::new(12);
+    let entries: Vec<Values> = (0..12).map(|_| values(&mut random)).collect();
+    let text = |runs: usize| -> Vec<u8> {
+        entries[..runs]
+            .iter()
+            .zip(0..)
+            .map(|(one, run)| record(run, one))
+            .collect::<String>()
+            .into()
+    };
+    let mut calls = Vec::new();
+    let (whole, short) = (text(12), text(3));
+    for end in 0..=whole.len() {
+        let (log, count) = (whole.clone(), end as u64);
+        calls.push(Call::LogRead { log: log.clone(), count });
+        calls.push(Call::LogRuns { log: log.clone(), count });
+        calls.push(Call::LogAppend { log, count, values: entries[0] });
+    }
+    for at in 0..short.len() {
+        for byte in 0..=255 {
+            let mut log = short.clone();
+            log[at] = byte;
+            let count = log.len() as u64;
+            calls.push(Call::LogRuns { log, count });
+        }
+    }
+    calls.into_iter().map(|call| Case { seed: 0, dictionary: Vec::new(), call }).collect()
 }

@@ -4,13 +4,14 @@
 //! command that starts tests/serve.c. After every call the answer and every byte of every
 //! buffer that was lent must be the same on both sides. `CALLS` seeds in a row give every
 //! call. The table at the end says how often each call gave each answer, forward's count of 1
-//! under the name `ahead`; an answer that can come up and never did is a failure too.
+//! under the name `ahead`; an answer that can come up and never did is a failure too. Before
+//! that every cut of a log, and every change of a byte of one, is compared.
 #![forbid(unsafe_code)]
 
 use spokeshaver_compare::server::Server;
 use spokeshaver_reference::answers::Answer;
 use spokeshaver_reference::generate::{
-    case, counted_as, perform, possible, Case, Outcome, Reference, CALLS, NAMES,
+    case, counted_as, every_log_case, perform, possible, Case, Outcome, Reference, CALLS, NAMES,
 };
 use std::collections::BTreeMap;
 use std::process::exit;
@@ -29,6 +30,7 @@ fn main() {
         eprintln!("usage: compare FIRST COUNT COMMAND..");
         exit(2)
     };
+    compare_logs(command);
     println!("seeds {first} to {}", first + count - 1);
     let tables: Vec<Table> = thread::scope(|scope| {
         let lane = |lane| scope.spawn(move || compare(first, count, lane, command));
@@ -38,11 +40,31 @@ fn main() {
     report(&joined(tables));
 }
 
+/// Every cut and every change of a byte.
+fn compare_logs(command: &[String]) {
+    let mut server = started(command);
+    let cases = every_log_case();
+    for case in &cases {
+        let expected = perform(case, &mut Reference);
+        let given = perform(case, &mut server);
+        if let Some(difference) = difference(&expected, &given, server.touched) {
+            fail(&format!("{:?}: {difference}", case.call));
+        }
+    }
+    match server.finish() {
+        Ok(true) => println!("compare: {} logs, cut or changed", cases.len()),
+        _ => fail("the server ended badly"),
+    }
+}
+
+fn started(command: &[String]) -> Server {
+    Server::start(command).unwrap_or_else(|error| fail(&format!("{command:?}: {error}")))
+}
+
 /// One lane's share of the seeds.
 fn compare(first: u64, count: u64, lane: u64, command: &[String]) -> Table {
     let mut table = Table::new();
-    let mut server =
-        Server::start(command).unwrap_or_else(|error| fail(&format!("{command:?}: {error}")));
+    let mut server = started(command);
     for seed in (first..first + count).filter(|seed| seed / CALLS % LANES == lane) {
         let case = case(seed);
         let expected = perform(&case, &mut Reference);
