@@ -69,6 +69,12 @@ pub const PART: u64 = 0x70617274_3;
 
 pub const LOADS: u64 = 0x6C6F616473_2;
 
+pub const LOGREAD: u64 = 0x6C6F6772656164_1;
+
+pub const LOGRUNS: u64 = 0x6C6F6772756E73_1;
+
+pub const LOGRUN: u64 = 0x6C6F6772756E_1;
+
 // The line's command, known or not. A comment has the key 0, as an empty line has.
 pub fn row_of(line: &[u8]) -> Row {
     if byte_at(line, 0) == b'#' {

@@ -11,6 +11,9 @@ use rows::row::DECODE;
 use rows::row::EXPAND;
 use rows::row::FORWARD;
 use rows::row::LOADS;
+use rows::row::LOGREAD;
+use rows::row::LOGRUN;
+use rows::row::LOGRUNS;
 use rows::row::PACK;
 use rows::row::PAIR;
 use rows::row::PART;
@@ -28,6 +31,9 @@ use spokeshaver::spokeshaver_check;
 use spokeshaver::spokeshaver_decode;
 use spokeshaver::spokeshaver_expand;
 use spokeshaver::spokeshaver_forward;
+use spokeshaver::spokeshaver_log_read;
+use spokeshaver::spokeshaver_log_run;
+use spokeshaver::spokeshaver_log_runs;
 use spokeshaver::spokeshaver_pack;
 use spokeshaver::spokeshaver_pair;
 use spokeshaver::spokeshaver_run;
@@ -107,6 +113,37 @@ fn moved(
         return Answered::With(spokeshaver_run(dictionary, kernel, row.a, registers, state));
     }
     Answered::No
+}
+
+// `logread COUNT`, `logruns COUNT`, of the log in the output; `logrun COUNT` appends to it what the last call answered, and the state.
+fn logged(row: Row, answer: u64, log: &mut [u8], state: &[u8]) -> Answered {
+    if row.key == LOGREAD {
+        return Answered::With(spokeshaver_log_read(log, row.a));
+    }
+    if row.key == LOGRUNS {
+        return Answered::With(spokeshaver_log_runs(log, row.a));
+    }
+    if row.key == LOGRUN {
+        return Answered::With(spokeshaver_log_run(log, row.a, answer, state));
+    }
+    Answered::No
+}
+
+// A call on a log, if the row makes one.
+pub(crate) fn logged_by(row: Row, desk: Desk, board: &mut [u8], state: &[u8]) -> Desk
+    requires { ⌜ (length (now board) ≡ boardBytes) × (length (now state) ≡ stateBytes) ⌝ }
+{
+    let room = OUTPUT + least(desk.room, LONGEST);
+    let places = least(desk.state, STATE);
+    noted(
+        desk,
+        logged(
+            row,
+            desk.answer,
+            &mut board[OUTPUT..room],
+            &state[0..places],
+        ),
+    )
 }
 
 // A call on the kernel's bytes, if the row makes one.

@@ -1,6 +1,7 @@
 // A file's lines one after the other.
 use crate::call::asked_of;
 use crate::call::handed_back;
+use crate::call::logged_by;
 use crate::call::moved_by;
 use libc::STDOUT_FILENO;
 use rows::desk::Desk;
@@ -92,7 +93,8 @@ fn obeyed(
     let d = laid(row, desk, table, board, state);
     let e = asked_of(row, d, table, board);
     let f = moved_by(row, e, table, board, state);
-    judged(file, row, f, seen(row, f, table, board, state))
+    let g = logged_by(row, f, board, state);
+    judged(file, row, g, seen(row, g, table, board, state))
 }
 
 // Obeys a text's lines.
