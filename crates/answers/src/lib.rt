@@ -22,7 +22,7 @@ fn refused(number: u8, offset: u64) -> u64
     number as u64 + 256 * offset
 }
 
-// The same with a count.
+// A refusal's number, its offset or what the call says in its place, and a count.
 fn refused_with(number: u8, offset: u64, count: u64) -> u64
     requires { ⌜ (offset < 2 ^ 24) × (count < 2 ^ 32) ⌝ }
     ensures { λ r. ⌜ r ≡ asNumber (refusalWith number offset count) ⌝ }

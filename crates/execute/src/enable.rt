@@ -26,7 +26,7 @@ pub fn voted(w: Word, flags: Flags) -> u64
     predicate_mask(chosen(w, flags), pred_ctrl(w), pred_inv(w))
 }
 
-// The same, told at once where there is no predicate. It asks for the mask itself: with two callers `predicate_mask`, which is large, stays a function of its own,
+// The channels whose predicate holds, told at once where there is no predicate. It asks for the mask itself: with two callers `predicate_mask`, which is large, stays a function of its own,
 // and what is handed to it are numbers.
 pub fn predicate_of(w: Word, flags: Flags) -> u64
     ensures { λ r. ⌜ r ≡ predicateOf (toWord w) (storeOf [] flags) ⌝ }

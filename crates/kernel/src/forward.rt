@@ -62,7 +62,7 @@ fn leads_forward(w: Word, here: u64, size: u64) -> bool
     }
 }
 
-// So does each distance of every instruction.
+// Every distance of every instruction leads to a place after the instruction itself.
 fn all_forward(dictionary: &[u8], kernel: &[u8]) -> bool
     requires { ⌜ (length (now dictionary) ≡ dictionaryBytes) × (length (now kernel) ≤ kernelBytes) × Standing (dictionaryOf (now dictionary)) (now kernel) ⌝ }
     ensures { λ r. ⌜ Tells (dictionaryOf (now (dictionary .entry))) (now (kernel .entry)) r ⌝ }

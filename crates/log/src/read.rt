@@ -63,7 +63,7 @@ fn then_exactly(r: Reach, s: &[u8], name: &[u8], v: u64) -> Reach
     }
 }
 
-// The same, of a number up to a limit.
+// What has been reached, and one line more, of a number up to a limit.
 fn then_at_most(r: Reach, s: &[u8], name: &[u8], limit: u64) -> Reach
     requires { ⌜ length (now name) ≤ 11 ⌝ }
     ensures { λ q. ⌜ reachIs q ≡ further (now (s .entry)) (atMost (now (name .entry)) limit) (reachIs r) ⌝ }
