@@ -66,7 +66,7 @@ extern "C" {
 #define SPOKESHAVER_SPENT 21   /* run: the budget is spent short of the end */
 
 /* Refusals. Where more than one would do, the first of this list is given: 3 to 11 and 17 instruction by instruction, 12 after all have passed. */
-#define SPOKESHAVER_WRONG_SIZE 1        /* registers, state or dictionary of another size, a kernel over 65,536 bytes, a word not of 16 (shorten) or 8 (expand) */
+#define SPOKESHAVER_WRONG_SIZE 1        /* registers, state or dictionary of another size, a kernel over 65,536 bytes, a word not of 16 (shorten) or 8 (expand), a count over the log's buffer, a buffer over 4,294,967,295 bytes */
 #define SPOKESHAVER_BUDGET_OVER 16      /* a budget over 1,000,000 */
 #define SPOKESHAVER_WIDE_DICTIONARY 2   /* a dictionary number is wider than its table */
 #define SPOKESHAVER_TOO_MANY 17         /* this would be the 4,097th instruction */
