@@ -18,7 +18,7 @@ use Rattle.paper.specs.Enable.{channelOf}
 use Rattle.paper.specs.Effect.{operand, channelStores}
 use Rattle.laws.specs.Regions.{LegalPlain}
 use Rattle.words.specs.Operations.{plainIs}
-use Rattle.words.specs.Traits.{readsTwo, one-source}
+use Rattle.laws.specs.Sources.{readsTwo, one-source}
 use Rattle.words.specs.declared.operation.Plain.{Plain}
 use Rattle.element.specs.Biased.{ex, Near, near-mono}
 use Rattle.element.specs.Base.{ex-mod}

@@ -12,7 +12,7 @@ use Rattle.paper.specs.Operation.{Plain, traits}
 use Rattle.paper.specs.Legal.{controlServed, dstServed, srcServed, plainServed, shapeRefused, srcShapeBroken, shapeBroken}
 use Rattle.laws.specs.Bits.{bits-inner}
 use Rattle.laws.specs.Truth.{both-true}
-use Rattle.words.specs.Traits.{readsTwo}
+use Rattle.laws.specs.Sources.{readsTwo}
 use Rattle.table.specs.Entries.{entry-bit}
 use Rattle.judge.specs.Sources.{anySource}
 use Rattle.judge.specs.Rules.{plain-served, operandTest, shape-rule, lookRefuses}

@@ -12,7 +12,7 @@ use Rattle.paper.specs.Legal.{unequalHalves, badModifier, ownRuleBroken, operan
 use Rattle.paper.specs.Legal.{someOperand, srcShapeBroken, shapeBroken, unaligned, alignmentBroken, tooFar, regionTooFar, lastChannel, reachBroken}
 use Rattle.paper.specs.Legal.{reservedSet, branchServed, later, refusalOf}
 use Rattle.laws.specs.Regions.{dstRegion, destination-element}
-use Rattle.words.specs.Traits.{readsTwo, two-counted}
+use Rattle.laws.specs.Sources.{readsTwo, two-counted}
 use Rattle.table.specs.Entries.{entryOf}
 use Rattle.judge.specs.Sources.{anySource, any-source}
 

@@ -29,7 +29,10 @@ pub mod Packing
 pub mod Differences
 pub mod Values
 pub mod Masks
+pub mod Sources
 pub mod Regions
+pub mod Settled
+pub mod SettledLegal
 pub mod Stricter
 pub mod Scatter
 pub mod Halfwords

@@ -4,7 +4,7 @@ use mathlib.Core.List.{List, [], _∷_}
 use Prim.Native.Nat.{ℕ, _+_, _*_}
 use lib.Dec.{ltb}
 use lib.IntN.{ℤ, pos, negsuc, _+ℤ_}
-use Rattle.paper.specs.Bits.{numberAt, put}
+use Rattle.paper.specs.Bits.{bits, numberAt, put}
 use Rattle.paper.specs.Limits.{registerBytes}
 use Rattle.paper.specs.Word.{Source, shiftOf, dstIndirect, srcIndirect, addrImm, addrElement, dstByAddress, srcByAddress}
 use Rattle.paper.specs.Operation.{Plain, Operation, plain, nop, branch, unlisted, operation, sources}
@@ -30,19 +30,19 @@ srcAddress addresses x w = addressOf addresses (srcIndirect x w)
 
 -- ---- the word with its operands named directly
 
--- The word whose operand with its thirteen bits from `lo` on, and its AddrMode at bit `mode`, is named directly, by the register and the subregister of
--- byte a: register×32 + subregister is a, and AddrMode is 0.
-abbrev pub namedDirectly : ℕ → ℕ → ℕ → ℕ → ℕ
-namedDirectly lo mode a w = put (put w lo 13 a) mode 1 0
+-- The word whose operand, with its register and subregister bits from bit k on and its AddrMode fifteen bits above k, is named directly by byte a: a's thirteen
+-- bits are register and subregister, so that register×32 + subregister is a, and AddrMode is 0.
+abbrev pub namedDirectly : ℕ → ℕ → ℕ → ℕ
+namedDirectly k a w = put (put w k 13 (bits a 0 13)) (k + 15) 1 0
 
--- The destination named directly, if it is by address. An address below 0, which is 22, is written 0.
+-- The destination named directly, if it is by address. One outside of the register file is 22, and nobody acts by it.
 unfoldable pub dstDirect : List ℕ → ℕ → ℕ
-dstDirect addresses w = cond (dstByAddress w) (namedDirectly 48 63 (placeOf (dstAddress addresses w)) w) w
+dstDirect addresses w = cond (dstByAddress w) (namedDirectly 48 (placeOf (dstAddress addresses w)) w) w
 
 -- So source x.
 unfoldable pub srcDirect : List ℕ → Source → ℕ → ℕ
 srcDirect addresses x w =
-    cond (srcByAddress x w) (namedDirectly (64 + shiftOf x) (79 + shiftOf x) (placeOf (srcAddress addresses x w)) w) w
+    cond (srcByAddress x w) (namedDirectly (64 + shiftOf x) (placeOf (srcAddress addresses x w)) w) w
 
 -- So each source of a list.
 abbrev pub allDirect : List ℕ → List Source → ℕ → ℕ
@@ -62,7 +62,7 @@ someOutside p addresses w =
     || anyOf (λ x. srcByAddress x w && outside (srcAddress addresses x w)) (sources p)
 
 -- An address is judged in place of 10 and 11, over all elements, enabled or not: it begins outside of the register file, or it breaks 10 or 11 where its register
--- is named directly.
+-- is named directly. (What was named directly before has passed both.)
 unfoldable pub addressBroken : Plain → List ℕ → ℕ → Bool
 addressBroken p addresses w =
     let v = settled p addresses w in

@@ -165,7 +165,7 @@ isImmediate x w = eqb (srcFile x w) imm
 unfoldable pub immediateForm : ℕ → Bool
 immediateForm w = isImmediate src0 w || isImmediate src1 w
 
--- The destination is by address.
+-- The destination is by address. (Where 7 has passed, its file is 01 then; so it is of a source.)
 abbrev pub dstByAddress : ℕ → Bool
 dstByAddress w = eqb (dstAddrMode w) 1
 
