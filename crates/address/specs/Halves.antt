@@ -1,13 +1,14 @@
 -- A field of a word, written in the half that holds it, and by shifts. Assumes nothing.
 use mathlib.Core.Path.{_≡_, sym, ap, _∙_}
 use Prim.Native.Nat.{ℕ, _+_, _*_, _-_, _/_, _%_, _^_, _<_, _≤_}
-use native.Mathlib.Nat.{add-assoc, add-mul, mul-assoc, mul-comm, add-mul-div-right, add-mul-mod-self-right}
+use native.Mathlib.Nat.{add-assoc, add-mul, mul-assoc, mul-comm, mul-le-mul-right, mod-eq-of-lt, add-mul-div-right, add-mul-mod-self-right}
 use native.Mathlib.Omega.{arith}
-use lib.Pow.{pow-pos, pow-add, shr-shr}
+use lib.Pow.{pow-pos, pow-add, shr-le, shr-shr}
 use Rattle.paper.specs.Bits.{bits, put}
 use Rattle.paper.specs.Address.{namedDirectly}
-use Rattle.laws.specs.Bits.{top-of}
+use Rattle.laws.specs.Bits.{bits-mod, top-of}
 use Rattle.laws.specs.Put.{put-fits}
+use Rattle.words.specs.Regions.{floor-shl}
 use Rattle.distances.specs.Halves.{below}
 
 -- A number shifted up by k + n bits is shifted up by n, and then by k.
@@ -26,9 +27,31 @@ put-shifted x k n v =
     let e = up h k n in
     rw (shr-shr x k n) (omega (arith, e, add-mul v (h * 2 ^ n) (2 ^ k)))
 
--- It fits a half of a word.
-pub put-room : (x k n v : ℕ) → x < 2 ^ 64 → v < 2 ^ n → k + n ≤ 64 → x % 2 ^ k + (v + aboveField x k n) * 2 ^ k < 2 ^ 64
-put-room x k n v h g l = rw (put-shifted x k n v) (put-fits x k n v 64 h g l)
+-- So the code reckons it, in a half of a word: every shift up is modulo 2^64, and nothing is lost.
+module _ (x k n v : ℕ) (h : x < 2 ^ 64) (g : v < 2 ^ n) (l : k + n ≤ 64) where
+  abbrev field : ℕ
+  field = v + aboveField x k n % 2 ^ 64
+
+  above-whole : aboveField x k n % 2 ^ 64 ≡ aboveField x k n
+  above-whole = floor-shl (x / 2 ^ k) n (omega (arith, shr-le x k))
+
+  room : x % 2 ^ k + (v + aboveField x k n) * 2 ^ k < 2 ^ 64
+  room = rw (put-shifted x k n v) (put-fits x k n v 64 h g l)
+
+  field-whole : field * 2 ^ k % 2 ^ 64 ≡ (v + aboveField x k n) * 2 ^ k
+  field-whole = ap (λ (a : ℕ). (v + a) * 2 ^ k % 2 ^ 64) above-whole ∙ mod-eq-of-lt (omega (arith, room))
+
+  pub field-fits : field < 2 ^ 64
+  field-fits =
+      let t : ℕ = v + aboveField x k n in
+      let e : t ≤ t * 2 ^ k = omega (arith, mul-le-mul-right {m = 1} {n = 2 ^ k} t (pow-pos k), mul-comm (2 ^ k) t) in
+      rw above-whole (omega (arith, room, e))
+
+  pub shifts-put : (low : ℕ) → low ≡ bits x 0 k → low + field * 2 ^ k % 2 ^ 64 ≡ put x k n v
+  shifts-put low e = (λ i. (e ∙ bits-mod x k) i + field-whole i) ∙ put-shifted x k n v
+
+  pub shifts-fit : (low : ℕ) → low ≡ bits x 0 k → low + field * 2 ^ k % 2 ^ 64 < 2 ^ 64
+  shifts-fit low e = rw (shifts-put low e) (put-fits x k n v 64 h g l)
 
 -- ---- in a half
 

@@ -2,17 +2,21 @@
 use mathlib.Core.Bool.{Bool, true, false, not, cond, _&&_, _||_}
 use mathlib.Core.List.{List, [], _∷_, List·Memᴰ, List·Memᴰ·head, List·Memᴰ·tail}
 use mathlib.Core.Path.{_≡_, refl, sym, ap, ap₂, _∙_, subst}
-use Prim.Native.Nat.{ℕ, _+_}
+use Prim.Native.Nat.{ℕ, _+_, _*_, _/_, _%_, _^_, _<_}
+use native.Mathlib.Omega.{arith}
 use lib.Dec.{eqb}
+use borrow.Author.Tests.{eqb-true, not-false}
 use Rattle.paper.specs.Bits.{bits}
-use Rattle.paper.specs.Word.{Source, src0, src1, shiftOf, srcFile, srcAddrMode, srcIndirect, dstByAddress, srcByAddress}
+use Rattle.paper.specs.Word.{Source, src0, src1, shiftOf, srcFile, srcAddrMode, srcIndirect, isImmediate, dstByAddress, srcByAddress}
 use Rattle.paper.specs.Operation.{Plain, sources}
 use Rattle.paper.specs.Jump.{placeOf}
 use Rattle.paper.specs.Legal.{anyOf, alignmentBroken, reachBroken}
 use Rattle.paper.specs.Address.{addressOf, outside, dstAddress, srcAddress, namedDirectly, dstDirect, srcDirect, allDirect, settled, someOutside, addressBroken}
+use Rattle.laws.specs.Bits.{bits-high}
 use Rattle.laws.specs.Regions.{LegalPlain, Named, or-false, none-of}
 use Rattle.laws.specs.Settled.{spares, named-field, settled-none}
 use Rattle.laws.specs.Sources.{readsTwo, oneOrTwo, sources-told}
+use Rattle.words.specs.Fields.{bits-within}
 use Rattle.words.specs.Words.{toWord}
 use Rattle.words.specs.declared.bytes.Word.{Word}
 use Rattle.judge.specs.Sources.{anySource, any-source}
@@ -172,8 +176,8 @@ says-on one v first word e s r test next t =
     rw (a .0, sym (a .1)) t
 
 -- and where it is, so are both.
-pub says-broken : (one : Settled) (first : Bool) (word : ℕ) → one ≡ Broken → Says one first word → (more : Bool) (next : ℕ) → Says Broken (first || more) next
-says-broken one first word e s more next = rw (said-broken one first word e s)
+pub says-broken : (one : Settled) (first : Bool) (word : ℕ) → one ≡ Broken → Says one first word → (more : Bool) → (first || more) ≡ true
+says-broken one first word e s more = rw (said-broken one first word e s)
 
 module _ (p : Plain) (addresses : List ℕ) (w : ℕ) where
   -- The sources: the first, and the second where it is read.
@@ -223,3 +227,22 @@ module _ (p : Plain) (addresses : List ℕ) (w : ℕ) where
       → Says r (addressBroken p addresses w) (settled p addresses w)
   unfolding addressBroken
   says-settled r s = s
+
+-- ---- the bits
+
+-- Where the three bits in which an AddrMode may stand are 0, no operand is by address.
+pub bits-direct : (lo hi : ℕ) → lo < 2 ^ 64 → not (eqb (lo / 2 ^ 63 + hi / 2 ^ 15 % 2 + hi / 2 ^ 47 % 2) 0) ≡ false → Direct (lo + hi * 2 ^ 64)
+bits-direct lo hi h e =
+    let n : lo / 2 ^ 63 + hi / 2 ^ 15 % 2 + hi / 2 ^ 47 % 2 ≡ 0 = eqb-true _ 0 (not-false _ e) in
+    let d : bits (lo + hi * 2 ^ 64) 63 1 ≡ 0 = bits-within 64 63 1 lo hi (omega arith) ∙ omega (arith, n) in
+    let f : bits (lo + hi * 2 ^ 64) 79 1 ≡ 0 = bits-high 64 15 1 hi h ∙ omega (arith, n) in
+    let s : bits (lo + hi * 2 ^ 64) 111 1 ≡ 0 = bits-high 64 47 1 hi h ∙ omega (arith, n) in
+    record {
+      destination = rw d;
+      first = rw f (neither (isImmediate src0 (lo + hi * 2 ^ 64)));
+      second = rw s (neither (isImmediate src1 (lo + hi * 2 ^ 64)));
+    }
+  where
+    neither : (b : Bool) → (not b && false) ≡ false
+    neither true = refl
+    neither false = refl

@@ -1,41 +1,41 @@
+-- The field is written by shifts. Assumes nothing.
+use Rattle.address.specs.Halves.{field-fits, shifts-fit, shifts-put}
 use borrow.Author.Needs.{needs}
 use Rattle.address.proofs.direct.with_part.Statement.{statement}
 use Rattle.address.proofs.direct.with_part.Tie as tie
-use Rattle.address.proofs.direct.with_part.Reads as reads
-use Rattle.address.proofs.direct.with_part.Lts as lts
-use Rattle.words.proofs.fields.part.Reads as part-reads
 
--- src/direct.rt:17:18
 shr-above : tie.Need-shr-above
 shr-above c = search needs
 
--- src/direct.rt:17:18
 shr-above-2 : tie.Need-shr-above-2
 shr-above-2 c = search needs
 
--- src/direct.rt:17:17
 shl-above : tie.Need-shl-above
 shl-above c = search needs
 
--- src/direct.rt:18:5
 part-requires : tie.Need-part-requires
 part-requires c κs = search needs
 
--- src/direct.rt:18:23
 add-result : tie.Need-add-result
-add-result c = ?
+add-result c =
+    let s = c .before in
+    let a = s .args in
+    record { fits = field-fits (a .x) (a .k) (a .n) (a .v) (search needs) (s .pre .3) (s .pre .0) }
 
--- src/direct.rt:18:22
 shl-result : tie.Need-shl-result
 shl-result c = search needs
 
--- src/direct.rt:18:5
 add-result-2 : tie.Need-add-result-2
-add-result-2 c = ?
+add-result-2 c =
+    let s = c .before in
+    let a = s .args in
+    record { fits = shifts-fit (a .x) (a .k) (a .n) (a .v) (search needs) (s .pre .3) (s .pre .0) (c .part .result) (c .part .ensures .0) }
 
--- src/direct.rt:13:1
 returns : tie.Need-returns
-returns c = ?
+returns c =
+    let s = c .before in
+    let a = s .args in
+    shifts-put (a .x) (a .k) (a .n) (a .v) (search needs) (s .pre .3) (s .pre .0) (c .part .result) (c .part .ensures .0)
 
 pub with-part-spec : {M : Type 1} → statement M
 with-part-spec =

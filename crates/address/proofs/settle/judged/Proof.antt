@@ -1,30 +1,25 @@
+-- 10 is judged, and then 11. Assumes nothing.
+use mathlib.Core.Path.{refl, sym, _∙_}
 use borrow.Author.Needs.{needs}
 use Rattle.address.proofs.settle.judged.Statement.{statement}
 use Rattle.address.proofs.settle.judged.Tie as tie
-use Rattle.address.proofs.settle.judged.Reads as reads
-use Rattle.address.proofs.settle.judged.Lts as lts
-use Rattle.judge.proofs.regions.alignment_broken.Reads as alignment-broken-reads
-use Rattle.judge.proofs.regions.reach_broken.Reads as reach-broken-reads
 
--- src/settle.rt:119:8
 alignment-broken-requires : tie.Need-alignment-broken-requires
 alignment-broken-requires c κs = search needs
 
--- src/settle.rt:120:9
 returns : tie.Need-returns
-returns c = ?
+returns c = rw (sym (c .before .alignment-broken .ensures) ∙ c .if1 .taken)
 
--- src/settle.rt:122:8
 reach-broken-requires : tie.Need-reach-broken-requires
 reach-broken-requires c κs = search needs
 
--- src/settle.rt:123:9
 returns-2 : tie.Need-returns-2
-returns-2 c = ?
+returns-2 c =
+    rw (sym (c .before .before .before .alignment-broken .ensures) ∙ c .before .before .if1 .left, sym (c .before .reach-broken .ensures) ∙ c .if2 .taken)
 
--- src/settle.rt:116:1
 returns-3 : tie.Need-returns-3
-returns-3 c = ?
+returns-3 c =
+    rw (sym (c .before .before .before .alignment-broken .ensures) ∙ c .before .before .if1 .left, sym (c .before .reach-broken .ensures) ∙ c .if2 .left) (refl, refl)
 
 pub judged-spec : {M : Type 1} → statement M
 judged-spec =

@@ -1,34 +1,39 @@
+-- The sources are settled after the destination. Assumes nothing.
+use Rattle.words.specs.Operations.{plainIs}
+use Rattle.words.specs.Words.{toWord}
+use Rattle.address.specs.Settling.{sourcesOutside, sourcesDirect, says-on, says-broken, says-all}
+use Rattle.address.specs.declared.settle.Settled.the-variants.{Broken}
+use denote.Ref.{now}
 use borrow.Author.Needs.{needs}
 use Rattle.address.proofs.settle.settle_all.Statement.{statement}
 use Rattle.address.proofs.settle.settle_all.Tie as tie
-use Rattle.address.proofs.settle.settle_all.Reads as reads
-use Rattle.address.proofs.settle.settle_all.Lts as lts
-use Rattle.address.proofs.settle.settle_dst.Reads as settle-dst-reads
-use Rattle.address.proofs.settle.settle_sources.Reads as settle-sources-reads
 
--- src/settle.rt:108:9
 settle-dst-requires : tie.Need-settle-dst-requires
 settle-dst-requires c κs = search needs
 
--- src/settle.rt:110:23
 enum-known-one : tie.Need-enum-known-one
 enum-known-one c = search needs
 
--- src/settle.rt:110:29
 settle-sources-requires : tie.Need-settle-sources-requires
 settle-sources-requires c κs = search needs
 
--- src/settle.rt:111:28
 enum-told : tie.Need-enum-told
 enum-told c = search needs
 
--- src/settle.rt:104:1
 returns : tie.Need-returns
-returns c = ?
+returns c =
+    let a = c .before .before .before .before .before .before .args in
+    let one = c .before .before .before .before .settle-dst in
+    says-all (plainIs (a .p)) (now (a .addresses)) (toWord (a .w)) (c .settle-sources .result)
+    (says-on (one .result) _ _ _ (c .before .before .one .given .1) (one .ensures) (c .settle-sources .result)
+    (sourcesOutside (plainIs (a .p)) (now (a .addresses))) (sourcesDirect (plainIs (a .p)) (now (a .addresses))) (c .settle-sources .ensures))
 
--- src/settle.rt:104:1
 returns-2 : tie.Need-returns-2
-returns-2 c = ?
+returns-2 c =
+    let a = c .before .before .before .before .args in
+    let one = c .before .before .settle-dst in
+    says-all (plainIs (a .p)) (now (a .addresses)) (toWord (a .w)) Broken
+    (says-broken (one .result) _ _ (c .enum-told .given .1) (one .ensures) _)
 
 pub settle-all-spec : {M : Type 1} → statement M
 settle-all-spec =

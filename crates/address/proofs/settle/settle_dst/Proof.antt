@@ -1,48 +1,55 @@
+-- The operand stays, is named directly, or is outside. Assumes nothing.
+use mathlib.Core.Path.{sym, ap, _∙_}
+use borrow.Author.Tests.{not-true, not-false}
+use Rattle.paper.specs.Address.{addressOf, dstAddress}
+use Rattle.words.specs.Words.{toWord}
+use Rattle.address.specs.Bytes.{told, told-byte, told-outside}
+use Rattle.address.specs.Settling.{dst-stays, dst-names, dst-breaks}
+use denote.Ref.{now}
 use borrow.Author.Needs.{needs}
 use Rattle.address.proofs.settle.settle_dst.Statement.{statement}
 use Rattle.address.proofs.settle.settle_dst.Tie as tie
-use Rattle.address.proofs.settle.settle_dst.Reads as reads
-use Rattle.address.proofs.settle.settle_dst.Lts as lts
-use Rattle.address.proofs.byte.address_of.Reads as address-of-reads
-use Rattle.address.proofs.direct.dst_named.Reads as dst-named-reads
-use Rattle.words.proofs.addresses.dst_by_address.Reads as dst-by-address-reads
-use Rattle.words.proofs.addresses.dst_indirect.Reads as dst-indirect-reads
 
--- src/settle.rt:59:9
 dst-by-address-requires : tie.Need-dst-by-address-requires
 dst-by-address-requires c κs = search needs
 
--- src/settle.rt:60:9
 returns : tie.Need-returns
-returns c = ?
+returns c =
+    let a = c .before .before .before .args in
+    dst-stays (now (a .addresses)) (a .w) (sym (c .before .dst-by-address .ensures) ∙ not-true _ (c .if1 .taken))
 
--- src/settle.rt:62:41
 dst-indirect-requires : tie.Need-dst-indirect-requires
 dst-indirect-requires c κs = search needs
 
--- src/settle.rt:62:9
 address-of-requires : tie.Need-address-of-requires
 address-of-requires c κs = search needs
 
--- src/settle.rt:64:23
 enum-known-address : tie.Need-enum-known-address
 enum-known-address c = search needs
 
--- src/settle.rt:64:46
 dst-named-requires : tie.Need-dst-named-requires
-dst-named-requires c κs = ?
+dst-named-requires c κs =
+    let s = c .before .before .before .before in
+    told-byte (addressOf (now (s .before .before .before .before .args .addresses)) (s .dst-indirect .result)) _ (sym (c .before .address .given .1) ∙ c .before .before .before .address-of .ensures) .2
 
--- src/settle.rt:65:29
 enum-told : tie.Need-enum-told
 enum-told c = search needs
 
--- src/settle.rt:55:1
 returns-2 : tie.Need-returns-2
-returns-2 c = ?
+returns-2 c =
+    let a = c .before .before .before .before .before .before .before .before .before .args in
+    let e = ap (addressOf (now (a .addresses))) (c .before .before .before .before .before .dst-indirect .ensures .0) in
+    let t = told-byte (dstAddress (now (a .addresses)) (toWord (a .w))) _ (sym (c .before .before .address .given .1) ∙ c .before .before .before .before .address-of .ensures ∙ ap told e) in
+    let by = sym (c .before .before .before .before .before .before .before .dst-by-address .ensures) ∙ not-false _ (c .before .before .before .before .before .before .if1 .left) in
+    dst-names (now (a .addresses)) (a .w) _ _ by (t .0) (t .1) (c .dst-named .ensures)
 
--- src/settle.rt:55:1
 returns-3 : tie.Need-returns-3
-returns-3 c = ?
+returns-3 c =
+    let a = c .before .before .before .before .before .before .before .args in
+    let e = ap (addressOf (now (a .addresses))) (c .before .before .before .dst-indirect .ensures .0) in
+    let t = told-outside (dstAddress (now (a .addresses)) (toWord (a .w))) (sym (c .enum-told .given .1) ∙ c .before .before .address-of .ensures ∙ ap told e) in
+    let by = sym (c .before .before .before .before .before .dst-by-address .ensures) ∙ not-false _ (c .before .before .before .before .if1 .left) in
+    dst-breaks (now (a .addresses)) (toWord (a .w)) by t
 
 pub settle-dst-spec : {M : Type 1} → statement M
 settle-dst-spec =

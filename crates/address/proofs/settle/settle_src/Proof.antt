@@ -1,48 +1,55 @@
+-- The operand stays, is named directly, or is outside. Assumes nothing.
+use mathlib.Core.Path.{sym, ap, _∙_}
+use borrow.Author.Tests.{not-true, not-false}
+use Rattle.paper.specs.Address.{addressOf, srcAddress}
+use Rattle.words.specs.Words.{toWord, sourceIs}
+use Rattle.address.specs.Bytes.{told, told-byte, told-outside}
+use Rattle.address.specs.Settling.{src-stays, src-names, src-breaks}
+use denote.Ref.{now}
 use borrow.Author.Needs.{needs}
 use Rattle.address.proofs.settle.settle_src.Statement.{statement}
 use Rattle.address.proofs.settle.settle_src.Tie as tie
-use Rattle.address.proofs.settle.settle_src.Reads as reads
-use Rattle.address.proofs.settle.settle_src.Lts as lts
-use Rattle.address.proofs.byte.address_of.Reads as address-of-reads
-use Rattle.address.proofs.direct.src_named.Reads as src-named-reads
-use Rattle.words.proofs.addresses.src_by_address.Reads as src-by-address-reads
-use Rattle.words.proofs.addresses.src_indirect.Reads as src-indirect-reads
 
--- src/settle.rt:74:9
 src-by-address-requires : tie.Need-src-by-address-requires
 src-by-address-requires c κs = search needs
 
--- src/settle.rt:75:9
 returns : tie.Need-returns
-returns c = ?
+returns c =
+    let a = c .before .before .before .args in
+    src-stays (now (a .addresses)) (sourceIs (a .x)) (a .w) (sym (c .before .src-by-address .ensures) ∙ not-true _ (c .if1 .taken))
 
--- src/settle.rt:77:41
 src-indirect-requires : tie.Need-src-indirect-requires
 src-indirect-requires c κs = search needs
 
--- src/settle.rt:77:9
 address-of-requires : tie.Need-address-of-requires
 address-of-requires c κs = search needs
 
--- src/settle.rt:79:23
 enum-known-address : tie.Need-enum-known-address
 enum-known-address c = search needs
 
--- src/settle.rt:79:46
 src-named-requires : tie.Need-src-named-requires
-src-named-requires c κs = ?
+src-named-requires c κs =
+    let s = c .before .before .before .before in
+    told-byte (addressOf (now (s .before .before .before .before .args .addresses)) (s .src-indirect .result)) _ (sym (c .before .address .given .1) ∙ c .before .before .before .address-of .ensures) .2
 
--- src/settle.rt:80:29
 enum-told : tie.Need-enum-told
 enum-told c = search needs
 
--- src/settle.rt:70:1
 returns-2 : tie.Need-returns-2
-returns-2 c = ?
+returns-2 c =
+    let a = c .before .before .before .before .before .before .before .before .before .args in
+    let e = ap (addressOf (now (a .addresses))) (c .before .before .before .before .before .src-indirect .ensures .0) in
+    let t = told-byte (srcAddress (now (a .addresses)) (sourceIs (a .x)) (toWord (a .w))) _ (sym (c .before .before .address .given .1) ∙ c .before .before .before .before .address-of .ensures ∙ ap told e) in
+    let by = sym (c .before .before .before .before .before .before .before .src-by-address .ensures) ∙ not-false _ (c .before .before .before .before .before .before .if1 .left) in
+    src-names (now (a .addresses)) (sourceIs (a .x)) (a .w) _ _ by (t .0) (t .1) (c .src-named .ensures)
 
--- src/settle.rt:70:1
 returns-3 : tie.Need-returns-3
-returns-3 c = ?
+returns-3 c =
+    let a = c .before .before .before .before .before .before .before .args in
+    let e = ap (addressOf (now (a .addresses))) (c .before .before .before .src-indirect .ensures .0) in
+    let t = told-outside (srcAddress (now (a .addresses)) (sourceIs (a .x)) (toWord (a .w))) (sym (c .enum-told .given .1) ∙ c .before .before .address-of .ensures ∙ ap told e) in
+    let by = sym (c .before .before .before .before .before .src-by-address .ensures) ∙ not-false _ (c .before .before .before .before .if1 .left) in
+    src-breaks (now (a .addresses)) (sourceIs (a .x)) (toWord (a .w)) by t
 
 pub settle-src-spec : {M : Type 1} → statement M
 settle-src-spec =
