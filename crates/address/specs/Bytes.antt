@@ -22,14 +22,17 @@ told = saidOf inFile Outside
 
 -- ---- what is told by it
 
+-- What is told is a byte.
 isByte : Address → Bool
 isByte (Byte a) = true
 isByte Outside = false
 
+-- The byte that is told; 0 if none is.
 byteIn : Address → ℕ
 byteIn (Byte a) = a
 byteIn Outside = 0
 
+-- Outside is no byte.
 no-byte : (a : ℕ) → Byte a ≡ Outside → ⊥
 unfolding isByte
 no-byte a e = false≢true (sym (ap isByte e))

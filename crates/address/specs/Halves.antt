@@ -21,6 +21,7 @@ up h k n = ap (λ (x : ℕ). h * x) (pow-add 2 k n ∙ mul-comm (2 ^ k) (2 ^ n))
 abbrev pub aboveField : ℕ → ℕ → ℕ → ℕ
 aboveField x k n = x / 2 ^ k / 2 ^ n * 2 ^ n
 
+-- The field written by shifts: what stands below it, and it and what stands above it moved up.
 pub put-shifted : (x k n v : ℕ) → x % 2 ^ k + (v + aboveField x k n) * 2 ^ k ≡ put x k n v
 put-shifted x k n v =
     let h : ℕ = x / 2 ^ (k + n) in
@@ -29,27 +30,34 @@ put-shifted x k n v =
 
 -- So the code reckons it, in a half of a word: every shift up is modulo 2^64, and nothing is lost.
 module _ (x k n v : ℕ) (h : x < 2 ^ 64) (g : v < 2 ^ n) (l : k + n ≤ 64) where
+  -- The field and what stands above it, before the last shift.
   abbrev field : ℕ
   field = v + aboveField x k n % 2 ^ 64
 
+  -- What stands above it loses nothing.
   above-whole : aboveField x k n % 2 ^ 64 ≡ aboveField x k n
   above-whole = floor-shl (x / 2 ^ k) n (omega (arith, shr-le x k))
 
+  -- The whole fits.
   room : x % 2 ^ k + (v + aboveField x k n) * 2 ^ k < 2 ^ 64
   room = rw (put-shifted x k n v) (put-fits x k n v 64 h g l)
 
+  -- The last shift loses nothing.
   field-whole : field * 2 ^ k % 2 ^ 64 ≡ (v + aboveField x k n) * 2 ^ k
   field-whole = ap (λ (a : ℕ). (v + a) * 2 ^ k % 2 ^ 64) above-whole ∙ mod-eq-of-lt (omega (arith, room))
 
+  -- The first sum fits,
   pub field-fits : field < 2 ^ 64
   field-fits =
       let t : ℕ = v + aboveField x k n in
       let e : t ≤ t * 2 ^ k = omega (arith, mul-le-mul-right {m = 1} {n = 2 ^ k} t (pow-pos k), mul-comm (2 ^ k) t) in
       rw above-whole (omega (arith, room, e))
 
+  -- the last one is the word with the field written,
   pub shifts-put : (low : ℕ) → low ≡ bits x 0 k → low + field * 2 ^ k % 2 ^ 64 ≡ put x k n v
   shifts-put low e = (λ i. (e ∙ bits-mod x k) i + field-whole i) ∙ put-shifted x k n v
 
+  -- and fits too.
   pub shifts-fit : (low : ℕ) → low ≡ bits x 0 k → low + field * 2 ^ k % 2 ^ 64 < 2 ^ 64
   shifts-fit low e = rw (shifts-put low e) (put-fits x k n v 64 h g l)
 
@@ -86,11 +94,13 @@ put-upper lo hi k n v h =
 
 -- ---- an operand named directly
 
+-- An operand of the low half is named there,
 pub named-lower : (lo hi k a : ℕ) → k + 16 ≤ 64 → namedDirectly k a (lo + hi * 2 ^ 64) ≡ namedDirectly k a lo + hi * 2 ^ 64
 named-lower lo hi k a h =
     ap (λ (w : ℕ). put w (k + 15) 1 0) (put-lower lo hi k 13 (bits a 0 13) (omega arith))
     ∙ put-lower (put lo k 13 (bits a 0 13)) hi (k + 15) 1 0 (omega arith)
 
+-- and one of the high half there.
 pub named-upper : (lo hi k a : ℕ) → lo < 2 ^ 64 → namedDirectly (64 + k) a (lo + hi * 2 ^ 64) ≡ lo + namedDirectly k a hi * 2 ^ 64
 named-upper lo hi k a h =
     ap (λ (w : ℕ). put w (64 + k + 15) 1 0) (put-upper lo hi k 13 (bits a 0 13) h)
