@@ -39,6 +39,8 @@ pub mod Halfwords
 pub mod StateBytes
 pub mod Calls
 pub mod Lasting
+pub mod AddressBytes
+pub mod Addresses
 pub mod Changes
 pub mod KeptFlags
 pub mod Longer

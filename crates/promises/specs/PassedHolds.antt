@@ -16,7 +16,7 @@ use Rattle.laws.specs.VotesBefore.{refusalBefore, stepAtBefore}
 use Rattle.laws.specs.Votes.{votes-add}
 use Rattle.laws.specs.LeavingBefore.{formerJudge, formerStep}
 use Rattle.laws.specs.Leaving.{leaving-stays, leaving-packs}
-use Rattle.promises.specs.Promises.{AsBy, PassedBefore}
+use Rattle.promises.specs.Before.{AsBy, PassedBefore}
 
 -- No refusal is a verdict.
 not-verdict {ℓ} : {A : Type ℓ} (number offset v n : ℕ) → refusal number offset ≡ verdict v n → A
