@@ -40,7 +40,6 @@ pub mod StateBytes
 pub mod Calls
 pub mod Lasting
 pub mod AddressBytes
-pub mod Addresses
 pub mod Changes
 pub mod KeptFlags
 pub mod Longer
@@ -52,3 +51,8 @@ pub mod VotesBefore
 pub mod Votes
 pub mod LeavingBefore
 pub mod Leaving
+pub mod AddressesBefore
+pub mod DirectWords
+pub mod DirectActs
+pub mod Addresses
+pub mod AddressesStay
