@@ -4,13 +4,11 @@ use mathlib.Core.Bool.{Bool, true, false, not, _||_, false≢true}
 use mathlib.Core.List.{List, map}
 use mathlib.Core.Logic.{_⊎_, inl, inr}
 use mathlib.Core.Path.{_≡_, refl, sym, ap, _∙_}
-use Prim.Native.Nat.{ℕ, _-_}
+use Prim.Native.Nat.{ℕ}
 use native.Mathlib.Omega.{arith}
-use Rattle.paper.specs.Word.{a0, dstIsA0, srcIsA0}
+use Rattle.paper.specs.Word.{dstIsA0, srcIsA0}
 use Rattle.paper.specs.Operation.{Plain, Operation, plain, nop, branch, unlisted, operation, traits, sources, isMov}
-use Rattle.paper.specs.Element.{made}
 use Rattle.paper.specs.Store.{Store}
-use Rattle.paper.specs.Region.{channels}
 use Rattle.paper.specs.Address.{settled, addressBroken, addressStops}
 use Rattle.paper.specs.Effect.{plainEffect, effect}
 use Rattle.paper.specs.Legal.{anyOf, reservedSet, controlServed, dstServed, srcServed, usesA0, movesWords, plainServed, orElse, later, refusalOf}

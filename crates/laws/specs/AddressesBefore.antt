@@ -1,4 +1,4 @@
--- The bench as it stood before 02 §7, when every operand was named directly and there was no a0: 7, 10 and 11, what an instruction does, the state, step and run. Where the paper has
+-- The bench as it stood before 02 §7, when every operand was named directly and there was no a0: 7, 10 and 11, what an instruction does, the state, start, step and run. Where the paper has
 -- changed a definition, the one that stood is written out here under its name with `direct` before it. Assumes nothing.
 use mathlib.Core.Bool.{Bool, true, false, not, cond, _&&_, _||_}
 use mathlib.Core.List.{List, [], _++_, map}
@@ -21,9 +21,9 @@ use Rattle.paper.specs.Effect.{patternAt, scattered, isOn}
 use Rattle.paper.specs.Legal.{anyOf, reservedSet, controlServed, branchServed, operandRuleBroken, someOperand, shapeBroken, unaligned, lastChannel, orElse}
 use Rattle.paper.specs.Kernel.{Instr, longAndShort, Parsed, bad, good}
 use Rattle.paper.specs.Jump.{fetch}
-use Rattle.paper.specs.Machine.{Channel, State, Ways, wake, isAwake, act, Outcome, runWith}
+use Rattle.paper.specs.Machine.{Channel, State, Ways, wake, isAwake, act, Outcome, runWith, start}
 use Rattle.paper.specs.State.{half, channelsIn, allThree, stateLands, isWaiting, maskOf, placesOf}
-use Rattle.paper.specs.Calls.{Answer, verdict, refusal, Changed, unchanged, sized}
+use Rattle.paper.specs.Calls.{Answer, verdict, refusal, Written, kept, Changed, unchanged, sized}
 use Rattle.laws.specs.Otherwise.{Judgement, judgeAtBy, judgedKernelBy, stepBy}
 
 -- ---- 7
@@ -184,6 +184,12 @@ directStateBytes s =
     ++ (bytesOf 2 (maskOf isAwake (s .channels))
     ++ (bytesOf 2 (maskOf isWaiting (s .channels))
     ++ placesOf (s .channels)))))
+
+unfoldable pub directStartCall : ℕ → ℕ → ℕ → List ℕ → Written
+directStartCall mask flag0 flag1 bytes =
+    cond (eqb (length bytes) directStateLength)
+    (record { answer = verdict 0 0; output = directStateBytes (start (record { registers = []; flag0 = flag0; flag1 = flag1; addresses = [] }) mask) })
+    (kept (refusal 1 0) bytes)
 
 -- ---- step and run: only the end stopped a run early
 

@@ -1,5 +1,5 @@
--- A kernel that was accepted before 02 §7 is stepped and run as it was: with the first 42 bytes of the state as the bench did then, never with 22, and a0's bytes stay.
--- Assumes nothing.
+-- A kernel that was accepted before 02 §7 is stepped and run as it was: with the first 42 bytes of the state as the bench did then, never with 22, and a0's bytes stay;
+-- and a start leaves what it left, and zeros. Assumes nothing.
 use mathlib.Core.Bool.{Bool, true, false, not, cond, _&&_}
 use mathlib.Core.List.{List, [], _∷_, _++_, map, append-assoc}
 use mathlib.Core.Option.{Option, none, some}
@@ -7,20 +7,20 @@ use mathlib.Core.Path.{_≡_, refl, sym, ap, ap₂, _∙_}
 use Prim.Native.Nat.{ℕ, zero, suc, _+_, _*_, _<_, _≤_}
 use native.Mathlib.Omega.{arith}
 use lib.Dec.{eqb, ltb}
-use lib.ListN.{length, take, drop, take-append-drop}
+use lib.ListN.{length, take, drop, replicate, take-append-drop}
 use lib.Seq.{length-take-le}
 use borrow.Author.Tests.{eq-eqb, ne-eqb}
 use Rattle.paper.specs.Bits.{bytesOf}
-use Rattle.paper.specs.Limits.{registerBytes, stateLength, budgetLimit}
+use Rattle.paper.specs.Limits.{registerBytes, addressBytes, stateLength, budgetLimit}
 use Rattle.paper.specs.Operation.{Branch, jmpi, if, else, endif, while, break, cont, Operation, plain, nop, branch, unlisted, operation}
 use Rattle.paper.specs.Store.{Store}
 use Rattle.paper.specs.Enable.{holds, enabled}
 use Rattle.paper.specs.Address.{addressStops}
 use Rattle.paper.specs.Kernel.{Instr, longAndShort, good}
 use Rattle.paper.specs.Jump.{fetch}
-use Rattle.paper.specs.Machine.{Channel, State, Ways, wake, isAwake, park, each, someone, act, waysOf, stepOn, step, stopsOn, stops, orSpent, Outcome, run}
+use Rattle.paper.specs.Machine.{Channel, State, Ways, wake, isAwake, park, each, someone, act, waysOf, stepOn, step, stopsOn, stops, orSpent, Outcome, run, start}
 use Rattle.paper.specs.State.{half, awakeBit, waitingBit, waitingPlace, channelIn, oneOfThree, channelsIn, allThree, stateLands, addressesIn, stateOf, stateLegal, stateBytes}
-use Rattle.paper.specs.Calls.{Answer, verdict, refusal, refusalWith, Changed, unchanged, sized, judgedKernel, allSized, stoppedAs, steppedAs, stepCall, ranAs, runCall}
+use Rattle.paper.specs.Calls.{Answer, verdict, refusal, refusalWith, Changed, unchanged, sized, judgedKernel, startCall, allSized, stoppedAs, steppedAs, stepCall, ranAs, runCall}
 use Rattle.laws.specs.Adding.{each-fetched, accepted-each, accepted-stays, steps-same}
 use Rattle.laws.specs.Bytes.{numberAt-append}
 use Rattle.laws.specs.Otherwise.{judgedKernelBy, acceptedBy, stepOnBy, stepBy}
@@ -29,7 +29,7 @@ use Rattle.laws.specs.Rename.{cond-ap}
 use Rattle.laws.specs.Runs.{run-zero, run-stop, run-on, run-carried}
 use Rattle.laws.specs.Walk.{Each}
 use Rattle.laws.specs.AddressesBefore.{directChannelStores, directRegistersAfter, directFinds, directComparedFlag, directPlainEffect, directEffect, directPass, directPerform, directStep, directRefusal}
-use Rattle.laws.specs.AddressesBefore.{directStateLength, directStateOf, directStateLegal, directStateBytes, directJudge, directStopsOn, directStops, directRun, directAllSized, directSteppedAs, directStepCall, directRanAs, directRunCall}
+use Rattle.laws.specs.AddressesBefore.{directStateLength, directStateOf, directStateLegal, directStateBytes, directStartCall, directJudge, directStopsOn, directStops, directRun, directAllSized, directSteppedAs, directStepCall, directRanAs, directRunCall}
 use Rattle.laws.specs.Addresses.{accepted-old, never-stops, addresses-add}
 
 -- ---- a0 put into a state
@@ -193,6 +193,15 @@ former-verdict k (suc n) s e = go (fetch k (s .place)) refl (former-verdict k n 
     go none q later =
         let z : _≡_ {A = ℕ} 20 22 = sym (ap (λ (o : Outcome). o .verdict) (run-stop (directStops k) next n s 20 (ap directStopsOn q))) ∙ e in omega arith
     go (some i) q later = later (sym (ap (λ (o : Outcome). o .verdict) (run-on (directStops k) next n s (ap directStopsOn q))) ∙ e)
+
+-- A start leaves what it left, and zeros in a0.
+pub start-stays : (mask flag0 flag1 : ℕ) (bytes : List ℕ) → length bytes ≡ stateLength
+    → startCall mask flag0 flag1 bytes
+    ≡ (let former = directStartCall mask flag0 flag1 (formerBytes bytes) in record { answer = former .answer; output = former .output ++ replicate addressBytes 0 })
+unfolding startCall directStartCall
+start-stays mask flag0 flag1 bytes long =
+    rw (eq-eqb (length bytes) stateLength long, eq-eqb (length (formerBytes bytes)) directStateLength (former-length bytes long))
+    (λ i. record { answer = verdict 0 0; output = bytes-with (replicate addressBytes 0) (start (record { registers = []; flag0 = flag0; flag1 = flag1; addresses = [] }) mask) i })
 
 module _ (dictionary kernel : List ℕ) (k : List Instr) (taken : acceptedBy directJudge longAndShort dictionary kernel ≡ good k)
     (registers bytes : List ℕ) (long : length bytes ≡ stateLength) where

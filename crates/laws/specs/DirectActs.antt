@@ -21,7 +21,8 @@ use Rattle.laws.specs.Scatter.{addresses-kept}
 use Rattle.laws.specs.Settled.{settled-none}
 use Rattle.laws.specs.Sources.{readsTwo, first-source, second-source}
 use Rattle.laws.specs.AddressesBefore.{directOperand, directChannelStores, directRegistersAfter, directFinds, directComparedFlag, directPlainEffect}
-use Rattle.laws.specs.DirectWords.{newOperand, any-same, none-any, no-address, no-a0, src-no-address, src-no-a0, region, element}
+use Rattle.laws.specs.SettledLegal.{any-same}
+use Rattle.laws.specs.DirectWords.{newOperand, none-any, no-address, no-a0, src-no-address, src-no-a0, region, element}
 
 -- An operation that reads one source makes the same of every second.
 first-only : (p : Plain) → readsTwo p ≡ false → (c : ℕ) (h s : Bool) (kind : ℕ) (a b d : Element) → made p c h s kind a b ≡ made p c h s kind a d
@@ -74,7 +75,7 @@ module _ (p : Plain) (w : ℕ) (old : newOperand p w ≡ false) where
   unfolding directRegistersAfter registersAfter
   registers-before awake st =
       (λ i. cond (isNull w) (st .registers) (scattered (st .registers) (element p w old i) (dstSize w) (isOn p w awake st) (λ n. stores st n i) (channels w)))
-      ∙ ap (λ (t : Bool). cond t (st .registers) (writtenTo p w awake st (st .registers))) (null (isNull w) ∙ ap (λ (t : Bool). isNull w || t) (sym no-a0 p w old))
+      ∙ ap (λ (t : Bool). cond t (st .registers) (writtenTo p w awake st (st .registers))) (null (isNull w) ∙ ap (λ (t : Bool). isNull w || t) (sym (no-a0 p w old)))
     where
       null : (t : Bool) → t ≡ (t || false)
       null true = refl
@@ -85,7 +86,7 @@ module _ (p : Plain) (w : ℕ) (old : newOperand p w ≡ false) where
   compared e awake st =
       let two : readsTwo p ≡ true = ap readsTwo e in
       λ i. flagAfter (chosenFlag w st) (channelOf w 0) (channels w) (enabled Plain.cmp w awake st)
-          (λ m. meets (condModifier w) (reads st src0 (first-source p) (m - channelOf w 0) i) (reads st src1 (second-source p two) (m - channelOf w 0) i))
+      (λ m. meets (condModifier w) (reads st src0 (first-source p) (m - channelOf w 0) i) (reads st src1 (second-source p two) (m - channelOf w 0) i))
 
   flag-before : (awake : List Bool) (st : Store)
       → cond (traits p .compares) (directComparedFlag w awake st) (chosenFlag w st) ≡ cond (traits p .compares) (comparedFlag w awake st) (chosenFlag w st)
@@ -102,7 +103,7 @@ module _ (p : Plain) (w : ℕ) (old : newOperand p w ≡ false) where
     registers = registers-before awake st i;
     flag0 = cond (eqb (flagChoice w) 0) (flag-before awake st i) (st .flag0);
     flag1 = cond (eqb (flagChoice w) 0) (st .flag1) (flag-before awake st i);
-    addresses = sym (addresses-kept p w awake st no-a0 p w old) i;
+    addresses = sym (addresses-kept p w awake st (no-a0 p w old)) i;
   }
 
   -- No operand is by address,

@@ -1,9 +1,9 @@
 -- What 02 §7 added to the rules of a word: one that uses neither a0 nor an address, in an operand that it reads, is judged as it was; one that does was 7. Assumes nothing.
 use mathlib.Core.Bool.{Bool, true, false, not, cond, _&&_, _||_, false≢true}
-use mathlib.Core.List.{List, [], _∷_, List·Memᴰ, List·Memᴰ·head, List·Memᴰ·tail}
+use mathlib.Core.List.{List, [], _∷_, List·Memᴰ}
 use mathlib.Core.Logic.{_⊎_, inl, inr}
 use mathlib.Core.Path.{_≡_, refl, sym, ap, ap₂, _∙_}
-use Prim.Native.Nat.{ℕ, zero, suc, _+_, _-_, _*_, _^_, _<_}
+use Prim.Native.Nat.{ℕ, zero, suc, _+_, _*_, _^_, _<_}
 use native.Mathlib.Nat.{mod-lt}
 use native.Mathlib.Omega.{arith}
 use lib.Dec.{eqb, leb}
@@ -17,6 +17,7 @@ use Rattle.paper.specs.Operation.{Plain, plain, traits, sources}
 use Rattle.paper.specs.Region.{strideOf, elementAt, registerAt, srcRegion, dstOrigin, dstSize, dstElement}
 use Rattle.paper.specs.Legal.{anyOf, controlServed, dstServed, srcServed, usesA0, plainServed, operandRuleBroken, someOperand, shapeBroken, unaligned, alignmentBroken, bytesIn, tooFar, regionTooFar, lastChannel, reachBroken, orElse, later}
 use Rattle.laws.specs.Regions.{or-false, none-of}
+use Rattle.laws.specs.SettledLegal.{any-same}
 use Rattle.laws.specs.Truth.{both-true}
 use Rattle.laws.specs.AddressesBefore.{directDstServed, directSrcServed, directPlainServed, directSrcRegion, directDstOrigin, directDstElement, directAlignmentBroken, directTooFar, directReachBroken, directLater}
 
@@ -25,11 +26,6 @@ use Rattle.laws.specs.AddressesBefore.{directDstServed, directSrcServed,
 -- A destination, or a source that is read, is by address or is a0.
 abbrev pub newOperand : Plain → ℕ → Bool
 newOperand p w = (dstByAddress w || dstIsA0 w) || anyOf (λ x. srcByAddress x w || srcIsA0 x w) (sources p)
-
--- A test of each source of a list says of all what another says that agrees at each.
-pub any-same : (f g : Source → Bool) (xs : List Source) → ((x : Source) → List·Memᴰ x xs → f x ≡ g x) → anyOf f xs ≡ anyOf g xs
-any-same f g [] h = refl
-any-same f g (x ∷ xs) h = ap₂ _||_ (h x (List·Memᴰ·head refl)) (any-same f g xs (λ y m. h y (List·Memᴰ·tail m)))
 
 -- A test that no source passes.
 pub none-any : (xs : List Source) → anyOf (λ _. false) xs ≡ false
