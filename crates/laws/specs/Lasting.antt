@@ -84,7 +84,7 @@ compared-less : (w : ℕ) (woken : List Bool) (st : Store) → comparedFlag w wo
 unfolding comparedFlag flagAfter
 compared-less w woken st = ofBits-less _ 16
 
-plain-fits : (p : Plain) (w n : ℕ) (woken : List Bool) (st : Store) → Fit n st → Fit n (plainEffect p w woken st)
+pub plain-fits : (p : Plain) (w n : ℕ) (woken : List Bool) (st : Store) → Fit n st → Fit n (plainEffect p w woken st)
 unfolding plainEffect
 plain-fits p w n woken st h =
     let flag : ℕ = cond (traits p .compares) (comparedFlag w woken st) (chosenFlag w st) in
