@@ -12,8 +12,12 @@ use Rattle.paper.specs.Store.{Store}
 use Rattle.paper.specs.Address.{settled, addressBroken, addressStops}
 use Rattle.paper.specs.Effect.{plainEffect, effect}
 use Rattle.paper.specs.Legal.{anyOf, reservedSet, controlServed, dstServed, srcServed, usesA0, movesWords, plainServed, orElse, later, refusalOf}
+use Rattle.paper.specs.Kernel.{Instr, Forms, judgeShort, judgeLong, judgeAt, good, parse}
+use Rattle.paper.specs.Calls.{judgedKernel, accepted}
 use Rattle.paper.specs.Machine.{Channel, State, Ways, wake, isAwake, pass, perform, stepAt}
-use Rattle.laws.specs.Adding.{Adds}
+use Rattle.laws.specs.Walk.{Each}
+use Rattle.laws.specs.Otherwise.{judgeShortBy, judgeLongBy, judgeAtBy, parseBy, judgedKernelBy, acceptedBy}
+use Rattle.laws.specs.Adding.{accepted-carried, each-map, Adds}
 use Rattle.laws.specs.Regions.{LegalPlain, legal-plain}
 use Rattle.laws.specs.Truth.{both-true}
 use Rattle.laws.specs.AddressesBefore.{directLater, directRefusal, directPlainEffect, directEffect, directPass, directPerform, directStep}
@@ -166,3 +170,10 @@ addresses-add =
       accepts = λ w e. sym (refusal-before w (accepted-old w e)) ∙ e;
       acts = λ w e. step-before w (accepted-old w e);
     }
+
+-- And a kernel of words that use nothing new, if it is accepted, was accepted.
+pub old-accepted : (forms : Forms) (dictionary kernel : List ℕ) (k : List Instr) → accepted forms dictionary kernel ≡ good k
+    → Each (λ _ _ w. usesNew w ≡ false) k → acceptedBy (judgeAtBy directRefusal) forms dictionary kernel ≡ good k
+unfolding judgeShortBy judgeLongBy judgeAtBy parseBy judgedKernelBy acceptedBy judgeShort judgeLong judgeAt parse judgedKernel accepted
+old-accepted forms dictionary kernel k e a =
+    accepted-carried refusalOf forms dictionary kernel k e directRefusal (each-map (λ w. usesNew w ≡ false) _ (λ w h z. refusal-before w h ∙ z) k a)
