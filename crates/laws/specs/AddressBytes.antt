@@ -29,16 +29,19 @@ Bytes l = areBytes l ≡ true
 
 -- ---- storing bytes
 
+-- One byte stored among bytes,
 bytes-set : (l : List ℕ) (a v : ℕ) → v < 256 → Bytes l → Bytes (set l a v)
 bytes-set [] a v h b = b
 bytes-set (x ∷ l) zero v h b = bytes-cons v l h (bytes-tail x l b)
 bytes-set (x ∷ l) (suc a) v h b = bytes-cons x (set l a v) (bytes-head x l b) (bytes-set l a v h (bytes-tail x l b))
 
+-- a number stored among them,
 bytes-putAt : (n : ℕ) (l : List ℕ) (a v : ℕ) → Bytes l → Bytes (putAt l a n v)
 unfolding putAt
 bytes-putAt zero l a v b = b
 bytes-putAt (suc n) l a v b = bytes-putAt n (set l a (v % 256)) (a + 1) (v / 256) (bytes-set l a (v % 256) (mod-lt v (omega arith)) b)
 
+-- and one for each enabled channel.
 bytes-scattered : (l : List ℕ) (element : ℕ → ℕ) (size : ℕ) (on : ℕ → Bool) (pattern : ℕ → ℕ) (n : ℕ) → Bytes l
     → Bytes (scattered l element size on pattern n)
 unfolding scattered
@@ -50,12 +53,14 @@ bytes-scattered l element size on pattern (suc k) b =
 
 -- ---- one instruction, a step, a run
 
+-- An operation keeps a0's bytes bytes,
 addresses-bytes : (p : Plain) (w : ℕ) (awake : List Bool) (st : Store) → Bytes (st .addresses) → Bytes (addressesAfter p w awake st)
 unfolding addressesAfter
 addresses-bytes p w awake st b =
     cond-at Bytes (dstIsA0 w) (scattered (st .addresses) (dstElement w) (dstSize w) (isOn p w awake st) (channelStores p w st) (channels w)) (st .addresses)
     (bytes-scattered (st .addresses) (dstElement w) (dstSize w) (isOn p w awake st) (channelStores p w st) (channels w) b) b
 
+-- and so does any instruction.
 effect-bytes : (w : ℕ) (awake : List Bool) (st : Store) → Bytes (st .addresses) → Bytes (effect w awake st .addresses)
 unfolding effect plainEffect
 effect-bytes w awake st b = go (operation w)
@@ -78,6 +83,7 @@ step-bytes k s b = go (fetch k (s .place)) refl
     go (some i) e = subst (λ (st : Store). Bytes (st .addresses)) (sym (step-store k s i e)) (effect-bytes (i .word) (woken i s) (s .store) b)
     go none e = subst (λ (o : Option Instr). Bytes (stepOn o s .store .addresses)) (sym e) b
 
+-- so do many steps,
 iterate-bytes : (k : List Instr) (n : ℕ) (s : State) → Bytes (s .store .addresses) → Bytes (iterate (step k) n s .store .addresses)
 unfolding iterate
 iterate-bytes k zero s b = b

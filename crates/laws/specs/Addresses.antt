@@ -66,6 +66,7 @@ newIn nop w = false
 newIn (branch b) w = false
 newIn unlisted w = false
 
+-- The word uses what is new.
 abbrev pub usesNew : ℕ → Bool
 usesNew w = newIn (operation w) w
 

@@ -57,6 +57,7 @@ module _ (a : List ℕ) where
       go (branch b) = refl
       go unlisted = refl
 
+  -- Nor has what a branch does,
   branch-with : (b : Branch) (w : ℕ) (ways : Ways) (st : Store) (cs : List Channel) → act b w ways (storeWith a st) cs ≡ stateWith a (act b w ways st cs)
   unfolding act holds
   branch-with if w ways st cs = refl
@@ -70,6 +71,7 @@ module _ (a : List ℕ) where
   branch-with cont w ways st cs = refl
   branch-with jmpi w ways st cs = refl
 
+  -- and so what a step did.
   step-with : (w here : ℕ) (ways : Ways) (s : State) → directStep w here ways (stateWith a s) ≡ stateWith a (directStep w here ways s)
   unfolding directPerform
   step-with w here ways s = go (operation w)
@@ -121,15 +123,16 @@ module _ (a : List ℕ) where
 
 -- ---- the state that is lent
 
--- The first 42 bytes of a state,
+-- The state of then: the first 42 bytes of a state.
 abbrev pub formerBytes : List ℕ → List ℕ
 formerBytes bytes = take directStateLength bytes
 
 module _ (bytes : List ℕ) (long : length bytes ≡ stateLength) where
+  -- A state has 42 bytes before a0's.
   former-length : length (formerBytes bytes) ≡ directStateLength
   former-length = let h : 42 ≤ length bytes = omega (arith, long) in length-take-le 42 bytes h
 
-  -- hold every number of it but a0's:
+  -- These hold every number of the state but a0's:
   half-same : (from : ℕ) → from + 2 ≤ 42 → half bytes from ≡ half (formerBytes bytes) from
   half-same from h =
       ap (λ (l : List ℕ). half l from) (sym (take-append-drop 42 bytes))
@@ -140,21 +143,24 @@ module _ (bytes : List ℕ) (long : length bytes ≡ stateLength) where
   unfolding channelIn
   channel-same n h = rw (half-same 8 (omega arith), half-same 6 (omega arith), half-same (10 + 2 * n) (omega arith))
 
+  -- and whether it is one of the three,
   three-same : (n : ℕ) → n < 16 → oneOfThree bytes n ≡ oneOfThree (formerBytes bytes) n
   unfolding oneOfThree
   three-same n h = rw (half-same 8 (omega arith), half-same 6 (omega arith), half-same (10 + 2 * n) (omega arith))
 
+  -- all channels,
   channels-same : (n c : ℕ) → n + c ≤ 16 → channelsIn bytes n c ≡ channelsIn (formerBytes bytes) n c
   unfolding channelsIn
   channels-same n zero h = refl
   channels-same n (suc c) h = ap₂ _∷_ (channel-same n (omega arith)) (channels-same (suc n) c (omega arith))
 
+  -- and whether all are.
   all-three-same : (n : ℕ) → n ≤ 16 → allThree bytes n ≡ allThree (formerBytes bytes) n
   unfolding allThree
   all-three-same zero h = refl
   all-three-same (suc n) h = ap₂ _&&_ (all-three-same n (omega arith)) (three-same n (omega arith))
 
-  -- and the whole is what they write, with a0's bytes.
+  -- So the state is what they write, with a0's bytes,
   state-same : (registers : List ℕ) → stateOf registers bytes ≡ stateWith (addressesIn bytes) (directStateOf registers (formerBytes bytes))
   unfolding stateOf directStateOf
   state-same registers = λ i. record {
@@ -163,6 +169,7 @@ module _ (bytes : List ℕ) (long : length bytes ≡ stateLength) where
     place = half-same 4 (omega arith) i;
   }
 
+  -- and is legal where that is.
   legal-same : (k : List Instr) (registers : List ℕ) → stateLegal k registers bytes ≡ directStateLegal k registers (formerBytes bytes)
   unfolding stateLegal directStateLegal
   legal-same k registers = ap₂ _&&_ (all-three-same 16 (omega arith)) (ap (stateLands k) (state-same registers))
@@ -205,28 +212,36 @@ start-stays mask flag0 flag1 bytes long =
 
 module _ (dictionary kernel : List ℕ) (k : List Instr) (taken : acceptedBy directJudge longAndShort dictionary kernel ≡ good k)
     (registers bytes : List ℕ) (long : length bytes ≡ stateLength) where
+  -- a0 as it is lent,
   abbrev a : List ℕ
   a = addressesIn bytes
 
+  -- and the state of then.
   abbrev former : List ℕ
   former = formerBytes bytes
 
+  -- Each word was accepted.
   each-old : Each (λ _ _ w. directRefusal w ≡ 0) k
   each-old = accepted-each directRefusal longAndShort dictionary kernel k taken
 
+  -- The kernel's instructions are k now,
   now : (sized dictionary kernel ≡ true) × (judgedKernel longAndShort dictionary kernel ≡ good k)
   now = accepted-parts dictionary kernel k (accepted-stays directRefusal directStep addresses-add longAndShort dictionary kernel k taken)
 
+  -- and were k then.
   then : judgedKernelBy directJudge longAndShort dictionary kernel ≡ good k
   unfolding acceptedBy
   then = rw (now .0) at taken
 
+  -- What is lent is the state of then, and a0,
   whole : former ++ a ≡ bytes
   whole = take-append-drop 42 bytes
 
+  -- and so is the state that it writes.
   begins : stateOf registers bytes ≡ stateWith a (directStateOf registers former)
   begins = state-same bytes long registers
 
+  -- A step from there,
   stepped : steppedAs (stops k (stateOf registers bytes)) registers bytes (stateOf registers bytes) (step k (stateOf registers bytes))
       ≡ andAddresses a (directSteppedAs (directStops k (directStateOf registers former)) registers former (stepBy directJudge directStep k (directStateOf registers former)))
   stepped =
@@ -246,6 +261,7 @@ module _ (dictionary kernel : List ℕ) (k : List Instr) (taken : acceptedBy dir
             state = bytes-with a (stepBy directJudge directStep k s) j;
           }
 
+  -- and a run.
   ran : (budget : ℕ) → ranAs (run k budget (stateOf registers bytes)) ≡ andAddresses a (directRanAs (directRun k budget (directStateOf registers former)))
   ran budget =
       let s = directStateOf registers former in
@@ -264,6 +280,7 @@ module _ (dictionary kernel : List ℕ) (k : List Instr) (taken : acceptedBy dir
   or-left true c d x e = e
   or-left false c d x e = λ i. record { answer = x; registers = registers; state = sym whole i }
 
+  -- 1 of all that is lent.
   all-same : allSized dictionary kernel registers bytes ≡ directAllSized dictionary kernel registers former
   all-same =
       ap (λ (t : Bool). sized dictionary kernel && (eqb (length registers) registerBytes && t))

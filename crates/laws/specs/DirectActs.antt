@@ -71,6 +71,7 @@ module _ (p : Plain) (w : ℕ) (old : newOperand p w ≡ false) where
           first-only p e (condModifier w) (holds w st (channelOf w n)) (eqb (saturate w) 1) (dstType w) (directOperand w (st .registers) src0 n)
           (directOperand w (st .registers) src1 n) (sourceAt w st src1 n)
 
+  -- So the registers are what they were,
   registers-before : (awake : List Bool) (st : Store) → directRegistersAfter p w awake st ≡ registersAfter p w awake st
   unfolding directRegistersAfter registersAfter
   registers-before awake st =
@@ -81,6 +82,7 @@ module _ (p : Plain) (w : ℕ) (old : newOperand p w ≡ false) where
       null true = refl
       null false = refl
 
+  -- the flag that a cmp leaves,
   compared : (p ≡ Plain.cmp) → (awake : List Bool) (st : Store) → directComparedFlag w awake st ≡ comparedFlag w awake st
   unfolding directComparedFlag comparedFlag directFinds finds
   compared e awake st =
@@ -88,6 +90,7 @@ module _ (p : Plain) (w : ℕ) (old : newOperand p w ≡ false) where
       λ i. flagAfter (chosenFlag w st) (channelOf w 0) (channels w) (enabled Plain.cmp w awake st)
       (λ m. meets (condModifier w) (reads st src0 (first-source p) (m - channelOf w 0) i) (reads st src1 (second-source p two) (m - channelOf w 0) i))
 
+  -- and the flag that any operation leaves.
   flag-before : (awake : List Bool) (st : Store)
       → cond (traits p .compares) (directComparedFlag w awake st) (chosenFlag w st) ≡ cond (traits p .compares) (comparedFlag w awake st) (chosenFlag w st)
   flag-before awake st = go (traits p .compares) refl
@@ -110,10 +113,11 @@ module _ (p : Plain) (w : ℕ) (old : newOperand p w ≡ false) where
   named : Named p w
   named = record { destination = no-address p w old; source = src-no-address p w old }
 
+  -- so the word is its own settled word,
   pub settled-before : (addresses : List ℕ) → settled p addresses w ≡ w
   settled-before addresses = settled-none addresses p w named
 
-  -- so no address is broken, if the word is legal.
+  -- and no address is broken, if the word is legal.
   pub whole : (addresses : List ℕ) → LegalPlain p w → addressBroken p addresses w ≡ false
   unfolding addressBroken someOutside
   whole addresses legal =

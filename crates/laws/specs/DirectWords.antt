@@ -27,12 +27,12 @@ use Rattle.laws.specs.AddressesBefore.{directDstServed, directSrcServed,
 abbrev pub newOperand : Plain → ℕ → Bool
 newOperand p w = (dstByAddress w || dstIsA0 w) || anyOf (λ x. srcByAddress x w || srcIsA0 x w) (sources p)
 
--- A test that no source passes.
+-- No source passes a test that is false of all.
 pub none-any : (xs : List Source) → anyOf (λ _. false) xs ≡ false
 none-any [] = refl
 none-any (x ∷ xs) = none-any xs
 
--- AddrMode is 0 or 1.
+-- AddrMode has one bit: if it is not 1 it is 0,
 mode-zero : (w k : ℕ) → eqb (bits w k 1) 1 ≡ false → eqb (bits w k 1) 0 ≡ true
 mode-zero w k e = two (bits w k 1) (mod-lt _ (pow-pos 1)) e
   where
@@ -41,31 +41,39 @@ mode-zero w k e = two (bits w k 1) (mod-lt _ (pow-pos 1)) e
     two (suc zero) h e = absurd (false≢true (sym e))
     two (suc (suc n)) h e = absurd (omega arith)
 
+-- and if it is 1 it is not 0.
 mode-one : (n : ℕ) → eqb n 1 ≡ true → eqb n 0 ≡ false
 mode-one n e = rw (eqb-true n 1 e)
 
+-- So it is of a source.
 src-mode-zero : (x : Source) (w : ℕ) → eqb (srcAddrMode x w) 1 ≡ false → eqb (srcAddrMode x w) 0 ≡ true
 src-mode-zero src0 w e = mode-zero w 79 e
 src-mode-zero src1 w e = mode-zero w 111 e
 
 module _ (p : Plain) (w : ℕ) (old : newOperand p w ≡ false) where
+  -- Neither the destination is new, nor a source.
   abbrev parts : ((dstByAddress w || dstIsA0 w) ≡ false) × (anyOf (λ x. srcByAddress x w || srcIsA0 x w) (sources p) ≡ false)
   parts = or-false (dstByAddress w || dstIsA0 w) (anyOf (λ x. srcByAddress x w || srcIsA0 x w) (sources p)) old
 
+  -- So the destination is not by address,
   pub no-address : dstByAddress w ≡ false
   no-address = or-false (dstByAddress w) (dstIsA0 w) (parts .0) .0
 
+  -- and is not a0;
   pub no-a0 : dstIsA0 w ≡ false
   no-a0 = or-false (dstByAddress w) (dstIsA0 w) (parts .0) .1
 
+  -- and a source that is read is not by address,
   pub src-no-address : (x : Source) → List·Memᴰ x (sources p) → srcByAddress x w ≡ false
   src-no-address x m = or-false (srcByAddress x w) (srcIsA0 x w) (none-of (λ y. srcByAddress y w || srcIsA0 y w) (parts .1) m) .0
 
+  -- and is not a0.
   pub src-no-a0 : (x : Source) → List·Memᴰ x (sources p) → srcIsA0 x w ≡ false
   src-no-a0 x m = or-false (srcByAddress x w) (srcIsA0 x w) (none-of (λ y. srcByAddress y w || srcIsA0 y w) (parts .1) m) .1
 
   -- ---- judged as before
 
+  -- 7 of the destination,
   dst-served : directDstServed w ≡ dstServed w
   unfolding directDstServed dstServed
   dst-served = rw (no-a0, mode-zero w 63 no-address) (go (eqb (dstFile w) grf) (isNull w) (leb (dstType w) 5))
@@ -75,6 +83,7 @@ module _ (p : Plain) (w : ℕ) (old : newOperand p w ≡ false) where
       go false true c = refl
       go false false c = refl
 
+  -- and of a source.
   src-served : (x : Source) → List·Memᴰ x (sources p) → directSrcServed w x ≡ srcServed w x
   unfolding directSrcServed srcServed
   src-served x m = rw (src-no-a0 x m) (go (isImmediate x w) (src-no-address x m))
@@ -89,10 +98,12 @@ module _ (p : Plain) (w : ℕ) (old : newOperand p w ≡ false) where
           same true = refl
           same false = refl
 
+  -- No operand is a0, so nothing is asked for its sake.
   no-use : usesA0 p w ≡ false
   unfolding usesA0
   no-use = rw no-a0 (any-same (λ x. srcIsA0 x w) (λ _. false) (sources p) src-no-a0 ∙ none-any (sources p))
 
+  -- 7 of the whole word.
   plain-served : directPlainServed p w ≡ plainServed p w
   unfolding directPlainServed plainServed
   plain-served =
@@ -113,6 +124,7 @@ module _ (p : Plain) (w : ℕ) (old : newOperand p w ≡ false) where
       (any-same (λ x. not (isImmediate x w) && src x) (λ x. not (isImmediate x w) && src′ x) (sources p)
       (λ x m. ap (λ (t : Bool). not (isImmediate x w) && t) (h x m)))
 
+  -- 10.
   alignment : directAlignmentBroken p w ≡ alignmentBroken p w
   unfolding directAlignmentBroken alignmentBroken
   alignment =
@@ -121,7 +133,7 @@ module _ (p : Plain) (w : ℕ) (old : newOperand p w ≡ false) where
       (ap (λ (t : Bool). not t && unaligned (dstSubregister w) (dstSize w)) (sym no-address))
       (λ x m. ap (λ (t : Bool). not t && unaligned (srcSubregister x w) (srcRegion x w .size)) (sym (src-no-address x m)))
 
-  -- The region of a source that is read, and the destination, begin where they did.
+  -- The region of a source that is read is the one that it was,
   pub region : (x : Source) → List·Memᴰ x (sources p) → directSrcRegion x w ≡ srcRegion x w
   region x m = λ i. record {
     origin = registerAt (sym (src-no-a0 x m) i) (srcRegister x w) + srcSubregister x w;
@@ -131,12 +143,15 @@ module _ (p : Plain) (w : ℕ) (old : newOperand p w ≡ false) where
     size = srcRegion x w .size;
   }
 
+  -- the destination begins where it did,
   origin : directDstOrigin w ≡ dstOrigin w
   origin = ap (λ (t : Bool). registerAt t (dstRegister w) + dstSubregister w) (sym no-a0)
 
+  -- and so does each element of it.
   pub element : directDstElement w ≡ dstElement w
   element = λ i n. origin i + n * strideOf (dstStride w) * dstSize w
 
+  -- 11.
   reach : directReachBroken p w ≡ reachBroken p w
   unfolding directReachBroken reachBroken directTooFar tooFar
   reach =
@@ -201,6 +216,7 @@ any-more f g h (x ∷ xs) e = go (f x) refl (any-more f g h xs) e
     go true q later r = rw (h x q)
     go false q later r = rw (later r) (or-right (g x))
 
+-- So a word with a new operand was refused as 7.
 pub new-was-seven : (p : Plain) (w : ℕ) → newOperand p w ≡ true → directLater (plain p) w ≡ 7
 unfolding directLater directPlainServed
 new-was-seven p w e = go (dstByAddress w || dstIsA0 w) refl e
