@@ -55,4 +55,5 @@ pub mod AddressesBefore
 pub mod DirectWords
 pub mod DirectActs
 pub mod Addresses
+pub mod AddressWrites
 pub mod AddressesStay

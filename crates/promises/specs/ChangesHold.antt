@@ -1,5 +1,5 @@
 -- What a step that answers 0 changes: register bytes of its enabled channels, flag bits of theirs, a0 where a mov goes there. Assumes nothing.
-use mathlib.Core.Bool.{Bool, true, false, cond, not, _||_, false≢true}
+use mathlib.Core.Bool.{Bool, true, false, cond}
 use mathlib.Core.List.{List, map}
 use mathlib.Core.Option.{Option, none, some, Option·some-ne-none}
 use mathlib.Core.Path.{_≡_, refl, sym, ap, _∙_}
@@ -8,7 +8,7 @@ use native.Mathlib.Omega.{arith}
 use lib.ListN.{length, getD}
 use lib.Pow.{areBytes}
 use Rattle.paper.specs.Bits.{bit}
-use Rattle.paper.specs.Word.{weCtrl, dstIsA0}
+use Rattle.paper.specs.Word.{weCtrl}
 use Rattle.paper.specs.Operation.{Plain, Operation, plain, nop, branch, unlisted, operation}
 use Rattle.paper.specs.Store.{Store}
 use Rattle.paper.specs.Enable.{channelOf}
@@ -22,10 +22,10 @@ use Rattle.paper.specs.Calls.{accepted}
 use Rattle.laws.specs.Places.{found}
 use Rattle.laws.specs.Finish.{step-store}
 use Rattle.laws.specs.Regions.{LegalPlain, legal-plain}
-use Rattle.laws.specs.SettledLegal.{dst-a0-same, settled-legal}
-use Rattle.laws.specs.Changes.{Writes, effect-writes, effect-length, effect-keeps, flag0-sets, flag1-sets, addresses-sets, enabled-awake, found-awake, sane-at}
+use Rattle.laws.specs.SettledLegal.{settled-legal}
+use Rattle.laws.specs.Changes.{Writes, effect-writes, effect-length, effect-keeps, flag0-sets, flag1-sets, enabled-awake, found-awake, sane-at}
 use Rattle.laws.specs.Packing.{kernel-of}
-use Rattle.laws.specs.Addresses.{only-mov}
+use Rattle.laws.specs.AddressWrites.{Moves, effect-moves}
 use Rattle.contracts.specs.Contracts.{numberIn, StepPromise}
 use Rattle.promises.specs.Finishing.{Up, wokenIn, storeIn, Stepped}
 use Rattle.promises.specs.OutcomesHold.{answers}
@@ -105,12 +105,9 @@ module _ (dictionary kernel registers state : List ℕ) (right : areBytes kernel
     settled-there : (q : Plain) → operation (i .word) ≡ plain q → LegalPlain q (settled q (addressesIn state) (i .word))
     settled-there q e = settled-legal (addressesIn state) q (i .word) (legal q e) (whole q e)
 
-    -- a0 is changed by a mov to it.
-    moves : (addressesIn state′ ≡ addressesIn state → ⊥) → (operation (i .word) ≡ plain Plain.mov) × (dstIsA0 (i .word) ≡ true)
-    moves differs =
-        let s = addresses-sets (i .word) (wokenIn state) now (λ e. differs (ap (λ (st : Store). st .addresses) after ∙ e)) in
-        let own : dstIsA0 (i .word) ≡ true = sym (dst-a0-same (addressesIn state) (s .0) (i .word) (legal (s .0) (s .1))) ∙ s .2 in
-        (s .1 ∙ ap plain (only-mov (s .0) (i .word) (legal (s .0) (s .1)) own), own)
+    -- A byte of a0 that changed was moved there.
+    moves : (b : ℕ) → (getD (addressesIn state′) b 0 ≡ getD (addressesIn state) b 0 → ⊥) → Moves (i .word) (wokenIn state) now b
+    moves b differs = effect-moves (i .word) (wokenIn state) now legal b (λ e. differs (ap (λ (st : Store). getD (st .addresses) b 0) after ∙ e))
 
     stepped : Stepped dictionary kernel registers state registers′ state′
     stepped =
@@ -129,6 +126,7 @@ module _ (dictionary kernel registers state : List ℕ) (right : areBytes kernel
           flag0 = λ m h differs. flag0-sets (i .word) (wokenIn state) now m h (λ e. differs (ap (λ (s : Store). bit (s .flag0) m) after ∙ e));
           flag1 = λ m h differs. flag1-sets (i .word) (wokenIn state) now m h (λ e. differs (ap (λ (s : Store). bit (s .flag1) m) after ∙ e));
           addresses = moves;
+          addressesMasked = λ z b differs. enabled-up z Plain.mov (moves b differs .channel) (moves b differs .on);
         }
 
   pub step-changes : Stepped dictionary kernel registers state registers′ state′

@@ -10,7 +10,7 @@ use lib.ListN.{length, getD}
 use lib.Pow.{areBytes}
 use Rattle.paper.specs.Limits.{budgetLimit}
 use Rattle.paper.specs.Bits.{bit}
-use Rattle.paper.specs.Word.{weCtrl, flagChoice, dstIsA0}
+use Rattle.paper.specs.Word.{weCtrl, flagChoice}
 use Rattle.paper.specs.Operation.{Plain, plain, operation}
 use Rattle.paper.specs.Region.{dstSize}
 use Rattle.paper.specs.Store.{Store}
@@ -21,6 +21,7 @@ use Rattle.paper.specs.Forward.{forward}
 use Rattle.paper.specs.Machine.{Channel, off, awake, waiting, wake, isAwake}
 use Rattle.paper.specs.State.{half, channelsIn, addressesIn}
 use Rattle.paper.specs.Calls.{accepted}
+use Rattle.laws.specs.AddressWrites.{Moves}
 use Rattle.laws.specs.Changes.{Writes, Sets, writtenFrom, storesBytes}
 use Rattle.contracts.specs.Contracts.{numberIn, offsetIn, countIn, CheckPromise, ForwardPromise, PackPromise, UnpackPromise, StepPromise, RunPromise}
 use Rattle.promises.specs.Promises.{result, Steps, Begun, Legal}
@@ -84,8 +85,11 @@ pub record Stepped (dictionary kernel registers state registers′ state′ : Li
       → (flagChoice (instr .word) ≡ 0) × Sets (instr .word) (wokenIn state) (storeIn registers state) m
   pub flag1 : (m : ℕ) → m < 16 → (bit (half state′ 2) m ≡ bit (half state 2) m → ⊥)
       → (flagChoice (instr .word) ≡ 0 → ⊥) × Sets (instr .word) (wokenIn state) (storeIn registers state) m
-  -- a0 is changed by nothing but a mov whose destination it is.
-  pub addresses : (addressesIn state′ ≡ addressesIn state → ⊥) → (operation (instr .word) ≡ plain Plain.mov) × (dstIsA0 (instr .word) ≡ true)
+  -- Each byte of a0 that changed lies in the destination element of an enabled channel of a mov to a0 (Moves: AddressWrites of `laws`). So nothing else changes a0.
+  pub addresses : (b : ℕ) → (getD (addressesIn state′) b 0 ≡ getD (addressesIn state) b 0 → ⊥) → Moves (instr .word) (wokenIn state) (storeIn registers state) b
+  -- With WECtrl 0 that channel was awake or waited at this place.
+  pub addressesMasked : weCtrl (instr .word) ≡ 0 → (b : ℕ) (differs : getD (addressesIn state′) b 0 ≡ getD (addressesIn state) b 0 → ⊥)
+      → Up state (channelOf (instr .word) (addresses b differs .channel))
 
 -- ==== all of it
 
