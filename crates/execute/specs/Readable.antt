@@ -1,7 +1,7 @@
 -- What a legal word gives whose operands are named directly: sources that can be read, a destination that can be written. Assumes nothing.
 use mathlib.Core.Path.{_≡_, refl, sym, ap, _∙_}
 use mathlib.Core.Bool.{Bool, true, false, not, cond, _&&_, _||_, true≢false, false≢true}
-use mathlib.Core.List.{List·Memᴰ}
+use mathlib.Core.List.{List, List·Memᴰ}
 use Prim.Native.Nat.{ℕ, _+_, _≤_, _<_}
 use native.Mathlib.Omega.{arith}
 use lib.Dec.{eqb, ltb, leb}
@@ -9,7 +9,11 @@ use lib.Pow.{pow-mono}
 use borrow.Author.Tests.{leb-true, ltb-false, eqb-true, not-true, not-false}
 use Rattle.paper.specs.Word.{Source, src0, src1, accessMode, accWrCtrl, execSize, saturate, condModifier, isImmediate}
 use Rattle.paper.specs.Word.{grf, dstFile, dstType, dstAddrMode, srcFile, srcType, srcAddrMode}
-use Rattle.paper.specs.Operation.{Plain, isMov, traits, sources}
+use Rattle.paper.specs.Operation.{Plain, Operation, plain, nop, branch, unlisted, operation, isMov, traits, sources}
+use Rattle.paper.specs.Store.{Store}
+use Rattle.paper.specs.Address.{settled}
+use Rattle.paper.specs.Effect.{plainEffect, effect}
+use Rattle.laws.specs.Settled.{settled-none}
 use Rattle.paper.specs.Value.{IsType}
 use Rattle.paper.specs.Region.{channels, dstSize, dstElement}
 use Rattle.paper.specs.Word.{isNull, dstIsA0, srcIsA0}
@@ -26,6 +30,17 @@ use Rattle.operands.specs.Sources.{Readable}
 pub record Acting (p : Plain) (w : ℕ) : Type 0 where
   pub legal : LegalPlain p w
   pub named : Named p w
+
+-- A word can be executed if it is of an operation with operands.
+abbrev pub Actable : ℕ → Type 0
+Actable w = (p : Plain) → operation w ≡ plain p → Acting p w
+
+-- Its effect is then that of its operation as the word stands.
+pub effect-acting : (p : Plain) (w : ℕ) (awake : List Bool) (st : Store) → operation w ≡ plain p → Acting p w → effect w awake st ≡ plainEffect p w awake st
+unfolding effect
+effect-acting p w awake st o acting =
+    ap {B = Store} (λ (q : Operation). elim q [ plain p ↦ plainEffect p (settled p (st .addresses) w) awake st | nop ↦ st | branch b ↦ st | unlisted ↦ st ]) o
+    ∙ ap (λ (v : ℕ). plainEffect p v awake st) (settled-none (st .addresses) p w (acting .named))
 
 -- ---- channels
 
