@@ -39,6 +39,7 @@ pub mod Halfwords
 pub mod StateBytes
 pub mod Calls
 pub mod Lasting
+pub mod AddressBytes
 pub mod Changes
 pub mod KeptFlags
 pub mod Longer
@@ -50,3 +51,9 @@ pub mod VotesBefore
 pub mod Votes
 pub mod LeavingBefore
 pub mod Leaving
+pub mod AddressesBefore
+pub mod DirectWords
+pub mod DirectActs
+pub mod Addresses
+pub mod AddressWrites
+pub mod AddressesStay

@@ -22,7 +22,7 @@ use Rattle.laws.specs.Truth.{both-true}
 use Rattle.laws.specs.Settled.{spares, settled-field, field-stays}
 
 -- A test of each source of a list says of all what another says that agrees at each.
-any-same : (f g : Source → Bool) (xs : List Source) → ((x : Source) → List·Memᴰ x xs → f x ≡ g x) → anyOf f xs ≡ anyOf g xs
+pub any-same : (f g : Source → Bool) (xs : List Source) → ((x : Source) → List·Memᴰ x xs → f x ≡ g x) → anyOf f xs ≡ anyOf g xs
 any-same f g [] h = refl
 any-same f g (x ∷ xs) h = ap₂ _||_ (h x (List·Memᴰ·head refl)) (any-same f g xs (λ y m. h y (List·Memᴰ·tail m)))
 
