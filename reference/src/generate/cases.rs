@@ -8,7 +8,7 @@ use super::kernels::{
 };
 use super::logs::{log_append_case, log_read_case, log_run_case, log_runs_case};
 use super::pairs::pair_case;
-use super::states::{mask, registers, state_for};
+use super::states::{mask, noise, registers, state_for, wrong_size};
 use super::{Call, Case, CALLS};
 use crate::calls::BUDGET_LIMIT;
 use crate::dictionary::Dictionary;
@@ -192,14 +192,14 @@ fn start_to_decode(random: &mut Random, pair: &Pair) -> u64 {
 
 fn start_case(random: &mut Random) -> (Vec<u8>, Call) {
     let length = match random.below(10) {
-        0 => random.pick(&[0, 41, 43, 100]),
+        0 => wrong_size(random),
         _ => STATE_BYTES,
     };
     let call = Call::Start {
         mask: mask(random),
         flag0: random.bits(16) as u16,
         flag1: random.bits(16) as u16,
-        state: random.bytes(length),
+        state: noise(random, length),
     };
     (Vec::new(), call)
 }

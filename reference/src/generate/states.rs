@@ -1,6 +1,7 @@
 //! States and register files to lend.
 
 use super::kernels::Pair;
+use crate::locations::A0_BYTES;
 use crate::machine;
 use crate::random::Random;
 use crate::regions::FILE_BYTES;
@@ -118,17 +119,30 @@ fn spoiled(random: &mut Random, state: State, program: &Program) -> State {
     state
 }
 
+/// A length that no state has: of none, of one without a0, a byte less, a byte more.
+pub fn wrong_size(random: &mut Random) -> usize {
+    random.pick(&[0, STATE_BYTES - A0_BYTES, STATE_BYTES - 1, STATE_BYTES + 1])
+}
+
 fn wrong_length(random: &mut Random, state: &State) -> Vec<u8> {
     let mut bytes = state.to_bytes().to_vec();
-    bytes.resize(random.pick(&[0, 41, 43, 64]), 0);
+    bytes.resize(wrong_size(random), 0);
+    bytes
+}
+
+/// So many random bytes for a state, those of a0 from a stream of their own.
+pub fn noise(random: &mut Random, length: usize) -> Vec<u8> {
+    let mut aside = random.beside(0xA0);
+    let mut bytes = random.bytes(length.min(STATE_BYTES - A0_BYTES));
+    bytes.extend(aside.bytes(length - bytes.len()));
     bytes
 }
 
 /// Bytes for a state that won't be read, or a fresh state.
 fn any_bytes(random: &mut Random) -> Vec<u8> {
     match random.below(10) {
-        0 => random.bytes(STATE_BYTES - 1),
-        1..=3 => random.bytes(STATE_BYTES),
+        0 => noise(random, STATE_BYTES - 1),
+        1..=3 => noise(random, STATE_BYTES),
         _ => State::start(mask(random), 0, 0xFFFF).to_bytes().to_vec(),
     }
 }
