@@ -2,6 +2,8 @@
 //! with all its inputs; `perform` makes the call on any bench and hands back the answer and
 //! the final content of everything lent for writing.
 
+mod a0_moves;
+mod addresses;
 mod cases;
 mod damage;
 mod dictionaries;

@@ -89,7 +89,7 @@ fn attempt(random: &mut Random, operation: Operation) -> LongWord {
 
 /// Size, quarter, mask control, predicate, condition and saturation. Quarter and predicate are
 /// more common on cmp, whose flag hangs on them.
-fn controls(random: &mut Random, operation: Operation, size: u32) -> LongWord {
+pub fn controls(random: &mut Random, operation: Operation, size: u32) -> LongWord {
     let seldom = if operation == Operation::Cmp { 2 } else { 3 };
     let mut made = word(operation, 1 << size).with_field(89, 89, random.bits(1));
     if size == 3 && random.once_in(seldom) {
@@ -206,7 +206,7 @@ fn source_region(random: &mut Random, element: ElementType, channels: usize) -> 
 }
 
 /// One element for all channels.
-const SCALAR: RegionCodes = RegionCodes { vertical: 0, width: 0, horizontal: 0 };
+pub const SCALAR: RegionCodes = RegionCodes { vertical: 0, width: 0, horizontal: 0 };
 
 /// Elements side by side, in rows of a width code. A row of one element has no strides.
 fn contiguous(width: u32) -> RegionCodes {
