@@ -83,19 +83,28 @@ fn load<const N: usize>(registers: &Registers, a0: &A0, source: &Source) -> [i64
             (origin, layout, element, modifier)
         }
     };
-    let values = match origin {
-        Origin::Register(start) => gather_typed(registers, *start, layout, *element),
-        Origin::Address(address) => {
-            gather_typed(registers, address.start(a0) as usize, layout, *element)
-        }
-        Origin::A0(first) => std::array::from_fn(|n| a0[first + layout.distance(n, 2) / 2] as i64),
+    let start = match origin {
+        Origin::Register(start) => *start as usize,
+        Origin::Address(address) => address.start(a0) as usize,
+        Origin::A0(first) => return modified(from_a0(a0, *first as usize, layout), *modifier),
     };
+    modified(gather_typed(registers, start, layout, *element), *modifier)
+}
+
+#[inline]
+fn modified<const N: usize>(values: [i64; N], modifier: Modifier) -> [i64; N] {
     match modifier {
         Modifier::None => values,
         Modifier::Absolute => values.map(|value| value.abs()),
         Modifier::Negated => values.map(|value| -value),
         Modifier::NegatedAbsolute => values.map(|value| -value.abs()),
     }
+}
+
+/// Reads `N` numbers of a0, the first at an element of it.
+#[inline(never)]
+fn from_a0<const N: usize>(a0: &A0, first: usize, layout: &Layout) -> [i64; N] {
+    std::array::from_fn(|n| a0[first + layout.distance(n, 2) / 2] as i64)
 }
 
 /// Reads `N` elements of a type from a byte of the register file on.
@@ -167,9 +176,11 @@ fn store<const N: usize>(
         results
     };
     let start = match destination.origin {
-        Origin::Register(start) => start,
+        Origin::Register(start) => start as usize,
         Origin::Address(address) => address.start(a0) as usize,
-        Origin::A0(first) => return store_in_a0(a0, first, destination.step, &results, enabled),
+        Origin::A0(first) => {
+            return store_in_a0(a0, first as usize, destination.step, &results, enabled)
+        }
     };
     let to = Line { start, step: destination.step };
     match element.size() {

@@ -99,36 +99,36 @@ pub enum Source {
 #[derive(Clone, Copy)]
 pub enum Origin {
     /// At a byte of the register file.
-    Register(usize),
+    Register(u16),
     /// At the byte of the register file that an element of a0 and a number give.
     Address(Address),
     /// At an element of a0.
-    A0(usize),
+    A0(u16),
 }
 
 /// An operand by address: the element of a0, the number that is added, the element's size, and
 /// how far behind its first byte the operand's last one lies.
 #[derive(Clone, Copy)]
 pub struct Address {
-    element: usize,
-    immediate: i64,
-    size: i64,
-    span: i64,
+    element: u8,
+    size: u8,
+    immediate: i16,
+    span: u16,
 }
 
 impl Address {
     /// The first byte. It is in the register file once the address is found to serve.
     #[inline]
     pub fn start(&self, a0: &[u16; A0_ELEMENTS]) -> i64 {
-        a0[self.element] as i64 + self.immediate
+        a0[self.element as usize] as i64 + self.immediate as i64
     }
 
     /// Whether the operand is aligned, inside of the register file, and within two registers.
     pub fn serves(&self, a0: &[u16; A0_ELEMENTS]) -> bool {
         let first = self.start(a0);
-        let last = first + self.span;
+        let last = first + self.span as i64;
         let (file, register) = (FILE_BYTES as i64, REGISTER_BYTES as i64);
-        first % self.size == 0
+        first % self.size as i64 == 0
             && first >= 0
             && last < file
             && last / register <= first / register + 1
@@ -283,14 +283,14 @@ fn channels_of(word: LongWord) -> usize {
 
 fn origin_of(word: LongWord, region: &Region, location: Location) -> Origin {
     match location.kind() {
-        Kind::A0 => Origin::A0(location.subregister as usize / 2),
+        Kind::A0 => Origin::A0(location.subregister as u16 / 2),
         Kind::ByAddress => Origin::Address(Address {
-            element: location.address_element(),
-            immediate: location.address_immediate(),
-            size: region.element.size() as i64,
-            span: region.span(channels_of(word)) as i64,
+            element: location.address_element() as u8,
+            size: region.element.size() as u8,
+            immediate: location.address_immediate() as i16,
+            span: region.span(channels_of(word)) as u16,
         }),
-        _ => Origin::Register(region.start as usize),
+        _ => Origin::Register(region.start as u16),
     }
 }
 

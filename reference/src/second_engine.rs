@@ -22,36 +22,48 @@ use machine::Machine;
 /// The work of one instruction behind waking. It gives the instruction number to go on with.
 type Step = Box<dyn Fn(&mut Machine) -> usize>;
 
-/// An instruction made ready: the addresses to look at before anything wakes, and its work.
+/// An instruction made ready: the addresses to look at before anything wakes, if it has any, and
+/// its work.
 struct Chosen {
-    addresses: Vec<Address>,
+    addresses: Option<Box<[Address]>>,
     step: Step,
+}
+
+impl Chosen {
+    /// Whether every address leads where an operand may lie.
+    #[inline]
+    fn serves(&self, machine: &Machine) -> bool {
+        match &self.addresses {
+            None => true,
+            Some(addresses) => addresses.iter().all(|address| address.serves(&machine.a0)),
+        }
+    }
 }
 
 /// Runs a judged kernel on a judged state.
 pub fn run(program: &Program, budget: u64, registers: &mut Registers, state: &mut State) -> Ran {
     let chosen: Vec<Chosen> = chosen_of(program);
     let (mut machine, mut number) = Machine::begin(program, registers, state);
-    let mut ran = Ran { steps: 0, bad_address: false };
-    while ran.steps < budget {
-        let Some(Chosen { addresses, step }) = chosen.get(number) else { break };
-        if !addresses.iter().all(|address| address.serves(&machine.a0)) {
-            ran.bad_address = true;
+    let (mut steps, mut bad_address) = (0, false);
+    while steps < budget {
+        let Some(instruction) = chosen.get(number) else { break };
+        if !instruction.serves(&machine) {
+            bad_address = true;
             break;
         }
         machine.wake(number);
-        number = step(&mut machine);
-        ran.steps += 1;
+        number = (instruction.step)(&mut machine);
+        steps += 1;
     }
     *state = machine.end(program, number);
-    ran
+    Ran { steps, bad_address }
 }
 
 /// The instructions of a program, made ready.
 fn chosen_of(program: &Program) -> Vec<Chosen> {
     let decoded = program.instructions.iter().map(|instruction| decode(instruction, program));
     let chosen = decoded.enumerate().map(|(number, decoded)| Chosen {
-        addresses: decoded.addresses().collect(),
+        addresses: decoded.by_address.then(|| decoded.addresses().collect()),
         step: step_of(&decoded, number + 1),
     });
     chosen.collect()

@@ -51,9 +51,9 @@ impl Machine<'_> {
     #[inline]
     pub fn start(&self, origin: &Origin) -> usize {
         match origin {
-            Origin::Register(start) => *start,
+            Origin::Register(start) => *start as usize,
             Origin::Address(address) => address.start(&self.a0) as usize,
-            Origin::A0(first) => *first,
+            Origin::A0(first) => *first as usize,
         }
     }
 
