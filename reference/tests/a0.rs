@@ -8,6 +8,7 @@ use spokeshaver_reference::operations::ElementType::*;
 use spokeshaver_reference::operations::Operation;
 use spokeshaver_reference::operations::Operation::*;
 use spokeshaver_reference::state::State;
+use spokeshaver_reference::text::assemble;
 use spokeshaver_reference::words::LongWord;
 
 /// a0 by mov: from the file, from a number, from itself, to the file and to nothing.
@@ -28,6 +29,23 @@ fn a0_is_moved() {
     let nowhere = word(Mov, 16).to_null(Uw).a0_source(0, 14, scalar(), Uw);
     let (given, registers, _) = ran(&[nowhere], 5, with_a0([0; 8]));
     assert_eq!((given, registers), (answer(20, 0, 1), numbered()));
+}
+
+/// 000's own examples (5.3.4.4), with what its remarks say of them.
+#[test]
+fn the_examples_of_000() {
+    let text = "mov(8) r1.0<1>:uw a0.0<8;8,1>:uw  // r1.n = a0.n for n = 0 to 7 in words
+        mov(8) r1.8<1>:uw a0.4<0;1,0>:uw  // r1.m = a0.4 for m = 8 to 15 in words
+        mov(4) a0.0<1>:uw r1.0<4;4,1>:uw  // a0.n = r1.n for n = 0 to 3 in words
+        mov(4) a0.4<1>:uw r1.4<0;1,0>:uw  // a0.m = r1.4 for m = 4 to 7 in words";
+    let (kernel, _) = assemble(text).expect("four lines");
+    let words: Vec<LongWord> = kernel.chunks_exact(16).map(LongWord::from_bytes).collect();
+    let (given, registers, _) = ran(&words[..2], 9, with_a0([10, 11, 12, 13, 14, 15, 16, 17]));
+    assert_eq!(given, answer(20, 0, 2));
+    let low: Vec<u8> = registers[32..64].iter().step_by(2).copied().collect();
+    assert_eq!(low, [10, 11, 12, 13, 14, 15, 16, 17, 14, 14, 14, 14, 14, 14, 14, 14]);
+    let (given, _, state) = ran(&words, 9, with_a0([10, 11, 12, 13, 14, 15, 16, 17]));
+    assert_eq!((given, state.a0), (answer(20, 0, 4), [10, 11, 12, 13, 14, 14, 14, 14]));
 }
 
 #[test]
