@@ -6,17 +6,15 @@ use mathlib.Core.Path.{_≡_, refl, sym, ap, _∙_, subst}
 use Prim.Native.Nat.{ℕ, zero, suc, _+_, _*_, _<_, _≤_}
 use native.Mathlib.Omega.{arith}
 use lib.Dec.{eqb}
-use lib.ListN.{length, length-append}
+use lib.ListN.{length}
 use borrow.Author.Tests.{eq-eqb, ne-eqb}
 use Rattle.paper.specs.Limits.{dictionaryBytes, instructionLimit}
 use Rattle.paper.specs.Dictionary.{Dictionary, dictionaryOf, inRange}
 use Rattle.paper.specs.Kernel.{Instr}
 use Rattle.paper.specs.Jump.{nextOf, endFrom, endOf}
-use Rattle.paper.specs.Packing.{placesTaken, encode}
 use Rattle.paper.specs.Calls.{deliver}
-use Rattle.paper.specs.Listing.{Listing, faulty, listed, linesFrom, astrayLines, landed, withTargets, readListing, shortOf, kernelOf, readAs, readCall}
+use Rattle.paper.specs.Listing.{Listing, faulty, listed, linesFrom, astrayLines, landed, withTargets, readListing, kernelOf, readAs, readCall}
 use Rattle.laws.specs.Names.{Laid}
-use Rattle.laws.specs.Items.{length-encode}
 use Rattle.words.specs.declared.answer.Answer.{Answer}
 use Rattle.words.specs.declared.answer.Answer.the-variants.{Refused}
 use Rattle.words.specs.Answer.{Wrote}
@@ -25,21 +23,11 @@ use Rattle.listing.specs.declared.scan.Scanned.the-variants.{Whole, Faul
 use Rattle.listing.specs.declared.jumps.Astray.{Astray}
 use Rattle.listing.specs.declared.jumps.Astray.the-variants.{Nowhere, Branch}
 use Rattle.listing.specs.Texts.{Readable, size-most, lines-only}
-use Rattle.listing.specs.Kernels.{one-form}
+use Rattle.listing.specs.Kernels.{kernel-length}
 use Rattle.listing.specs.Scanning.{Scans}
 use Rattle.listing.specs.Again.{linesIn, CanRead, MarksAre, astrayIs}
 
--- ---- how long a kernel is
-
--- Eight bytes a place.
-kernel-length : (D : Dictionary) (p : ℕ) (k : List Instr) → Laid p k → Readable D k → 8 * p + length (kernelOf D k) ≡ 8 * endFrom p k
-unfolding kernelOf Laid Readable endFrom
-kernel-length D p [] laid able = omega arith
-kernel-length D p (i ∷ k) laid able =
-    let size : placesTaken (shortOf D i) ≡ i .size = one-form D i (able .0) (able .1) .0 in
-    let here : i .place ≡ p = laid .0 in
-    let ih = kernel-length D (nextOf i) k (laid .2) (able .2) in
-    omega (arith, length-append (encode (shortOf D i) (i .word)) (kernelOf D k), length-encode (shortOf D i) (i .word))
+-- ---- the first pass
 
 -- At most two places an instruction.
 end-most : (D : Dictionary) (s : List ℕ) (p : ℕ) (k : List Instr) → Laid p k → Readable D k → endFrom p k ≤ p + 2 * length k
@@ -50,8 +38,6 @@ end-most D s p (i ∷ k) laid able =
     let ih = end-most D s (nextOf i) k (laid .2) (able .2) in
     let few = size-most D s i (able .0) in
     omega arith
-
--- ---- the first pass
 
 -- What it tells of a text that can be read: the instructions, their marks, and how many places their kernel has.
 pub record Passed (dictionary s marks : List ℕ) (places : ℕ) : Type 0 where
