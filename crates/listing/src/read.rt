@@ -35,7 +35,13 @@ fn write_read(dictionary: &[u8], text: &[u8], places: u64, out: &mut [u8]) -> An
 }
 
 // A text whose lines can be read, with those marks and so many places: 30 if a jump goes astray, else its kernel.
-fn read_lines(dictionary: &[u8], text: &[u8], marks: &[u8; PLACES], places: u64, out: &mut [u8]) -> Answer
+fn read_lines(
+    dictionary: &[u8],
+    text: &[u8],
+    marks: &[u8; PLACES],
+    places: u64,
+    out: &mut [u8],
+) -> Answer
     requires { ⌜ (length (now dictionary) ≡ dictionaryBytes) × Passed (now dictionary) (now text) (now marks) places ⌝ }
     ensures { λ r. ⌜ Wrote (readAs (dictionaryOf (now (dictionary .entry))) (now (out .entry)) (readListing (dictionaryOf (now (dictionary .entry))) (now (text .entry)))) r (now (out .exit)) ⌝ }
 {

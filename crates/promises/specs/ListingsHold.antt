@@ -5,7 +5,7 @@ use mathlib.Core.Logic.{_⊎_}
 use mathlib.Core.Path.{_≡_, refl, sym, ap, _∙_, subst}
 use Prim.Native.Nat.{ℕ, _*_, _≤_}
 use native.Mathlib.Omega.{arith}
-use lib.Dec.{eqb}
+use lib.Dec.{eqb, ltb}
 use lib.ListN.{length, take, drop}
 use lib.Seq.{take-at}
 use lib.Pow.{areBytes}
@@ -38,6 +38,15 @@ result-is : (bytes out : List ℕ) (w : Written) → w ≡ wrote bytes out → (
 result-is bytes out w e r out′ c d =
     let count : countIn r ≡ length bytes = c ∙ ap (λ (x : Written). countOf (x .answer)) e in
     ap (take (countIn r)) (d ∙ ap (λ (x : Written). x .output) e) ∙ take-at bytes (drop (length bytes) out) (countIn r) (sym count)
+
+-- A result is never answered with 30.
+deliver-thirty : (bytes out : List ℕ) → numberOf (deliver bytes out .answer) ≡ 30 → ⊥
+unfolding deliver
+deliver-thirty bytes out = go (ltb (length out) (length bytes))
+  where
+    go : (b : Bool) → numberOf (cond b (kept (refusal 14 0) out) (wrote bytes out) .answer) ≡ 30 → ⊥
+    go true e = omega arith
+    go false e = omega arith
 
 -- ---- listing
 
@@ -125,13 +134,9 @@ module _ (dictionary text out : List ℕ) where
       by-tests (λ (w : Written). numberOf (w .answer) ≡ 30 → readListing D text ≡ faulty (offsetOf (w .answer)))
       (λ z. absurd (omega arith)) (λ z. absurd (omega arith)) (λ a b. go (readListing D text))
     where
-      delivered : (k : List Instr) → numberOf (deliver (kernelOf D k) out .answer) ≡ 30 → ⊥
-      unfolding deliver
-      delivered k z = absurd (omega arith)
-
       go : (q : Listing) → numberOf (readAs D out q .answer) ≡ 30 → q ≡ faulty (offsetOf (readAs D out q .answer))
       go (faulty from) z = refl
-      go (listed k) z = absurd (delivered k z)
+      go (listed k) z = absurd (deliver-thirty (kernelOf D k) out z)
 
   module _ (r : ℕ) (out′ : List ℕ) (p : ReadPromise dictionary text out r out′) where
     read-written : (w : Reads) → result r out′ ≡ kernelOf D (w .instrs)
