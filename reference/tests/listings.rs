@@ -8,7 +8,9 @@ use spokeshaver_reference::generate::{
     case, every_listing_case, lent, perform, Call, Reference, CALLS,
 };
 use spokeshaver_reference::listing::{listing, read};
-use spokeshaver_reference::rules::{read_kernel, Accepts, KERNEL_INSTRUCTIONS};
+use spokeshaver_reference::operations::Operation;
+use spokeshaver_reference::rules::{judge_word, read_kernel, Accepts, KERNEL_INSTRUCTIONS};
+use spokeshaver_reference::words::{shorten, LongWord};
 use std::collections::{BTreeMap, BTreeSet};
 
 const CASES: u64 = 3_000;
@@ -155,6 +157,52 @@ fn read_and_listed() {
     println!("{offsets:?}");
     assert_eq!(answers.keys().copied().collect::<Vec<u8>>(), [0, 1, 2, 14, 30]);
     assert!(answers[&30].len() > 100);
+}
+
+/// The word of the six lines at the front of a text, and whether they say that it is short; only
+/// its form is looked at. None where the text has no such lines.
+fn word_of(text: &[u8]) -> Option<(LongWord, bool)> {
+    let lines: Vec<&str> = std::str::from_utf8(text).ok()?.lines().take(6).collect();
+    let &[_, form, w0, w1, w2, w3] = &lines[..] else { return None };
+    let mut bytes = Vec::new();
+    for line in [w0, w1, w2, w3] {
+        let digits = line.get(3..).filter(|digits| digits.len() == 8)?;
+        bytes.extend(u32::from_str_radix(digits, 16).ok()?.to_le_bytes());
+    }
+    Some((LongWord::from_bytes(&bytes), form == "form=short"))
+}
+
+/// Why the bench would refuse that word in a kernel: 4 and 6 to 11, 5 for bit 29, 13 where it is
+/// to be short and cannot be, 12 for a branch. 0 for none of these.
+fn reason(word: LongWord, is_short: bool, dictionary: &Dictionary) -> u8 {
+    let Some(operation) = Operation::from_opcode(word.opcode()) else { return 4 };
+    if word.field(29, 29) == 1 {
+        return 5;
+    }
+    match judge_word(word, operation) {
+        Err(number) => number,
+        Ok(()) if is_short && shorten(word, dictionary).is_none() => 13,
+        Ok(()) if operation.is_branch() => 12,
+        Ok(()) => 0,
+    }
+}
+
+/// Words that are refused for each reason come up where 30 points to.
+#[test]
+fn every_reason_comes_up() {
+    let mut reasons = BTreeSet::new();
+    for case in (16..4 * CASES * CALLS).step_by(CALLS as usize).map(case) {
+        let Call::Read { text, .. } = &case.call else { panic!("a read case") };
+        let answer = Answer::of(perform(&case, &mut Reference).answer);
+        if answer.number != 30 {
+            continue;
+        }
+        let dictionary = Dictionary::read(&case.dictionary).expect("judged");
+        if let Some((word, is_short)) = word_of(&text[answer.at..]) {
+            reasons.insert(reason(word, is_short, &dictionary));
+        }
+    }
+    assert_eq!(reasons.into_iter().collect::<Vec<u8>>(), [0, 4, 5, 6, 7, 8, 9, 10, 11, 12, 13]);
 }
 
 /// As many instructions as there may be are read, and the lines of one more are faulty.

@@ -1,9 +1,9 @@
 -- What was listed and is read again: the same instructions always, and the same bytes where each short word is the smallest. Assumes nothing.
-use mathlib.Core.Bool.{Bool, true, false, cond}
+use mathlib.Core.Bool.{Bool, true, false, cond, false≢true}
 use mathlib.Core.List.{List, [], _∷_, _++_}
 use mathlib.Core.Option.{Option, none, some}
 use mathlib.Core.Path.{_≡_, refl, sym, ap, ap₂, _∙_, subst}
-use Prim.Native.Nat.{ℕ, zero, suc, _+_, _-_, _*_, _/_, _<_, _≤_, _^_}
+use Prim.Native.Nat.{ℕ, zero, suc, _+_, _-_, _*_, _/_, _%_, _<_, _≤_, _^_}
 use native.Mathlib.Omega.{arith}
 use lib.Dec.{eqb}
 use lib.ListN.{length, take, drop, length-drop, take-append-drop}
@@ -16,19 +16,21 @@ use Rattle.paper.specs.Expand.{expand}
 use Rattle.paper.specs.Shorten.{Shortens, Least, shorten}
 use Rattle.paper.specs.Kernel.{Instr, longAndShort, judgeAt, good, parse}
 use Rattle.paper.specs.Jump.{nextOf, endFrom}
-use Rattle.paper.specs.Packing.{encode}
+use Rattle.paper.specs.Packing.{placesTaken, encode}
 use Rattle.paper.specs.Calls.{accepted}
 use Rattle.paper.specs.Listing.{listing, present, formTaken, taken, listed, readListing, shortOf, kernelOf}
-use Rattle.laws.specs.Bytes.{number-lt, bytesOf-number, bytes-drop}
+use Rattle.text.specs.Reading.{after-text}
+use Rattle.laws.specs.Bytes.{number-lt, bytesOf-number, number-bytesOf, bytes-drop}
 use Rattle.laws.specs.Names.{Laid}
 use Rattle.laws.specs.Shorten.{shorten-some, shorten-none, shorten-only}
+use Rattle.laws.specs.Items.{length-encode}
 use Rattle.laws.specs.Walk.{Each, Walked, Brings, walked}
 use Rattle.laws.specs.Judged.{Passed, asLong, asShort, judge-passed}
 use Rattle.laws.specs.Parse.{WordAt}
 use Rattle.laws.specs.Packing.{Kernel, kernel-of}
 use Rattle.listing.specs.Lines.{Shaped}
 use Rattle.listing.specs.Texts.{Readable}
-use Rattle.listing.specs.Kernels.{Takes, takes-taken, Text, text-read}
+use Rattle.listing.specs.Kernels.{Takes, takes-taken, taken-takes, one-form, Text, text-read}
 
 -- ---- an accepted kernel can be listed and read
 
@@ -155,3 +157,41 @@ same-bytes dictionary kernel bytes k e least =
     let D = dictionaryOf dictionary in
     let h = kernel-of longAndShort dictionary kernel bytes k e in
     bytes-back D kernel bytes 0 k (h .sound .laid) (h .ends) (h .words) (forms-at D kernel bytes k (h .parses)) least
+
+-- ---- what was read
+
+module _ (D : Dictionary) (kernel : List ℕ) where
+  -- A short instruction that is laid out is the smallest short word for its word.
+  own-smallest : (i : Instr) (rest : List ℕ) → Shaped i → taken D i ≡ true → drop (8 * i .place) kernel ≡ encode (shortOf D i) (i .word) ++ rest → i .size ≡ 1
+      → Least D (i .word) (numberAt kernel (8 * i .place) 8)
+  unfolding shortOf numberAt formTaken
+  own-smallest i rest h t e one = go (shorten D (i .word)) refl
+    where
+      short : present (shorten D (i .word)) ≡ true
+      short = rw one at (taken-takes D i t .form)
+
+      go : (o : Option ℕ) → shorten D (i .word) ≡ o → Least D (i .word) (number 8 (drop (8 * i .place) kernel))
+      go none q = absurd (false≢true (ap present (sym q) ∙ short))
+      go (some s) q =
+          let least = shorten-some D (i .word) s (h .fits) q in
+          let form : shortOf D i ≡ some s = rw one q in
+          let is : number 8 (drop (8 * i .place) kernel) ≡ s % 256 ^ 8 =
+          ap (number 8) (e ∙ ap (λ (o : Option ℕ). encode o (i .word) ++ rest) form) ∙ number-bytesOf 8 s rest in
+          let fits = least .is .fits in
+          let whole : s % 256 ^ 8 ≡ s = omega arith in
+          subst (Least D (i .word)) (sym (is ∙ whole)) least
+
+  smallest-from : (p : ℕ) (k : List Instr) → Laid p k → Readable D k → drop (8 * p) kernel ≡ kernelOf D k → Smallest D kernel k
+  unfolding kernelOf Laid Readable Each
+  smallest-from p [] laid able e = tt
+  smallest-from p (i ∷ k) laid able e =
+      let here : i .place ≡ p = laid .0 in
+      let size : placesTaken (shortOf D i) ≡ i .size = one-form D i (able .0) (able .1) .0 in
+      let next : 8 * p + length (encode (shortOf D i) (i .word)) ≡ 8 * nextOf i = omega (arith, length-encode (shortOf D i) (i .word)) in
+      let rest : drop (8 * nextOf i) kernel ≡ kernelOf D k =
+      ap (λ (x : ℕ). drop x kernel) (sym next) ∙ after-text kernel (encode (shortOf D i) (i .word)) (kernelOf D k) (8 * p) e in
+      (own-smallest i (kernelOf D k) (able .0) (able .1) (ap (λ (x : ℕ). drop (8 * x) kernel) here ∙ e), smallest-from (nextOf i) k (laid .2) (able .2) rest)
+
+-- Each short word of a kernel that was read is the smallest.
+pub read-smallest : (D : Dictionary) (k : List Instr) → Laid 0 k → Readable D k → Smallest D (kernelOf D k) k
+read-smallest D k laid able = smallest-from D (kernelOf D k) 0 k laid able refl

@@ -15,7 +15,7 @@ use Rattle.paper.specs.Shorten.{Shortens, shorten}
 use Rattle.paper.specs.Operation.{operation, isListed}
 use Rattle.paper.specs.Legal.{refusalOf}
 use Rattle.paper.specs.Kernel.{Instr, longAndShort, Parsed, bad, good, parse}
-use Rattle.paper.specs.Jump.{nextOf, targetsOf, targetsLand, withJumps}
+use Rattle.paper.specs.Jump.{nextOf, endFrom, targetsOf, targetsLand, withJumps}
 use Rattle.paper.specs.Packing.{placesTaken, encode}
 use Rattle.paper.specs.Calls.{judgedKernel, accepted}
 use Rattle.paper.specs.Listing.{instrText, listing, wordTaken, present, formTaken, taken, Listing, faulty, listed, linesFrom, astrayLines, landed, withTargets, readListing, shortOf, kernelOf}
@@ -77,11 +77,11 @@ module _ (D : Dictionary) (i : Instr) (e : formTaken D i ≡ true) (fits : i .wo
 
 -- ---- all of them
 
-itemsOf : Dictionary → List Instr → List Item
+abbrev pub itemsOf : Dictionary → List Instr → List Item
 itemsOf D k = map (itemOf D) k
 
-kernel-items : (D : Dictionary) (k : List Instr) → kernelOf D k ≡ allBytes (itemsOf D k)
-unfolding kernelOf allBytes itemsOf
+pub kernel-items : (D : Dictionary) (k : List Instr) → kernelOf D k ≡ allBytes (itemsOf D k)
+unfolding kernelOf allBytes
 kernel-items D [] = refl
 kernel-items D (i ∷ k) = ap (λ (l : List ℕ). encode (shortOf D i) (i .word) ++ l) (kernel-items D k)
 
@@ -89,7 +89,7 @@ pub one-form : (D : Dictionary) (i : Instr) → Shaped i → taken D i ≡ true 
 one-form D i h e = let t = taken-takes D i e in form-is D i (t .form) (h .fits) (t .long) (h .isShort) (h .size)
 
 instrs-back : (D : Dictionary) (p : ℕ) (k : List Instr) → Laid p k → Readable D k → instrsFrom p (itemsOf D k) ≡ k
-unfolding Laid Readable instrsFrom itemsOf
+unfolding Laid Readable instrsFrom
 instrs-back D p [] laid able = refl
 instrs-back D p (i ∷ k) laid able =
     let size : placesTaken (shortOf D i) ≡ i .size = one-form D i (able .0) (able .1) .0 in
@@ -102,11 +102,12 @@ instrs-back D p (i ∷ k) laid able =
     ap₂ (λ (x : Instr) (y : List Instr). x ∷ y) first ih
 
 all-formed : (D : Dictionary) (k : List Instr) → Readable D k → AllFormed longAndShort D (itemsOf D k)
-unfolding Readable AllFormed itemsOf
+unfolding Readable AllFormed
 all-formed D [] able = tt
 all-formed D (i ∷ k) able = (taken-takes D i (able .1) .legal, one-form D i (able .0) (able .1) .1, all-formed D k (able .2))
 
-few-bytes : (D : Dictionary) (k : List Instr) → length (kernelOf D k) ≤ 16 * length k
+-- At most 16 bytes each.
+pub few-bytes : (D : Dictionary) (k : List Instr) → length (kernelOf D k) ≤ 16 * length k
 unfolding kernelOf
 few-bytes D [] = omega arith
 few-bytes D (i ∷ k) =
@@ -118,9 +119,18 @@ few-bytes D (i ∷ k) =
     at-most-two none = omega arith
     at-most-two (some s) = omega arith
 
+-- Eight bytes a place.
+pub kernel-length : (D : Dictionary) (p : ℕ) (k : List Instr) → Laid p k → Readable D k → 8 * p + length (kernelOf D k) ≡ 8 * endFrom p k
+unfolding kernelOf Laid Readable endFrom
+kernel-length D p [] laid able = omega arith
+kernel-length D p (i ∷ k) laid able =
+    let size : placesTaken (shortOf D i) ≡ i .size = one-form D i (able .0) (able .1) .0 in
+    let here : i .place ≡ p = laid .0 in
+    let ih = kernel-length D (nextOf i) k (laid .2) (able .2) in
+    omega (arith, length-append (encode (shortOf D i) (i .word)) (kernelOf D k), length-encode (shortOf D i) (i .word))
+
 -- Their bytes parse to them.
 pub kernel-parses : (D : Dictionary) (k : List Instr) → length k ≤ instructionLimit → Laid 0 k → Readable D k → parse longAndShort D (kernelOf D k) ≡ good k
-unfolding itemsOf
 kernel-parses D k few laid able =
     parse-items longAndShort D (expand-operation D) (kernelOf D k) (itemsOf D k)
     (rw (length-map k (itemOf D)) few) (kernel-items D k) (all-formed D k able)

@@ -9,3 +9,4 @@ pub mod Reading
 pub mod Scanning
 pub mod Again
 pub mod Laying
+pub mod Joining

@@ -3,6 +3,7 @@ pub mod jumps;
 pub mod lay;
 pub mod lines;
 pub mod list;
+pub mod read;
 pub mod reader;
 pub mod scan;
 pub mod taken;

@@ -26,11 +26,11 @@ pub fn list_case(random: &mut Random) -> (Vec<u8>, Call) {
 pub fn read_case(random: &mut Random) -> (Vec<u8>, Call) {
     let laying = any_laying(random);
     let pair = legal_pair(random, laying);
-    let text = match random.below(8) {
-        0 | 1 => spoilt_bytes(random, listed(&pair)),
-        2 => spoilt_lines(random, listed(&pair)),
-        3 | 4 => with_refused(random, &pair),
-        5 => one_more(random, &pair),
+    let text = match random.below(80) {
+        0..=19 => spoilt_bytes(random, listed(&pair)),
+        20..=29 => spoilt_lines(random, listed(&pair)),
+        30..=49 => with_refused(random, &pair),
+        50 => one_more(random, &pair),
         _ => listed(&pair),
     };
     let out = output(random, read(&text, &pair.dictionary).map_or(8, |kernel| kernel.len()));
@@ -148,7 +148,8 @@ fn one_more(random: &mut Random, pair: &Pair) -> Vec<u8> {
     written(&all)
 }
 
-/// Every cut of a listing, with and without room; and every change of a byte of it.
+/// A listing with room for its kernel to the byte, and one byte less; every cut of it, and every
+/// change of a byte.
 pub fn every_listing_case() -> Vec<Case> {
     let mut random = Random::new(1);
     let (pair, text) = small_listing(&mut random);
@@ -161,11 +162,13 @@ pub fn every_listing_case() -> Vec<Case> {
             texts.push(changed);
         }
     }
-    let case = |text| {
-        let call = Call::Read { text, out: vec![0xEE; pair.kernel.len()] };
+    let case = |text, room| {
+        let call = Call::Read { text, out: vec![0xEE; room] };
         Case { seed: 0, dictionary: dictionary.clone(), call }
     };
-    texts.into_iter().map(case).collect()
+    let room = pair.kernel.len();
+    let too_short = case(text, room - 1);
+    texts.into_iter().map(|text| case(text, room)).chain([too_short]).collect()
 }
 
 /// A kernel of three instructions or so with long and short words, and its listing.
