@@ -13,7 +13,7 @@ ghost use Rattle.front.specs.Writing.{mostBytes};
 pub const LINES_BYTES: usize = 114;
 
 // Writes a report's lines, and answers how many bytes they have.
-fn put_report(out: &mut [u8], r: Report) -> usize
+pub fn put_report(out: &mut [u8], r: Report) -> usize
     requires { ⌜ mostBytes ≤ length (now out) ⌝ }
     ensures { λ n. ⌜ (n ≡ length (printedText (reportIs r))) × (n ≤ mostBytes) × (now (out .exit) ≡ printedText (reportIs r) ++ drop n (now (out .entry))) ⌝ }
 {
