@@ -1,0 +1,2 @@
+-- What the program that reads listings back rests on.
+pub mod Counted
