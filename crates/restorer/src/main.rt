@@ -11,7 +11,7 @@ use words::answer::Answer;
 use words::limits::DICTIONARY_BYTES;
 use words::limits::KERNEL_BYTES;
 
-// One byte more than a listing can have: 70 for each of 4,096 instructions. What follows in a longer text is not read, and the text is refused.
+// One byte more than a listing can have, which is 70 for each of 4,096 instructions. What follows in a longer text changes nothing (`read-cut`) and stays unread.
 const TEXT_BYTES: usize = 286721;
 
 // The four lines of a refusal.
