@@ -4,6 +4,7 @@ pub mod lay;
 pub mod lines;
 pub mod list;
 pub mod read;
+pub mod reader;
 pub mod scan;
 pub mod taken;
 pub mod write;

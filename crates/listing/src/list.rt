@@ -1,8 +1,8 @@
 // Listing a kernel, for all inputs. A refusal leaves the output as it was.
+use crate::reader::read_at;
 use crate::write::lines_length;
 use crate::write::put_lines;
 use kernel::accept::accept;
-use kernel::fetch::word_at;
 use kernel::walk::Said;
 use words::answer::Answer;
 use words::limits::PLACES;
@@ -20,12 +20,12 @@ fn text_length(dictionary: &[u8], kernel: &[u8]) -> usize
     requires { ⌜ Listable (now dictionary) (now kernel) ⌝ }
     ensures { λ n. ⌜ n ≡ length (listing (instrsIn (now (dictionary .entry)) (now (kernel .entry)))) ⌝ }
 {
-    let mut from: usize = 0;
+    let mut place: u64 = 0;
     let mut n: usize = 0;
-    while from < kernel.len() {
-        let f = word_at(dictionary, kernel, from);
-        n += lines_length((from / 8) as u64, f.size);
-        from += 8 * (f.size as usize);
+    while 8 * place < kernel.len() as u64 {
+        let f = read_at(kernel, place, dictionary);
+        n += lines_length(place, f.size);
+        place += f.size;
     }
     n
 }
@@ -36,12 +36,12 @@ fn write_text(dictionary: &[u8], kernel: &[u8], out: &mut [u8])
     requires { ⌜ length (listing (instrsIn (now dictionary) (now kernel))) ≤ length (now out) ⌝ }
     ensures { λ _. ⌜ now (out .exit) ≡ sets (now (out .entry)) 0 (listing (instrsIn (now (dictionary .entry)) (now (kernel .entry)))) ⌝ }
 {
-    let mut from: usize = 0;
+    let mut place: u64 = 0;
     let mut at: usize = 0;
-    while from < kernel.len() {
-        let f = word_at(dictionary, kernel, from);
-        at = put_lines(out, at, (from / 8) as u64, f.size, f.word);
-        from += 8 * (f.size as usize);
+    while 8 * place < kernel.len() as u64 {
+        let f = read_at(kernel, place, dictionary);
+        at = put_lines(out, at, place, f.size, f.word);
+        place += f.size;
     }
 }
 

@@ -1,28 +1,29 @@
--- The loop's invariant: the instructions before `from` have n bytes of lines. The measure is what is left of the kernel. Assumes nothing.
-use mathlib.Core.Path.{_≡_, refl, sym, ap, _∙_}
-use Prim.Native.Nat.{_+_, _-_, _*_, _/_, _%_, _^_, _≤_, _<_}
+-- The loop's invariant: the instructions before `place` have n bytes of lines. The measure is what is left of the kernel. Assumes nothing.
+use Prim.Native.Nat.{_+_, _-_, _*_, _≤_}
 use native.Mathlib.Omega.{arith}
-use lib.ListN.{length, length-set}
-use lib.Seq.{sets}
-use denote.Ref.{now}
+use lib.ListN.{length}
 use borrow.Author.Needs.{needs}
-use Rattle.paper.specs.Dictionary.{dictionaryOf}
-use Rattle.words.specs.Words.{toWord}
-use Rattle.listing.specs.Passing.{next-whole, next-stands, Counting, counting-start, counting-next, counting-end}
+use Rattle.listing.specs.Passing.{next-whole, Counting, counting-start, counting-end}
+use Rattle.listing.specs.Places.{counting-inside, counting-place}
 use Rattle.listing.proofs.list.text_length.Statement.{statement}
 use Rattle.listing.proofs.list.text_length.Tie as tie
 
 abbrev Inv-loop : tie.InvT-loop
-Inv-loop dictionary kernel from₀ n₀ from n = (from ≤ length kernel) × Counting dictionary kernel from n
+Inv-loop dictionary kernel place₀ n₀ place n = (8 * place ≤ length kernel) × Counting dictionary kernel (8 * place) n
 
 abbrev μ-loop : tie.MeasureT-loop
-μ-loop dictionary kernel from₀ n₀ from n = length kernel - from
+μ-loop dictionary kernel place₀ n₀ place n = length kernel - 8 * place
 
 loop-holds : tie.Need-loop-holds Inv-loop μ-loop
 loop-holds c = (search needs, counting-start _ _ (c .before .before .pre))
 
-word-at-requires : tie.Need-word-at-requires Inv-loop μ-loop
-word-at-requires c κs =
+mul-loop : tie.Need-mul-loop Inv-loop μ-loop
+mul-loop c =
+    let k = c .before .before .before .pre in
+    omega (arith, c .loop .inv .0, k .sizes .kernel-most)
+
+read-at-requires : tie.Need-read-at-requires Inv-loop μ-loop
+read-at-requires c κs =
     let k = c .before .before .before .before .pre in
     let i = c .before .loop .inv .1 in
     (k .sizes .dictionary-is, next-whole _ _ _ (i .rest) (i .stands) (c .loop-test .taken))
@@ -36,27 +37,24 @@ add-n c =
     let i = c .before .before .before .loop .inv in
     omega (arith, i .0, i .1 .few, k .sizes .kernel-most, c .lines-length .ensures .1)
 
-mul-from : tie.Need-mul-from Inv-loop μ-loop
-mul-from c = let f = c .before .word-at .ensures in omega (arith, f .few)
-
-add-from : tie.Need-add-from Inv-loop μ-loop
-add-from c =
-    let k = c .before .before .before .before .before .before .pre in
-    let f = c .before .word-at .ensures in
-    omega (arith, c .before .before .loop-test .taken, f .few, k .sizes .kernel-most)
+add-place : tie.Need-add-place Inv-loop μ-loop
+add-place c =
+    let k = c .before .before .before .before .before .before .before .pre in
+    let f = c .before .before .read-at .ensures in
+    omega (arith, c .before .before .before .loop-test .taken, f .few, k .sizes .kernel-most)
 
 loop-less : tie.Need-loop-less Inv-loop μ-loop
 loop-less c =
-    let f = c .before .word-at .ensures in
-    omega (arith, c .before .before .loop-test .taken, f .some)
+    let f = c .before .before .read-at .ensures in
+    omega (arith, c .before .before .before .loop-test .taken, f .some)
 
 loop-again : tie.Need-loop-again Inv-loop μ-loop
 loop-again c =
-    let i = c .before .before .before .loop .inv .1 in
-    let t = c .before .before .loop-test .taken in
-    let f = c .before .word-at .ensures in
-    let l = c .lines-length .ensures in
-    (next-stands _ _ _ (i .rest) (i .stands) t _ _ f .room, counting-next _ _ _ _ i t _ _ f _ (l .0) (l .1))
+    let i = c .before .before .before .before .loop .inv .1 in
+    let t = c .before .before .before .loop-test .taken in
+    let f = c .before .before .read-at .ensures in
+    let l = c .before .lines-length .ensures in
+    (counting-inside _ _ _ t _ _ f _ i, counting-place _ _ _ t _ _ f _ _ i (l .0) (l .1))
 
 returns : tie.Need-returns Inv-loop μ-loop
 returns c = counting-end _ _ _ _ (c .before .loop .inv .1) (c .loop-test .left)
@@ -68,11 +66,11 @@ text-length-spec =
     Inv-loop
     μ-loop
     loop-holds
-    word-at-requires
+    mul-loop
+    read-at-requires
     lines-length-requires
     add-n
-    mul-from
-    add-from
+    add-place
     loop-less
     loop-again
     returns)

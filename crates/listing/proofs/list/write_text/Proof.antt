@@ -1,27 +1,30 @@
--- The loop's invariant: the lines of the instructions before `from` are written before `at`. The measure is what is left of the kernel. Assumes nothing.
-use mathlib.Core.Path.{_≡_, refl, sym, ap, _∙_}
-use Prim.Native.Nat.{_+_, _-_, _*_, _/_, _%_, _^_, _≤_, _<_}
+-- The loop's invariant: the lines of the instructions before `place` are written before `at`. The measure is what is left of the kernel. Assumes nothing.
+use mathlib.Core.Path.{_≡_, refl, _∙_}
+use Prim.Native.Nat.{_+_, _-_, _*_, _≤_}
 use native.Mathlib.Omega.{arith}
-use lib.ListN.{length, length-set}
-use lib.Seq.{sets}
-use denote.Ref.{now}
+use lib.ListN.{length}
 use borrow.Author.Needs.{needs}
-use Rattle.words.specs.Words.{toWord}
-use Rattle.listing.specs.Passing.{next-whole, next-stands, Writing, writing-start, writing-room, writing-next, writing-end}
+use Rattle.listing.specs.Passing.{next-whole, Writing, writing-start, writing-end}
+use Rattle.listing.specs.Places.{writing-inside, room-place, writing-place}
 use Rattle.listing.proofs.list.write_text.Statement.{statement}
 use Rattle.listing.proofs.list.write_text.Tie as tie
 
 abbrev Inv-loop : tie.InvT-loop
-Inv-loop dictionary kernel out₀ from₀ at₀ out from at = (from ≤ length kernel) × (length out ≡ length out₀) × Writing dictionary kernel out₀ out from at
+Inv-loop dictionary kernel out₀ place₀ at₀ out place at = (8 * place ≤ length kernel) × (length out ≡ length out₀) × Writing dictionary kernel out₀ out (8 * place) at
 
 abbrev μ-loop : tie.MeasureT-loop
-μ-loop dictionary kernel out₀ from₀ at₀ out from at = length kernel - from
+μ-loop dictionary kernel out₀ place₀ at₀ out place at = length kernel - 8 * place
 
 loop-holds : tie.Need-loop-holds Inv-loop μ-loop
 loop-holds c = (search needs, refl, writing-start _ _ _ (c .before .before .before .pre .0))
 
-word-at-requires : tie.Need-word-at-requires Inv-loop μ-loop
-word-at-requires c κs =
+mul-loop : tie.Need-mul-loop Inv-loop μ-loop
+mul-loop c =
+    let k = c .before .before .before .before .pre .0 in
+    omega (arith, c .loop .inv .0, k .sizes .kernel-most)
+
+read-at-requires : tie.Need-read-at-requires Inv-loop μ-loop
+read-at-requires c κs =
     let k = c .before .before .before .before .before .pre .0 in
     let i = c .before .loop .inv .2 in
     (k .sizes .dictionary-is, next-whole _ _ _ (i .rest) (i .stands) (c .loop-test .taken))
@@ -30,30 +33,27 @@ put-lines-requires : tie.Need-put-lines-requires Inv-loop μ-loop
 put-lines-requires c κs =
     let l = c .before .before .before .loop .inv in
     let t = c .before .before .loop-test .taken in
-    let f = c .before .word-at .ensures in
-    writing-room _ _ _ _ _ _ (l .2) t _ _ f (omega (arith, l .1, c .before .before .before .before .before .before .before .pre .1))
+    let f = c .before .read-at .ensures in
+    room-place _ _ _ t _ _ f _ _ _ (l .2) (omega (arith, l .1, c .before .before .before .before .before .before .before .pre .1))
 
-mul-from : tie.Need-mul-from Inv-loop μ-loop
-mul-from c = let f = c .before .before .before .before .word-at .ensures in omega (arith, f .few)
-
-add-from : tie.Need-add-from Inv-loop μ-loop
-add-from c =
-    let k = c .before .before .before .before .before .before .before .before .before .before .pre .0 in
-    let f = c .before .before .before .before .word-at .ensures in
-    omega (arith, c .before .before .before .before .before .loop-test .taken, f .few, k .sizes .kernel-most)
+add-place : tie.Need-add-place Inv-loop μ-loop
+add-place c =
+    let k = c .before .before .before .before .before .before .before .before .before .before .before .pre .0 in
+    let f = c .before .before .before .before .before .read-at .ensures in
+    omega (arith, c .before .before .before .before .before .before .loop-test .taken, f .few, k .sizes .kernel-most)
 
 loop-less : tie.Need-loop-less Inv-loop μ-loop
 loop-less c =
-    let f = c .before .before .before .before .word-at .ensures in
-    omega (arith, c .before .before .before .before .before .loop-test .taken, f .some)
+    let f = c .before .before .before .before .before .read-at .ensures in
+    omega (arith, c .before .before .before .before .before .before .loop-test .taken, f .some)
 
 loop-again : tie.Need-loop-again Inv-loop μ-loop
 loop-again c =
-    let l = c .before .before .before .before .before .before .loop .inv in
-    let t = c .before .before .before .before .before .loop-test .taken in
-    let f = c .before .before .before .before .word-at .ensures in
-    let p = c .before .before .put-lines in
-    (next-stands _ _ _ (l .2 .rest) (l .2 .stands) t _ _ f .room, p .kept .0 ∙ l .1, writing-next _ _ _ _ _ _ (l .2) t _ _ f _ _ (p .ensures .0) (p .ensures .1))
+    let l = c .before .before .before .before .before .before .before .loop .inv in
+    let t = c .before .before .before .before .before .before .loop-test .taken in
+    let f = c .before .before .before .before .before .read-at .ensures in
+    let p = c .before .before .before .put-lines in
+    (writing-inside _ _ _ t _ _ f _ _ _ (l .2), p .kept .0 ∙ l .1, writing-place _ _ _ t _ _ f _ _ _ (l .2) _ _ (p .ensures .0) (p .ensures .1))
 
 same-length : tie.Need-same-length Inv-loop μ-loop
 same-length c = c .before .loop .inv .1
@@ -68,10 +68,10 @@ write-text-spec =
     Inv-loop
     μ-loop
     loop-holds
-    word-at-requires
+    mul-loop
+    read-at-requires
     put-lines-requires
-    mul-from
-    add-from
+    add-place
     loop-less
     loop-again
     same-length
