@@ -25,6 +25,7 @@ pub mod Program
 pub mod Calls
 pub mod Text
 pub mod Log
+pub mod Listing
 pub mod Assembler
 pub mod Sheet
 pub mod SheetMore
@@ -35,3 +36,4 @@ pub mod SheetForward
 pub mod SheetHolds
 pub mod SheetPairs
 pub mod SheetLogs
+pub mod SheetListings

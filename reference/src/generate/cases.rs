@@ -6,6 +6,7 @@ use super::instructions::legal_word;
 use super::kernels::{
     any_pair, branch_word, forward_pair, legal_pair, with_other_indices, Laying, Pair,
 };
+use super::listings::{list_case, read_case};
 use super::logs::{log_append_case, log_read_case, log_run_case, log_runs_case};
 use super::pairs::pair_case;
 use super::states::{mask, registers, state_for};
@@ -46,6 +47,8 @@ pub fn case(seed: u64) -> Case {
         11 => log_read_case(random),
         12 => log_runs_case(random),
         13 => log_run_case(random),
+        15 => list_case(random),
+        16 => read_case(random),
         _ => forward_case(random),
     };
     Case { seed, dictionary, call }
@@ -91,7 +94,7 @@ fn unpack_case(random: &mut Random) -> (Vec<u8>, Call) {
 }
 
 /// An output for a result of so many bytes: exact, too long, or too short.
-fn output(random: &mut Random, result: usize) -> Vec<u8> {
+pub fn output(random: &mut Random, result: usize) -> Vec<u8> {
     let length = match random.below(8) {
         0 => 0,
         1 => result.saturating_sub(1),
