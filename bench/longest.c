@@ -1,4 +1,4 @@
-/* Measures how the time of check, pack, run and pair grows with a kernel's instructions, and how deep the stack of each call goes on the longest kernel
+/* Measures how the time of check, pack, run, pair, list and read grows with a kernel's instructions, and how deep the stack of each call goes on the longest kernel
  * (docs/PERFORMANCE.md). Times are medians of RUNS calls. The exit status is 1 if a call answers otherwise than it must. */
 #define _GNU_SOURCE
 #include "spokeshaver.h"
@@ -18,7 +18,9 @@ static uint8_t out[SPOKESHAVER_KERNEL_MOST];
 static uint8_t packed[SPOKESHAVER_KERNEL_MOST];
 static uint8_t registers[SPOKESHAVER_REGISTER_BYTES];
 static uint8_t state[SPOKESHAVER_STATE_BYTES];
-static size_t kernel_len, packed_len;
+static uint8_t text[SPOKESHAVER_LINES_MOST * SPOKESHAVER_INSTRUCTIONS_MOST];
+static uint8_t listed[sizeof text];
+static size_t kernel_len, packed_len, listed_len;
 
 static void put(uint8_t *to, uint32_t number) {
     for (int i = 0; i < 4; i++) to[i] = (uint8_t)(number >> 8 * i);
@@ -52,6 +54,9 @@ static uint64_t start(void) { return spokeshaver_start(0xFFFF, 0, 0, state, size
 static uint64_t step(void) {
     return spokeshaver_step(dictionary, sizeof dictionary, kernel, kernel_len, registers, sizeof registers, state, sizeof state);
 }
+/* The packed kernel's listing, which has the most short words. */
+static uint64_t list(void) { return spokeshaver_list(dictionary, sizeof dictionary, packed, packed_len, text, sizeof text); }
+static uint64_t read_back(void) { return spokeshaver_read(dictionary, sizeof dictionary, listed, listed_len, out, sizeof out); }
 /* As many steps as there are instructions: each is made once, and the place is the start's again. */
 static uint64_t run(void) {
     return spokeshaver_run(dictionary, sizeof dictionary, kernel, kernel_len, kernel_len / SPOKESHAVER_LONG_WORD_BYTES, registers, sizeof registers, state,
@@ -65,12 +70,13 @@ struct call {
     unsigned number;
 };
 static const struct call timed[] = {
-    {"check", check, SPOKESHAVER_ACCEPTED}, {"pack", pack, SPOKESHAVER_ACCEPTED}, {"run", run, SPOKESHAVER_SPENT}, {"pair", pair, SPOKESHAVER_ACCEPTED}};
+    {"check", check, SPOKESHAVER_ACCEPTED}, {"pack", pack, SPOKESHAVER_ACCEPTED}, {"run", run, SPOKESHAVER_SPENT}, {"pair", pair, SPOKESHAVER_ACCEPTED},
+    {"list", list, SPOKESHAVER_ACCEPTED}, {"read", read_back, SPOKESHAVER_ACCEPTED}};
 static const struct call all[] = {
     {"check", check, SPOKESHAVER_ACCEPTED},     {"decode", decode, SPOKESHAVER_ACCEPTED}, {"pack", pack, SPOKESHAVER_ACCEPTED},
     {"unpack", unpack, SPOKESHAVER_ACCEPTED},   {"shorten", shorten, SPOKESHAVER_ACCEPTED}, {"expand", expand, SPOKESHAVER_ACCEPTED},
     {"start", start, SPOKESHAVER_ACCEPTED},     {"step", step, SPOKESHAVER_ACCEPTED},     {"run", run, SPOKESHAVER_SPENT},
-    {"pair", pair, SPOKESHAVER_ACCEPTED},
+    {"pair", pair, SPOKESHAVER_ACCEPTED},       {"list", list, SPOKESHAVER_ACCEPTED},     {"read", read_back, SPOKESHAVER_ACCEPTED},
 };
 
 static void must(const struct call *call, uint64_t answer) {
@@ -79,13 +85,16 @@ static void must(const struct call *call, uint64_t answer) {
     exit(1);
 }
 
-/* The state at the start, and the kernel packed. */
+/* The state at the start, the kernel packed, and that listed. */
 static void make_ready(size_t instructions) {
     make_kernel(instructions);
     start();
     uint64_t answer = pack();
     packed_len = SPOKESHAVER_COUNT(answer);
     memcpy(packed, out, packed_len);
+    answer = list();
+    listed_len = SPOKESHAVER_COUNT(answer);
+    memcpy(listed, text, listed_len);
 }
 
 /* ---- times */
@@ -113,7 +122,7 @@ static double median(const struct call *call) {
 
 static void print_times(void) {
     static const size_t sizes[] = {256, 1024, SPOKESHAVER_INSTRUCTIONS_MOST};
-    printf("instructions  check, us  pack, us  run, us (as many steps)  pair, us\n");
+    printf("instructions  check, us  pack, us  run, us (as many steps)  pair, us  list, us  read, us\n");
     for (size_t i = 0; i < sizeof sizes / sizeof *sizes; i++) {
         make_ready(sizes[i]);
         printf("%12zu", sizes[i]);

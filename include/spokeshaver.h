@@ -1,4 +1,4 @@
-/* Spokeshaver: decode, check, pack, unpack and run small graphics kernels, and keep a log of their runs.
+/* Spokeshaver: decode, check, pack, unpack, list and run small graphics kernels, and keep a log of their runs.
  *
  * Link with libspokeshaver.a (x86-64 Linux; it needs only memcpy and memset of the C library). No call keeps anything between calls, takes memory,
  * writes a file or fails to return. Every call's answer, and every byte of what is lent to it, is proved to be what the rules say, for all inputs.
@@ -19,6 +19,7 @@
  *   registers   4,096 bytes: r0 to r127, 32 bytes each
  *   state       58 bytes, below
  *   log         up to 4,294,967,295 bytes, of which the first `count` are the log, below
+ *   text        a listing to read, of any length, below
  *   A place is an offset in a kernel in units of 8 bytes.
  *
  * The state's bytes, all numbers 16 bits little-endian
@@ -56,12 +57,13 @@ extern "C" {
 #define SPOKESHAVER_BUDGET_MOST 1000000
 #define SPOKESHAVER_LONG_WORD_BYTES 16
 #define SPOKESHAVER_SHORT_WORD_BYTES 8
+#define SPOKESHAVER_LINES_MOST 70 /* of one instruction in a listing */
 
 /* An answer is one number; these take it apart.
  *   NUMBER  a verdict or a refusal, below
  *   OFFSET  of a refused instruction, in bytes from the kernel's start; 0 for 1, 2, 13 to 16, 32, decode's 3 at or past the end, and every verdict;
- *           for 31 an instruction's number, counted from 0
- *   COUNT   instructions (check); 1 or 0 (forward); bytes of the result (pack, unpack, shorten, expand), of the instruction (decode) or of the kernel
+ *           for 30 in bytes from the text's start, for 31 an instruction's number, counted from 0
+ *   COUNT   instructions (check); 1 or 0 (forward); bytes of the result (pack, unpack, shorten, expand, list, read), of the instruction (decode) or of the kernel
  *           to load (pair, refusals too); steps made (run, 22 too); bytes of a log (log_read, log_append, log_run) or its records (log_runs); 0 for
  *           start, step and every refusal but pair's, a run's 22, and 14 of a log, which gives the count back */
 #define SPOKESHAVER_NUMBER(answer) ((unsigned)((uint64_t)(answer) & 0xFF))
@@ -93,6 +95,7 @@ extern "C" {
 #define SPOKESHAVER_BAD_ADDRESS 22      /* step, run: an operand by address is misaligned, outside of the registers, or spans more than two of them */
 #define SPOKESHAVER_NO_SHORT_WORD 13    /* shorten: no short word expands to it */
 #define SPOKESHAVER_NO_LOG 32           /* logs: the text is no beginning of a log, or a value is out of its range; judged before 14 */
+#define SPOKESHAVER_NO_LISTING 30       /* read: the text is the listing of no kernel that is accepted; judged before 14 */
 #define SPOKESHAVER_OUTPUT_TOO_SHORT 14 /* the output is shorter than the result */
 #define SPOKESHAVER_DIFFERS 31          /* pair: the sent kernel is another program than the long one */
 
@@ -172,6 +175,26 @@ uint64_t spokeshaver_log_append(uint8_t *log, size_t log_len, uint64_t count, ui
 /* Appends what a run answered and the state that it left: its NUMBER, its COUNT, the state's place and how many bits of the awake mask are set. Nothing else of
  * answer and state is looked at. As log_append; 1 also for a state of another size. */
 uint64_t spokeshaver_log_run(uint8_t *log, size_t log_len, uint64_t count, uint64_t answer, const uint8_t *state, size_t state_len);
+
+/* A listing of a kernel: six lines for each instruction, in the kernel's order, a newline after each and nothing else.
+ *   place=0          its own place, in decimal without leading zeros
+ *   form=short       short or long
+ *   w0=00600040      the four dwords of the expanded word, the lowest first, eight lowercase hex digits each
+ *   w1=208014a5
+ *   w2=008d0040
+ *   w3=008d0060
+ * An instruction has at most 70 bytes of lines. The empty kernel has the empty text. */
+
+/* Lists a kernel. ACCEPTED with the text's bytes as count, which stand at the front of `out`; SPOKESHAVER_LINES_MOST bytes for each instruction that check counts are
+ * always enough. Or what check refuses, 14. */
+uint64_t spokeshaver_list(const uint8_t *dictionary, size_t dictionary_len, const uint8_t *kernel, size_t kernel_len, uint8_t *out, size_t out_len);
+
+/* Reads a listing. ACCEPTED with the kernel's bytes as count, each short word being the smallest that expands to its word: the listed kernel itself where its short
+ * words are the smallest, and always a kernel with the same instructions at the same places. Listing it gives the text. 16 bytes for each six lines are enough. Or 1
+ * (the dictionary's size), 2, NO_LISTING, 14. The offset of NO_LISTING is the byte of the text where the first faulty instruction's lines begin: they are not in this form,
+ * or the text ends inside of them, or the word is one that the bench refuses (4 to 11, or bit 29 is set) or is to be short and cannot be, or it would be the 4,097th. Jumps
+ * that land nowhere come after all the rest: the lines of the first one. */
+uint64_t spokeshaver_read(const uint8_t *dictionary, size_t dictionary_len, const uint8_t *text, size_t text_len, uint8_t *out, size_t out_len);
 
 #ifdef __cplusplus
 }

@@ -2,7 +2,7 @@
  * comparing program cannot link it.
  *
  * A request is ten numbers of 64 bits in the machine's order, and then bytes: which call, five plain arguments, the lengths of four buffers; the
- * buffers. The buffers are the dictionary, the kernel or word, the output, the registers, the sent kernel or the log, and the state; one that the call does not take has length 0.
+ * buffers. The buffers are the dictionary, the kernel, word or text, the output, the registers, the sent kernel or the log, and the state; one that the call does not take has length 0.
  * A reply is two numbers and then bytes: the answer; 0, or what the call touched though it must not; the last two buffers as the call left them.
  *
  * Each buffer ends where a page begins that may be neither read nor written, so that one byte too far ends the program. What lies before it, and what
@@ -17,7 +17,7 @@
 
 enum { DICTIONARY, KERNEL, OUT, STATE, BUFFERS };
 enum { CALL, FIRST, SECOND, THIRD, FOURTH, FIFTH, LENGTHS, NUMBERS = LENGTHS + BUFFERS };
-enum { ROOM = 1 << 17, MARGIN = 64, MARK = 0xA5 };
+enum { ROOM = 1 << 19, MARGIN = 64, MARK = 0xA5 };
 
 /* Where each buffer's room ends, and what was lent in it, the margin before it included. */
 static uint8_t *end[BUFFERS];
@@ -75,6 +75,8 @@ static uint64_t call(const uint64_t *number) {
     case 12: return spokeshaver_log_runs(out, o, number[FIRST]);
     case 13: return spokeshaver_log_run(out, o, number[FIRST], number[SECOND], state, s);
     case 14: return spokeshaver_forward(dictionary, d, kernel, k);
+    case 15: return spokeshaver_list(dictionary, d, kernel, k, out, o);
+    case 16: return spokeshaver_read(dictionary, d, kernel, k, out, o);
     default: return UINT64_MAX;
     }
 }

@@ -6,6 +6,7 @@ use crate::answers::{packed, require, Refusal, ACCEPTED, BAD_ADDRESS, DIFFERS, E
 use crate::channels::Registers;
 use crate::dictionary::{Dictionary, DICTIONARY_BYTES};
 use crate::engine::{self, Ran};
+use crate::listing::{self, NO_LISTING};
 use crate::machine::{self, Stepped};
 use crate::operations::Operation;
 use crate::packing;
@@ -92,6 +93,27 @@ pub fn pair(dictionary: &[u8], long: &[u8], sent: &[u8]) -> u64 {
         None => packed(ACCEPTED, 0, sent.len()),
         Some(number) => packed(DIFFERS, number, long.len()),
     }
+}
+
+/// Lists a kernel. The count is the text's bytes.
+pub fn list(dictionary: &[u8], kernel: &[u8], out: &mut [u8]) -> u64 {
+    answer(list_outcome(dictionary, kernel, out))
+}
+
+fn list_outcome(dictionary: &[u8], kernel: &[u8], out: &mut [u8]) -> Outcome {
+    let (_, program) = judged_kernel(dictionary, kernel, Accepts::LongAndShort)?;
+    deliver(listing::listing(&program).as_bytes(), out)
+}
+
+/// Reads a listing. The count is the kernel's bytes.
+pub fn read(dictionary: &[u8], text: &[u8], out: &mut [u8]) -> u64 {
+    answer(read_outcome(dictionary, text, out))
+}
+
+fn read_outcome(dictionary: &[u8], text: &[u8], out: &mut [u8]) -> Outcome {
+    let dictionary = judged_dictionary(dictionary, true)?;
+    let faulty = |at| Refusal { number: NO_LISTING, at };
+    deliver(&listing::read(text, &dictionary).map_err(faulty)?, out)
 }
 
 /// Shortens one long word. The count is 8.

@@ -9,6 +9,7 @@ mod damage;
 mod dictionaries;
 mod instructions;
 mod kernels;
+mod listings;
 mod logs;
 mod pairs;
 mod states;
@@ -19,10 +20,11 @@ use crate::log;
 use std::collections::BTreeSet;
 
 pub use cases::case;
+pub use listings::every_listing_case;
 pub use logs::every_log_case;
 
 /// How many calls there are. So many seeds in a row give each of them once.
-pub const CALLS: u64 = 15;
+pub const CALLS: u64 = 17;
 
 /// One call with all its inputs. Vectors that the call may write are lent as they stand here.
 #[derive(Clone, PartialEq, Eq, Debug)]
@@ -51,6 +53,8 @@ pub enum Call {
     LogRead { log: Vec<u8>, count: u64 },
     LogRuns { log: Vec<u8>, count: u64 },
     LogRun { log: Vec<u8>, count: u64, answer: u64, state: Vec<u8> },
+    List { kernel: Vec<u8>, out: Vec<u8> },
+    Read { text: Vec<u8>, out: Vec<u8> },
 }
 
 impl Call {
@@ -71,6 +75,8 @@ impl Call {
             Call::LogRead { .. } => "log_read",
             Call::LogRuns { .. } => "log_runs",
             Call::LogRun { .. } => "log_run",
+            Call::List { .. } => "list",
+            Call::Read { .. } => "read",
         }
     }
 }
@@ -117,6 +123,8 @@ impl Bench for Reference {
             Call::LogRead { count, .. } => log::log_read(out, *count),
             Call::LogRuns { count, .. } => log::log_runs(out, *count),
             Call::LogRun { count, answer, .. } => log::log_run(out, *count, *answer, state),
+            Call::List { kernel, .. } => calls::list(dictionary, kernel, out),
+            Call::Read { text, .. } => calls::read(dictionary, text, out),
         }
     }
 }
@@ -134,6 +142,8 @@ pub fn lent(case: &Case) -> Outcome {
     match &case.call {
         Call::Pack { out, .. }
         | Call::Unpack { out, .. }
+        | Call::List { out, .. }
+        | Call::Read { out, .. }
         | Call::Shorten { out, .. }
         | Call::Expand { out, .. } => before.out = out.clone(),
         // Nothing is written there: it must stay as it is.
@@ -176,7 +186,8 @@ pub fn possible(name: &str) -> BTreeSet<u8> {
         "check" | "forward" => with(&[0, 17]),
         "ahead" => [0].into(),
         "pack" => with(&[0, 14]),
-        "unpack" => with(&[0, 14, 17]),
+        "unpack" | "list" => with(&[0, 14, 17]),
+        "read" => [0, 1, 2, 14, 30].into(),
         "shorten" => [0, 1, 2, 4, 5, 13, 14].into(),
         "expand" => [0, 1, 2, 4, 5, 14].into(),
         "decode" => (0..=11).collect(),

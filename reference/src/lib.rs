@@ -14,6 +14,7 @@ mod decoded;
 pub mod dictionary;
 pub mod engine;
 pub mod generate;
+pub mod listing;
 pub mod locations;
 pub mod log;
 pub mod look_up;

@@ -51,7 +51,7 @@ pub record Fine (numbers : ℕ → Bool) (a : Answer) : Type 0 where
   pub small : Small a
 
 -- A refusal of up to 17 at an offset inside the longest kernel or at its end.
-fine-no : (numbers : ℕ → Bool) (number offset : ℕ) → numbers number ≡ true → number ≤ 17 → offset ≤ kernelBytes → Fine numbers (refusal number offset)
+pub fine-no : (numbers : ℕ → Bool) (number offset : ℕ) → numbers number ≡ true → number ≤ 17 → offset ≤ kernelBytes → Fine numbers (refusal number offset)
 fine-no numbers number offset l n o = record { listed = l; small = small-refusal number offset (omega arith) (omega arith) }
 
 -- A refusal of up to 31 that counts up to a kernel's bytes.
@@ -69,7 +69,7 @@ kernel-no : (others : ℕ → Bool) (number : ℕ) → (number ≡ 17 → others
 kernel-no others number l (inl low) = rw (le-leb 1 number (low .0), le-leb number 12 (low .1))
 kernel-no others number l (inr e) = rw e (l e)
 
-fine-bad : (others : ℕ → Bool) (number offset : ℕ) → (number ≡ 17 → others 17 ≡ true) → Near kernelBytes instructionLimit (bad number offset)
+pub fine-bad : (others : ℕ → Bool) (number offset : ℕ) → (number ≡ 17 → others 17 ≡ true) → Near kernelBytes instructionLimit (bad number offset)
     → Fine (λ n. oneTo 12 n || others n) (refusal number offset)
 fine-bad others number offset l h =
     let b = near-refused kernelBytes instructionLimit number offset h in
@@ -77,7 +77,7 @@ fine-bad others number offset l h =
     (kernel-no others number l (near-number kernelBytes instructionLimit number offset h)) (b .0) (b .1)
 
 -- The answer of a call that leaves one buffer, or registers and state, is fine.
-abbrev FineWritten : (ℕ → Bool) → Written → Type 0
+abbrev pub FineWritten : (ℕ → Bool) → Written → Type 0
 FineWritten numbers r = Fine numbers (r .answer)
 
 abbrev FineChanged : (ℕ → Bool) → Changed → Type 0
@@ -107,9 +107,9 @@ forward-fine dictionary kernel = go (accepted longAndShort dictionary kernel) (a
 
 -- ---- results
 
--- A result no longer than the longest kernel, or 14.
-deliver-fine : (numbers : ℕ → Bool) → numbers 14 ≡ true → numbers 0 ≡ true
-    → (result out : List ℕ) → length result ≤ kernelBytes → FineWritten numbers (deliver result out)
+-- A result of up to 1,000,000 bytes, or 14. No kernel and no listing is longer.
+pub deliver-fine : (numbers : ℕ → Bool) → numbers 14 ≡ true → numbers 0 ≡ true
+    → (result out : List ℕ) → length result ≤ budgetLimit → FineWritten numbers (deliver result out)
 unfolding deliver
 deliver-fine numbers full fine result out h =
     by-cond (FineWritten numbers) (ltb (length out) (length result)) _ _

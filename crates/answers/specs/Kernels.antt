@@ -102,7 +102,7 @@ near-astray end n k (i ∷ rest) h g = go (targetsLand k (targetsOf i)) (near-as
     go true later = later
     go false later = near-bad end n 12 (8 * i .place) (inl (omega arith, omega arith)) (omega (arith, g .0))
 
-near-inside : (end n : ℕ) (k : List Instr) → Near end n (good k) → Inside end k
+pub near-inside : (end n : ℕ) (k : List Instr) → Near end n (good k) → Inside end k
 unfolding Near
 near-inside end n k h = h .1
 

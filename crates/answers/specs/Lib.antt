@@ -6,4 +6,5 @@ pub mod Judging
 pub mod Kernels
 pub mod Calls
 pub mod Logs
+pub mod Listings
 pub mod OneAnswer

@@ -59,3 +59,11 @@ logReadNumbers n = eqb n 0 || (eqb n 1 || eqb n 32)
 -- Appending to it: 14 too.
 abbrev pub logAppendNumbers : ℕ → Bool
 logAppendNumbers n = logReadNumbers n || eqb n 14
+
+-- List: what check answers, and 14.
+abbrev pub listNumbers : ℕ → Bool
+listNumbers n = unpackNumbers n
+
+-- Read: 0, 1, 2, 14 or 30.
+abbrev pub readNumbers : ℕ → Bool
+readNumbers n = eqb n 0 || (eqb n 1 || (eqb n 2 || (eqb n 14 || eqb n 30)))

@@ -5,11 +5,12 @@ use mathlib.Core.Path.{_≡_}
 use Prim.Native.Nat.{ℕ}
 use Rattle.paper.specs.Calls.{checkCall, forwardCall, packCall, unpackCall, pairCall, shortenCall, expandCall, decodeCall, startCall, stepCall, runCall}
 use Rattle.paper.specs.Log.{Entry, logReadCall, logRunsCall, logAppendCall, logRunCall}
+use Rattle.paper.specs.Listing.{listCall, readCall}
 use Rattle.words.specs.declared.answer.Answer.{Answer}
 use Rattle.words.specs.Answer.{answerIs, Wrote, Left, one-answer, one-written, one-changed}
 
 -- `check`, `forward`, `pack`, `unpack`, `pair`, `shorten_word`, `expand_word`, `decode_size`, `start`, `step` and `run`; of logs `append`, `whole_bytes`,
--- `whole_runs` and `append_run`.
+-- `whole_runs` and `append_run`; of listings `list` and `read`.
 pub record OneAnswer : Type 0 where
   pub check : (dictionary kernel : List ℕ) (r s : Answer) → answerIs r ≡ checkCall dictionary kernel → answerIs s ≡ checkCall dictionary kernel → r ≡ s
   pub forward : (dictionary kernel : List ℕ) (r s : Answer)
@@ -40,6 +41,10 @@ pub record OneAnswer : Type 0 where
   pub logRuns : (log : List ℕ) (count : ℕ) (r s : Answer) → answerIs r ≡ logRunsCall log count → answerIs s ≡ logRunsCall log count → r ≡ s
   pub logRun : (log : List ℕ) (count answer : ℕ) (state : List ℕ) (r s : Answer) (log′ log″ : List ℕ)
       → Wrote (logRunCall log count answer state) r log′ → Wrote (logRunCall log count answer state) s log″ → (r ≡ s) × (log′ ≡ log″)
+  pub list : (dictionary kernel out : List ℕ) (r s : Answer) (out′ out″ : List ℕ)
+      → Wrote (listCall dictionary kernel out) r out′ → Wrote (listCall dictionary kernel out) s out″ → (r ≡ s) × (out′ ≡ out″)
+  pub read : (dictionary text out : List ℕ) (r s : Answer) (out′ out″ : List ℕ)
+      → Wrote (readCall dictionary text out) r out′ → Wrote (readCall dictionary text out) s out″ → (r ≡ s) × (out′ ≡ out″)
 
 pub one-outcome : OneAnswer
 one-outcome =
@@ -59,4 +64,6 @@ one-outcome =
       logRead = λ log count. one-answer (logReadCall log count);
       logRuns = λ log count. one-answer (logRunsCall log count);
       logRun = λ log count answer state. one-written (logRunCall log count answer state);
+      list = λ dictionary kernel out. one-written (listCall dictionary kernel out);
+      read = λ dictionary text out. one-written (readCall dictionary text out);
     }

@@ -5,6 +5,7 @@ use mathlib.Core.Path.{_≡_}
 use mathlib.Core.List.{List}
 use Prim.Native.Nat.{ℕ, _/_, _%_, _^_}
 use Rattle.paper.specs.Log.{entry, logReadCall, logRunsCall, logAppendCall, logRunCall}
+use Rattle.paper.specs.Listing.{listCall, readCall}
 use Rattle.paper.specs.Calls.{asNumber, Written, Changed, checkCall, forwardCall, packCall, unpackCall, pairCall, shortenCall, expandCall, decodeCall, startCall, stepCall, runCall}
 
 -- ---- an answer taken apart, as the header's macros do
@@ -78,3 +79,9 @@ LogRunsPromise log count r = r ≡ asNumber (logRunsCall log count)
 
 abbrev pub LogRunPromise : List ℕ → ℕ → ℕ → List ℕ → ℕ → List ℕ → Type 0
 LogRunPromise log count answer state r log′ = Wrote (logRunCall log count answer state) r log′
+
+abbrev pub ListPromise : List ℕ → List ℕ → List ℕ → ℕ → List ℕ → Type 0
+ListPromise dictionary kernel out r out′ = Wrote (listCall dictionary kernel out) r out′
+
+abbrev pub ReadPromise : List ℕ → List ℕ → List ℕ → ℕ → List ℕ → Type 0
+ReadPromise dictionary text out r out′ = Wrote (readCall dictionary text out) r out′

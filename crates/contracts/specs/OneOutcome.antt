@@ -5,7 +5,7 @@ use mathlib.Core.Path.{_≡_}
 use Prim.Native.Nat.{ℕ}
 use Rattle.contracts.specs.Contracts.{CheckPromise, ForwardPromise, PackPromise, UnpackPromise, PairPromise, ShortenPromise, ExpandPromise}
 use Rattle.contracts.specs.Contracts.{DecodePromise, StartPromise, StepPromise, RunPromise}
-use Rattle.contracts.specs.Contracts.{LogAppendPromise, LogReadPromise, LogRunsPromise, LogRunPromise}
+use Rattle.contracts.specs.Contracts.{LogAppendPromise, LogReadPromise, LogRunsPromise, LogRunPromise, ListPromise, ReadPromise}
 
 -- The contract of each call admits one outcome only: one answer, and one final content of each buffer that is lent for writing.
 pub record OneOutcome : Type 0 where
@@ -35,3 +35,7 @@ pub record OneOutcome : Type 0 where
   pub logRuns : (log : List ℕ) (count r s : ℕ) → LogRunsPromise log count r → LogRunsPromise log count s → r ≡ s
   pub logRun : (log : List ℕ) (count answer : ℕ) (state : List ℕ) (r s : ℕ) (log′ log″ : List ℕ)
       → LogRunPromise log count answer state r log′ → LogRunPromise log count answer state s log″ → (r ≡ s) × (log′ ≡ log″)
+  pub list : (dictionary kernel out : List ℕ) (r s : ℕ) (out′ out″ : List ℕ)
+      → ListPromise dictionary kernel out r out′ → ListPromise dictionary kernel out s out″ → (r ≡ s) × (out′ ≡ out″)
+  pub read : (dictionary text out : List ℕ) (r s : ℕ) (out′ out″ : List ℕ)
+      → ReadPromise dictionary text out r out′ → ReadPromise dictionary text out s out″ → (r ≡ s) × (out′ ≡ out″)

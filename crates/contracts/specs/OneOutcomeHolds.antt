@@ -3,6 +3,7 @@ use mathlib.Core.List.{List}
 use mathlib.Core.Path.{_≡_, sym, _∙_}
 use Prim.Native.Nat.{ℕ}
 use Rattle.paper.specs.Log.{entry, logAppendCall, logRunCall}
+use Rattle.paper.specs.Listing.{listCall, readCall}
 use Rattle.paper.specs.Calls.{Written, Changed, packCall, unpackCall, shortenCall, expandCall, startCall, stepCall, runCall}
 use Rattle.contracts.specs.Contracts.{Wrote, Left}
 use Rattle.contracts.specs.OneOutcome.{OneOutcome}
@@ -33,4 +34,6 @@ one-outcome =
       logRead = λ log count r s p q. p ∙ sym q;
       logRuns = λ log count r s p q. p ∙ sym q;
       logRun = λ log count answer state. one-written (logRunCall log count answer state);
+      list = λ dictionary kernel out. one-written (listCall dictionary kernel out);
+      read = λ dictionary text out. one-written (readCall dictionary text out);
     }

@@ -1,12 +1,14 @@
--- The four numbers that the checking program prints (the paper, "The checking program"). Assumes nothing.
+-- The four numbers that the checking program prints, and their text (the paper, "The checking program"). Assumes nothing.
 use mathlib.Core.Bool.{and-false}
-use mathlib.Core.List.{List}
+use mathlib.Core.List.{List, [], _∷_, _++_}
 use mathlib.Core.Path.{_≡_, sym, ap, _∙_}
 use Prim.Native.Nat.{ℕ, _+_, _<_, _≤_}
 use native.Mathlib.Omega.{arith}
 use lib.ListN.{length, take, length-take}
 use borrow.Author.Tests.{lt-leb}
 use Rattle.paper.specs.Limits.{kernelBytes}
+use Rattle.paper.specs.Text.{decimal, line}
+use Rattle.paper.specs.Log.{verdictName}
 use Rattle.paper.specs.Calls.{Answer, verdict, refusal, refusalWith, checkCall, accepted}
 use Rattle.front.specs.declared.report.Report.{Report}
 
@@ -28,6 +30,28 @@ printed dictionary kernel = printedAs (checkCall dictionary kernel) (length kern
 
 abbrev pub reportIs : Report → Printed
 reportIs r = record { verdict = r .verdict; at = r .at; instructions = r .instructions; bytes = r .bytes }
+
+-- ---- the text
+
+-- `at=`, `instructions=` and `bytes=`; `verdict=` stands in logs too.
+abbrev pub atName : List ℕ
+atName = 97 ∷ 116 ∷ 61 ∷ []
+
+abbrev pub instructionsName : List ℕ
+instructionsName = 105 ∷ 110 ∷ 115 ∷ 116 ∷ 114 ∷ 117 ∷ 99 ∷ 116 ∷ 105 ∷ 111 ∷ 110 ∷ 115 ∷ 61 ∷ []
+
+abbrev pub bytesName : List ℕ
+bytesName = 98 ∷ 121 ∷ 116 ∷ 101 ∷ 115 ∷ 61 ∷ []
+
+-- Four lines, a number on each.
+unfoldable pub printedText : Printed → List ℕ
+printedText p =
+    line verdictName (decimal (p .verdict))
+    ++ (line atName (decimal (p .at)) ++ (line instructionsName (decimal (p .instructions)) ++ line bytesName (decimal (p .bytes))))
+
+-- What the program writes for a dictionary and a kernel.
+abbrev pub checkText : List ℕ → List ℕ → List ℕ
+checkText dictionary kernel = printedText (printed dictionary kernel)
 
 -- ---- laws
 

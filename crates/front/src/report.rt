@@ -13,7 +13,7 @@ pub struct Report {
 }
 
 // What is printed for a refusal: neither instructions nor bytes.
-fn refused(number: u8, offset: u64) -> Report
+pub fn refused(number: u8, offset: u64) -> Report
     ensures { λ r. ⌜ reportIs r ≡ record { verdict = number; at = offset; instructions = 0; bytes = 0 } ⌝ }
 {
     Report {

@@ -1,15 +1,9 @@
 // Reads a dictionary and a kernel from a descriptor, and writes the four lines.
-use crate::report::report_on;
+use crate::lines::LINES_BYTES;
+use crate::lines::lines_on;
 use libc::STDOUT_FILENO;
 use words::limits::DICTIONARY_BYTES;
 use words::limits::KERNEL_BYTES;
-
-// One line: a name and a number.
-fn line(name: &[u8], value: u64) {
-    io::write_all(STDOUT_FILENO, name);
-    io::print_decimal(STDOUT_FILENO, value);
-    io::write_all(STDOUT_FILENO, b"\n");
-}
 
 // The first bytes are the dictionary, what follows is the kernel. Of a kernel that is too long, one byte more than is allowed is read, so that it is
 // refused as too long; what follows that byte changes nothing (`printed-cut`) and stays unread.
@@ -18,9 +12,7 @@ pub fn talk(descriptor: i32) {
     let d = io::read_full(descriptor, &mut dictionary);
     let mut kernel = [0u8; KERNEL_BYTES + 1];
     let k = io::read_full(descriptor, &mut kernel);
-    let r = report_on(&dictionary[..d], &kernel[..k]);
-    line(b"verdict=", r.verdict);
-    line(b"at=", r.at);
-    line(b"instructions=", r.instructions);
-    line(b"bytes=", r.bytes);
+    let mut text = [0u8; LINES_BYTES];
+    let n = lines_on(&dictionary[..d], &kernel[..k], &mut text);
+    io::write_all(STDOUT_FILENO, &text[..n]);
 }

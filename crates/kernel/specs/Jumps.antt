@@ -62,7 +62,7 @@ lands-same : (land : ℕ → Bool) (k : List Instr) → ((p : ℕ) → land p �
 lands-same land k same (pos p) = same p
 lands-same land k same (negsuc p) = refl
 
-all-same : (land : ℕ → Bool) (k : List Instr) → ((p : ℕ) → land p ≡ lands k p) → (zs : List ℤ) → landBy land zs ≡ targetsLand k zs
+pub all-same : (land : ℕ → Bool) (k : List Instr) → ((p : ℕ) → land p ≡ lands k p) → (zs : List ℤ) → landBy land zs ≡ targetsLand k zs
 all-same land k same [] = refl
 all-same land k same (z ∷ zs) = ap₂ _&&_ (lands-same land k same z) (all-same land k same zs)
 

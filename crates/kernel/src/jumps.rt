@@ -55,7 +55,7 @@ fn distance_lands(marks: &[u8; PLACES], d: Distance, w: Word, here: u64, size: u
 }
 
 // Each distance in word w, an instruction of `size` places from place `here` on, leads to a mark.
-pub(crate) fn jump_lands(marks: &[u8; PLACES], w: Word, here: u64, size: u64) -> bool
+pub fn jump_lands(marks: &[u8; PLACES], w: Word, here: u64, size: u64) -> bool
     requires { ⌜ (here < placeCount) × (size ≤ 2) ⌝ }
     ensures { λ r. ⌜ r ≡ landBy (marked (now (marks .entry))) (targetsOf (instrOf here size (toWord w))) ⌝ }
 {

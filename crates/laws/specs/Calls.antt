@@ -12,7 +12,7 @@ use lib.Seq.{drop-append-seam}
 use borrow.Author.Tests.{ltb-false, eqb-true}
 use Rattle.paper.specs.Bits.{bytesOf, numberAt}
 use Rattle.paper.specs.Limits.{dictionaryBytes, stateLength, budgetLimit}
-use Rattle.paper.specs.Dictionary.{dictionaryOf, inRange}
+use Rattle.paper.specs.Dictionary.{Dictionary, dictionaryOf, inRange}
 use Rattle.paper.specs.Expand.{isShort, expand}
 use Rattle.paper.specs.Shorten.{shorten}
 use Rattle.paper.specs.Operation.{operation, isListed, isBranch}
@@ -25,6 +25,7 @@ use Rattle.paper.specs.Calls.{shortened, shortenCall, expandCall}
 use Rattle.paper.specs.Calls.{Decoded, undecoded, decoded, decodeAt, decodedAs, decodeCall, partOf, decodePart, freshStore, startCall}
 use Rattle.paper.specs.Calls.{Changed, unchanged, allSized, onState, stoppedAs, steppedAs, stepCall, ranAs, runCall}
 use Rattle.laws.specs.Runs.{Verdict, ended, spent, astray, verdict-says}
+use Rattle.paper.specs.Listing.{listing, listedAs, listCall, Listing, faulty, listed, readListing, kernelOf, readAs, readCall}
 use Rattle.laws.specs.StateBytes.{length-stateBytes}
 
 -- ---- calls that write a result into a lent buffer
@@ -111,6 +112,27 @@ expand-confined dictionary word out =
     confined-word dictionary (eqb (length word) 8) s out _
     (confined-cond out (not (isShort s) || isBranch (operation s)) _ _ (confined-refusal 5 0 out)
     (confined-deliver (bytesOf 16 (expand (dictionaryOf dictionary) s)) out))
+
+-- Listing writes no byte past the text, and none at all on refusal.
+pub list-confined : (dictionary kernel out : List ℕ) → Confined out (listCall dictionary kernel out)
+unfolding listCall
+list-confined dictionary kernel out = go (accepted longAndShort dictionary kernel)
+  where
+    go : (parsed : Parsed) → Confined out (listedAs out parsed)
+    go (bad number offset) = confined-refusal number offset out
+    go (good k) = confined-deliver (listing k) out
+
+-- Reading writes no byte past the kernel, and none at all on refusal.
+pub read-confined : (dictionary text out : List ℕ) → Confined out (readCall dictionary text out)
+unfolding readCall
+read-confined dictionary text out =
+    confined-cond out (not (eqb (length dictionary) dictionaryBytes)) _ _ (confined-refusal 1 0 out)
+    (confined-cond out (not (inRange (dictionaryOf dictionary))) _ _ (confined-refusal 2 0 out)
+    (go (dictionaryOf dictionary) (readListing (dictionaryOf dictionary) text)))
+  where
+    go : (D : Dictionary) (q : Listing) → Confined out (readAs D out q)
+    go D (faulty from) = confined-refusal 30 from out
+    go D (listed k) = confined-deliver (kernelOf D k) out
 
 -- ---- decode
 

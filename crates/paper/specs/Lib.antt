@@ -26,6 +26,7 @@ pub mod Program
 pub mod Calls
 pub mod Text
 pub mod Log
+pub mod Listing
 pub mod Assembler
 pub mod Sheet
 pub mod SheetMore
@@ -37,3 +38,4 @@ pub mod SheetHolds
 pub mod SheetPairs
 pub mod SheetLogs
 pub mod SheetAddresses
+pub mod SheetListings

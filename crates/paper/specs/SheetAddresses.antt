@@ -66,6 +66,16 @@ leaves w state = one w fives state .state
 unfoldable pub a0After : ℕ → List ℕ → List ℕ
 a0After w state = drop 42 (leaves w state)
 
+-- A state at another place, with channel 2 waiting for place 0, and with a0.7 alone.
+unfoldable pub atPlace : ℕ → List ℕ → List ℕ
+atPlace p state = take 4 state ++ (bytesOf 2 p ++ drop 6 state)
+
+unfoldable pub withWaiting : List ℕ → List ℕ
+withWaiting state = take 8 state ++ (bytesOf 2 4 ++ drop 10 state)
+
+unfoldable pub beginLast : ℕ → ℕ → List ℕ
+beginLast mask last = take 42 (begin mask 0 0) ++ (replicate 14 0 ++ bytesOf 2 last)
+
 -- A run over long words: the answer, the place, and r4's first two bytes.
 unfoldable pub runs : List ℕ → ℕ → List ℕ → List ℕ
 runs words budget state =
@@ -82,7 +92,7 @@ rowsReach =
     -- into an address: byte 128 is r4's first; only for the channel that is awake
     ∷ (r4 2 (one (bytesTo 0 4) fives (beginAt 3 124 0)) gives 5 ∷ 6 ∷ [])
     ∷ (r4 2 (one (bytesTo 0 4) fives (beginAt 2 124 0)) gives 0 ∷ 6 ∷ [])
-    -- src1 too: r2's bytes and the same
+    -- src1 too: r2's bytes, and the same from one byte on
     ∷ (r4 2 (one (op 0x40 1 + to 4 4 0 + from0 4 2 0 2 1 1 + from1By 4 0 0 2 1 1) fives (beginAt 3 65 0)) gives 11 ∷ 13 ∷ [])
     -- a destination by address over its source: all is read before anything is written
     ∷ (take 3 (drop 64 (one (op 0x01 1 + toBy 4 0 1 + from0By 4 0 0 2 1 1) fives (beginAt 3 64 0) .registers)) gives 5 ∷ 5 ∷ 6 ∷ [])
@@ -159,6 +169,34 @@ rowsA0 =
     ∷ (secondWord (op 0x01 0 + toA0 2 16 + immediate0 2 0) gives 11 ∷ 16 ∷ 0 ∷ [])
     ∷ []
 
+unfoldable pub rowsBeside : List Row
+rowsBeside =
+    -- the last element of a0; AddrImm at its least, −512
+    (r4 2 (one (bytesBy 7 0) fives (beginLast 3 64)) gives 5 ∷ 6 ∷ [])
+    ∷ (r4 2 (one (bytesBy 0 0x200) fives (beginAt 3 576 0)) gives 5 ∷ 6 ∷ [])
+    -- a step names its instruction
+    ∷ (shown (stepCall blankDictionary (long (bytesBy 1 4 ∷ bytesBy 0 0 ∷ [])) fives (atPlace 2 (beginAt 3 4095 60)) .answer) gives 22 ∷ 16 ∷ 0 ∷ [])
+    -- no channel wakes in front of a broken address, and no register is written
+    ∷ (leaves (bytesBy 0 0) (withWaiting (beginAt 3 4095 0)) gives withWaiting (beginAt 3 4095 0))
+    ∷ (take 4 (drop 4092 (one (bytesTo 0 0) fives (beginAt 3 4095 0) .registers)) gives replicate 4 0)
+    -- any one of the operands may be the broken one
+    ∷ (says (op 0x40 1 + to 4 4 0 + from0 4 2 0 2 1 1 + from1By 4 0 0 2 1 1) (beginAt 3 4095 0) gives 22 ∷ 0 ∷ 0 ∷ [])
+    ∷ (says (op 0x01 1 + toBy 4 1 0 + from0By 4 0 0 2 1 1) (beginAt 3 4095 64) gives 22 ∷ 0 ∷ 0 ∷ [])
+    ∷ (says (op 0x01 1 + toBy 4 0 0 + from0By 4 1 0 2 1 1) (beginAt 3 4095 64) gives 22 ∷ 0 ∷ 0 ∷ [])
+    -- cmp (equal) of r2's bytes, by address and named: both channels set flag 0
+    ∷ (take 2 (leaves (op 0x10 1 + 1 at 24 + 4 at 34 + 1 at 61 + from0By 4 0 0 2 1 1 + from1 4 2 0 2 1 1) (beginAt 3 64 0)) gives 3 ∷ 0 ∷ [])
+    -- of an immediate AddrMode is not looked at
+    ∷ (says (op 0x01 0 + to 2 4 0 + immediate0 2 0 + 1 at 79) (beginAt 1 0xFFFF 0xFFFF) gives 0 ∷ 0 ∷ 0 ∷ [])
+    -- an operand that is named keeps 10 and 11 beside one by address
+    ∷ (secondWord (op 0x01 1 + to 1 4 1 + from0By 1 0 0 2 1 1) gives 10 ∷ 16 ∷ 0 ∷ [])
+    ∷ (secondWord (op 0x01 4 + toBy 1 0 0 + from0 1 127 0 4 3 1) gives 11 ∷ 16 ∷ 0 ∷ [])
+    -- a0: a shape on which the machine hangs; another register of file 00, null among them; the second source of an add
+    ∷ (secondWord (op 0x01 3 + to 2 4 0 + fromA0 2 0 15 3 1) gives 9 ∷ 16 ∷ 0 ∷ [])
+    ∷ (secondWord (op 0x01 0 + to 2 4 0 + fromA0 2 0 0 0 0 + 1 at 69) gives 7 ∷ 16 ∷ 0 ∷ [])
+    ∷ (secondWord (op 0x01 0 + to 2 4 0 + 2 at 39) gives 7 ∷ 16 ∷ 0 ∷ [])
+    ∷ (secondWord (op 0x40 0 + to 2 4 0 + from0 2 2 0 0 0 0 + 2 at 44 + 0x10 at 101) gives 7 ∷ 16 ∷ 0 ∷ [])
+    ∷ []
+
 -- Every one of them holds.
 pub rowsReach-hold : Hold rowsReach
 unfolding Hold toBy from0By from1By bytesBy bytesTo dwordsBy beginAt fives says rowsReach
@@ -171,3 +209,7 @@ rowsStray-hold = refl
 pub rowsA0-hold : Hold rowsA0
 unfolding Hold toA0 fromA0 beginAt fives leaves a0After rowsA0
 rowsA0-hold = refl
+
+pub rowsBeside-hold : Hold rowsBeside
+unfolding Hold toBy from0By from1By fromA0 bytesBy bytesTo beginAt beginLast atPlace withWaiting fives says leaves rowsBeside
+rowsBeside-hold = refl

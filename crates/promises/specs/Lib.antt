@@ -2,6 +2,7 @@
 -- single word in WordsHold), demand 3 in RunningHolds (two kernels in AlikeHolds), a kernel that was sent in PairsHold, and logs in LogsHold.
 -- Before states what passed before a request; PassedHolds proves it, of longer kernels LongerHolds.
 -- Finishing states when a kernel must finish, and what a step may change; FinishingHolds proves it, of a step ChangesHold.
+-- Listings states what holds of a kernel's listing and of what is read, and ListingsHold proves it.
 pub mod Promises
 pub mod Before
 pub mod Results
@@ -22,3 +23,5 @@ pub mod Finishing
 pub mod ChangesHold
 pub mod FinishingHolds
 pub mod LogsHold
+pub mod Listings
+pub mod ListingsHold

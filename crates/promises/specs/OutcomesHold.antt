@@ -7,12 +7,14 @@ use Prim.Native.Nat.{ℕ, _*_}
 use native.Mathlib.Omega.{arith}
 use lib.ListN.{length, take, drop}
 use Rattle.paper.specs.Calls.{Answer, asNumber, Written, checkCall, forwardCall, packCall, unpackCall, pairCall, shortenCall, expandCall, decodeCall, decodePart, startCall, stepCall, runCall, numberOf}
-use Rattle.laws.specs.Calls.{Confined, pack-confined, unpack-confined, shorten-confined, expand-confined, start-confined, decode-refused, step-unchanged, run-unchanged}
+use Rattle.laws.specs.Calls.{Confined, pack-confined, unpack-confined, shorten-confined, expand-confined, start-confined, decode-refused, step-unchanged, run-unchanged, list-confined, read-confined}
 use Rattle.paper.specs.Log.{entry, logAppendCall, logReadCall, logRunsCall, logRunCall}
+use Rattle.paper.specs.Listing.{listCall, readCall}
 use Rattle.log.specs.Appends.{append-confined, run-confined}
 use Rattle.answers.specs.Logs.{log-append-fine, log-read-fine, log-runs-fine, log-run-fine}
+use Rattle.answers.specs.Listings.{list-fine, read-fine}
 use Rattle.contracts.specs.Contracts.{numberIn, offsetIn, countIn, Wrote}
-use Rattle.answers.specs.Numbers.{checkNumbers, forwardNumbers, packNumbers, unpackNumbers, pairNumbers, shortenNumbers, expandNumbers, decodeNumbers, startNumbers, stepNumbers, runNumbers, logReadNumbers, logAppendNumbers}
+use Rattle.answers.specs.Numbers.{checkNumbers, forwardNumbers, packNumbers, unpackNumbers, pairNumbers, shortenNumbers, expandNumbers, decodeNumbers, startNumbers, stepNumbers, runNumbers, logReadNumbers, logAppendNumbers, listNumbers, readNumbers}
 use Rattle.contracts.specs.OneOutcomeHolds.{one-outcome}
 use Rattle.promises.specs.Promises.{Told, Answers, Kept, Refusals, Demand1}
 use Rattle.answers.specs.Small.{number-back, offset-back, count-back}
@@ -54,6 +56,8 @@ answers =
       logRuns = λ log count r p. told logReadNumbers (logRunsCall log count) r (log-runs-fine log count) p;
       logRun = λ log count answer state r log′ p.
           told logAppendNumbers (logRunCall log count answer state .answer) r (log-run-fine log count answer state) (p .0);
+      list = λ dictionary kernel out r out′ p. told listNumbers (listCall dictionary kernel out .answer) r (list-fine dictionary kernel out) (p .0);
+      read = λ dictionary text out r out′ p. told readNumbers (readCall dictionary text out .answer) r (read-fine dictionary text out) (p .0);
     }
 
 -- ---- a refusal changes nothing
@@ -96,6 +100,10 @@ refusals =
           (append-confined log count (entry v steps place awake));
       logRun = λ log count answer state r log′.
           kept logAppendNumbers (logRunCall log count answer state) log r log′ (log-run-fine log count answer state) (run-confined log count answer state);
+      list = λ dictionary kernel out r out′.
+          kept listNumbers (listCall dictionary kernel out) out r out′ (list-fine dictionary kernel out) (list-confined dictionary kernel out);
+      read = λ dictionary text out r out′.
+          kept readNumbers (readCall dictionary text out) out r out′ (read-fine dictionary text out) (read-confined dictionary text out);
     }
 
 -- ---- the demand

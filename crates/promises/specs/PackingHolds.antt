@@ -48,7 +48,7 @@ relaid-of forms form dictionary kernel out w v r out′ c e =
     }
 
 -- Items are laid out as bytes.
-items-bytes : (items : List Item) → areBytes (allBytes items) ≡ true
+pub items-bytes : (items : List Item) → areBytes (allBytes items) ≡ true
 unfolding allBytes
 items-bytes [] = refl
 items-bytes (i ∷ items) = bytes-append (itemBytes i) (allBytes items) (go (i .short) (i .word)) (items-bytes items)

@@ -45,6 +45,10 @@ pub const PACK: u64 = 0x7061636B_0;
 
 pub const UNPACK: u64 = 0x756E7061636B_0;
 
+pub const LIST: u64 = 0x6C697374_0;
+
+pub const READ: u64 = 0x72656164_0;
+
 pub const PAIR: u64 = 0x70616972_0;
 
 pub const SHORTEN: u64 = 0x73686F7274656E_0;

@@ -256,8 +256,7 @@ module _ (dictionary kernel registers bytes : List ℕ) (sizes : Sizes dictionar
               let still = no-step k (stateOf registers bytes) 22 off (out .verdict) (out .steps) (ends .0) (ends .2) .1 in
               let same = ends .1 .shows .store ∙ ap (λ (t : paper.State). t .store) still in
               let place = ends .1 .shows .place ∙ ap (λ (t : paper.State). t .place) still in
-              rw (sizes .all, law .judged, law .legal, off, place)
-              (
+              rw (sizes .all, law .judged, law .legal, off, place) (
                 refl,
                 ap (λ (st : Store). st .registers) same,
                 wrote ∙ ap (λ (l : List ℕ). take 42 bytes ++ l) (ap (λ (st : Store). st .addresses) same) ∙ take-append-drop 42 bytes,

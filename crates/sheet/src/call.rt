@@ -10,6 +10,7 @@ use rows::row::CHECK;
 use rows::row::DECODE;
 use rows::row::EXPAND;
 use rows::row::FORWARD;
+use rows::row::LIST;
 use rows::row::LOADS;
 use rows::row::LOGREAD;
 use rows::row::LOGRUN;
@@ -17,6 +18,7 @@ use rows::row::LOGRUNS;
 use rows::row::PACK;
 use rows::row::PAIR;
 use rows::row::PART;
+use rows::row::READ;
 use rows::row::RUN;
 use rows::row::Row;
 use rows::row::SHORTEN;
@@ -31,11 +33,13 @@ use spokeshaver::spokeshaver_check;
 use spokeshaver::spokeshaver_decode;
 use spokeshaver::spokeshaver_expand;
 use spokeshaver::spokeshaver_forward;
+use spokeshaver::spokeshaver_list;
 use spokeshaver::spokeshaver_log_read;
 use spokeshaver::spokeshaver_log_run;
 use spokeshaver::spokeshaver_log_runs;
 use spokeshaver::spokeshaver_pack;
 use spokeshaver::spokeshaver_pair;
+use spokeshaver::spokeshaver_read;
 use spokeshaver::spokeshaver_run;
 use spokeshaver::spokeshaver_shorten;
 use spokeshaver::spokeshaver_start;
@@ -51,8 +55,8 @@ pub enum Answered {
     With(u64),
 }
 
-// `check`, `forward`, `decode PLACE`, `pack`, `unpack`, `pair`, `shorten`, `expand`. The kernel's bytes are the word to shorten or to expand; the output's are the kernel
-// that was sent for it.
+// `check`, `forward`, `decode PLACE`, `pack`, `unpack`, `list`, `read`, `pair`, `shorten`, `expand`. The kernel's bytes are the word to shorten or to expand, or the text to
+// read; the output's are the kernel that was sent for it.
 fn asked(row: Row, dictionary: &[u8], kernel: &[u8], out: &mut [u8]) -> Answered {
     if row.key == CHECK {
         return Answered::With(spokeshaver_check(dictionary, kernel));
@@ -68,6 +72,12 @@ fn asked(row: Row, dictionary: &[u8], kernel: &[u8], out: &mut [u8]) -> Answered
     }
     if row.key == UNPACK {
         return Answered::With(spokeshaver_unpack(dictionary, kernel, out));
+    }
+    if row.key == LIST {
+        return Answered::With(spokeshaver_list(dictionary, kernel, out));
+    }
+    if row.key == READ {
+        return Answered::With(spokeshaver_read(dictionary, kernel, out));
     }
     if row.key == PAIR {
         return Answered::With(spokeshaver_pair(dictionary, kernel, out));

@@ -5,6 +5,8 @@ use answers::number_of;
 use kernel::check::check;
 use kernel::decode::decode_size;
 use kernel::forward::forward;
+use listing::list::list;
+use listing::read::read;
 use log::calls::append;
 use log::calls::append_run;
 use log::calls::whole_bytes;
@@ -20,7 +22,7 @@ use short::calls::expand_word;
 use short::calls::shorten_word;
 ghost use Rattle.contracts.specs.Contracts.{CheckPromise, ForwardPromise, PackPromise, UnpackPromise, PairPromise, ShortenPromise, ExpandPromise};
 ghost use Rattle.contracts.specs.Contracts.{DecodePromise, StartPromise, StepPromise, RunPromise};
-ghost use Rattle.contracts.specs.Contracts.{LogAppendPromise, LogReadPromise, LogRunsPromise, LogRunPromise};
+ghost use Rattle.contracts.specs.Contracts.{LogAppendPromise, LogReadPromise, LogRunsPromise, LogRunPromise, ListPromise, ReadPromise};
 
 // Is the kernel accepted; the count is its instructions.
 #[no_mangle]
@@ -164,4 +166,20 @@ pub extern "C" fn spokeshaver_log_run(log: &mut [u8], count: u64, answer: u64, s
     ensures { λ r. ⌜ LogRunPromise (now (log .entry)) count answer (now (state .entry)) r (now (log .exit)) ⌝ }
 {
     number_of(append_run(log, count, answer, state))
+}
+
+// Lists a kernel; the count is the text's bytes.
+#[no_mangle]
+pub extern "C" fn spokeshaver_list(dictionary: &[u8], kernel: &[u8], out: &mut [u8]) -> u64
+    ensures { λ r. ⌜ ListPromise (now (dictionary .entry)) (now (kernel .entry)) (now (out .entry)) r (now (out .exit)) ⌝ }
+{
+    number_of(list(dictionary, kernel, out))
+}
+
+// Reads a listing; the count is the kernel's bytes.
+#[no_mangle]
+pub extern "C" fn spokeshaver_read(dictionary: &[u8], text: &[u8], out: &mut [u8]) -> u64
+    ensures { λ r. ⌜ ReadPromise (now (dictionary .entry)) (now (text .entry)) (now (out .entry)) r (now (out .exit)) ⌝ }
+{
+    number_of(read(dictionary, text, out))
 }

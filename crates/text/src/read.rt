@@ -111,7 +111,7 @@ fn value_at(s: &[u8], i: usize) -> u64
 }
 
 // The number of the eight hex digits at a place; those past the end count as 0.
-fn hex_digits(s: &[u8], at: usize) -> u64
+pub fn hex_digits(s: &[u8], at: usize) -> u64
     requires { ⌜ at ≤ length (now s) ⌝ }
     ensures { λ r. ⌜ r ≡ hexFrom 0 8 (drop at (now (s .entry))) ⌝ }
 {

@@ -7,6 +7,7 @@ use super::instructions::legal_word;
 use super::kernels::{
     any_pair, branch_word, forward_pair, legal_pair, with_other_indices, Laying, Pair,
 };
+use super::listings::{list_case, read_case};
 use super::logs::{log_append_case, log_read_case, log_run_case, log_runs_case};
 use super::pairs::{pair_case, related};
 use super::states::{a0_near, mask, noise, registers, state_for, with_homes, wrong_size};
@@ -67,6 +68,8 @@ fn plain_case(random: &mut Random, number: u64) -> (Vec<u8>, Call) {
         11 => log_read_case(random),
         12 => log_runs_case(random),
         13 => log_run_case(random),
+        15 => list_case(random),
+        16 => read_case(random),
         _ => forward_case(random),
     }
 }
@@ -172,7 +175,7 @@ fn unpack_of(random: &mut Random, pair: Pair) -> (Vec<u8>, Call) {
 }
 
 /// An output for a result of so many bytes: exact, too long, or too short.
-fn output(random: &mut Random, result: usize) -> Vec<u8> {
+pub fn output(random: &mut Random, result: usize) -> Vec<u8> {
     let length = match random.below(8) {
         0 => 0,
         1 => result.saturating_sub(1),

@@ -5,13 +5,14 @@
 //! buffer that was lent must be the same on both sides. `CALLS` seeds in a row give every
 //! call. The table at the end says how often each call gave each answer, forward's count of 1
 //! under the name `ahead`; an answer that can come up and never did is a failure too. Before
-//! that every cut of a log, and every change of a byte of one, is compared.
+//! that every cut of a log and of a listing, and every change of a byte of one, is compared.
 #![forbid(unsafe_code)]
 
 use spokeshaver_compare::server::Server;
 use spokeshaver_reference::answers::Answer;
 use spokeshaver_reference::generate::{
-    case, counted_as, every_log_case, perform, possible, Case, Outcome, Reference, CALLS, NAMES,
+    case, counted_as, every_listing_case, every_log_case, perform, possible, Case, Outcome,
+    Reference, CALLS, NAMES,
 };
 use std::collections::BTreeMap;
 use std::process::exit;
@@ -30,7 +31,8 @@ fn main() {
         eprintln!("usage: compare FIRST COUNT COMMAND..");
         exit(2)
     };
-    compare_logs(command);
+    compare_all("logs", every_log_case(), command);
+    compare_all("listings", every_listing_case(), command);
     println!("seeds {first} to {}", first + count - 1);
     let tables: Vec<Table> = thread::scope(|scope| {
         let lane = |lane| scope.spawn(move || compare(first, count, lane, command));
@@ -40,10 +42,9 @@ fn main() {
     report(&joined(tables));
 }
 
-/// Every cut and every change of a byte.
-fn compare_logs(command: &[String]) {
+/// Every cut and every change of a byte of a text.
+fn compare_all(name: &str, cases: Vec<Case>, command: &[String]) {
     let mut server = started(command);
-    let cases = every_log_case();
     for case in &cases {
         let expected = perform(case, &mut Reference);
         let given = perform(case, &mut server);
@@ -52,7 +53,7 @@ fn compare_logs(command: &[String]) {
         }
     }
     match server.finish() {
-        Ok(true) => println!("compare: {} logs, cut or changed", cases.len()),
+        Ok(true) => println!("compare: {} {name}, cut or changed", cases.len()),
         _ => fail("the server ended badly"),
     }
 }

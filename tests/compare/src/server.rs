@@ -39,6 +39,8 @@ fn request(call: &Call) -> Request<'_> {
         Call::LogRuns { count, .. } => Request(12, [*count, 0, 0, 0, 0], &[]),
         Call::LogRun { count, answer, .. } => Request(13, [*count, *answer, 0, 0, 0], &[]),
         Call::Forward { kernel } => Request(14, [0; 5], kernel),
+        Call::List { kernel, .. } => Request(15, [0; 5], kernel),
+        Call::Read { text, .. } => Request(16, [0; 5], text),
     }
 }
 

@@ -1,0 +1,13 @@
+pub mod Lines
+pub mod Texts
+pub mod Kernels
+pub mod Back
+pub mod Faults
+pub mod Passing
+pub mod Places
+pub mod Writing
+pub mod Reading
+pub mod Scanning
+pub mod Again
+pub mod Laying
+pub mod Joining

@@ -1,0 +1,3 @@
+-- What the program that reads listings back rests on.
+pub mod Counted
+pub mod Cut
