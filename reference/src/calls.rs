@@ -112,7 +112,7 @@ pub fn read(dictionary: &[u8], text: &[u8], out: &mut [u8]) -> u64 {
 
 fn read_outcome(dictionary: &[u8], text: &[u8], out: &mut [u8]) -> Outcome {
     let dictionary = judged_dictionary(dictionary, true)?;
-    let faulty = |at| Refusal { number: NO_LISTING, at };
+    let faulty = |at| Refusal { number: NO_LISTING, at, count: 0 };
     deliver(&listing::read(text, &dictionary).map_err(faulty)?, out)
 }
 
