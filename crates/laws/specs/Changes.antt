@@ -237,21 +237,6 @@ module _ (w : ℕ) (woken : List Bool) (st : Store) where
       go (branch b) e moves = absurd (moves refl)
       go unlisted e moves = absurd (moves refl)
 
-  -- a0 changes only where it is the destination of a mov.
-  pub addresses-sets : (effect w woken st .addresses ≡ st .addresses → ⊥) → (p : Plain) × (operation w ≡ plain p) × (dstIsA0 (settled p (st .addresses) w) ≡ true)
-  unfolding effect plainEffect
-  addresses-sets = go (operation w) refl
-    where
-      go : (o : Operation) → operation w ≡ o → (effectOf o .addresses ≡ st .addresses → ⊥) → (p : Plain) × (operation w ≡ plain p) × (dstIsA0 (settled p (st .addresses) w) ≡ true)
-      go (plain p) e moves = by (dstIsA0 (settled p (st .addresses) w)) refl
-        where
-          by : (t : Bool) → dstIsA0 (settled p (st .addresses) w) ≡ t → (q : Plain) × (operation w ≡ plain q) × (dstIsA0 (settled q (st .addresses) w) ≡ true)
-          by true a = (p, e, a)
-          by false a = absurd (moves (addresses-kept p (settled p (st .addresses) w) woken st a))
-      go nop e moves = absurd (moves refl)
-      go (branch b) e moves = absurd (moves refl)
-      go unlisted e moves = absurd (moves refl)
-
 -- ---- channels
 
 -- With WECtrl 0 an enabled channel is awake.
