@@ -68,7 +68,7 @@ pub fn step(dictionary: &[u8], kernel: &[u8], registers: &mut [u8], state: &mut 
     }
 }
 
-// Steps from the lent state until the end, 20, or until the budget is spent, 21. 16 for a budget over the limit.
+// Steps from the lent state until the end, 20, a broken address, 22, or until the budget is spent, 21. 16 for a budget over the limit.
 pub fn run(
     dictionary: &[u8],
     kernel: &[u8],
