@@ -10,13 +10,14 @@
  *   - lend a NULL or stale pointer with a length over 0, or a length that is more than the memory behind the pointer. With length 0 any pointer will do.
  *   - lend for writing what overlaps anything else that is lent to the same call. What is only read may overlap.
  *   - let another thread write what is lent, or touch what is lent for writing, while the call runs. Calls on separate memory may run at once.
- *   A refusal changes nothing that was lent. Of an output, only the result's bytes are written; what lies behind them stays.
+ *   A refusal changes nothing that was lent, but that a run which stops at a bad address (22) keeps the steps that it made before. Of an output, only the
+ *   result's bytes are written; what lies behind them stays.
  *
  * Sizes
  *   dictionary  512 bytes: 128 little-endian numbers of four bytes, 32 each for control (17 bits), datatype (18), subregister (15), source (12)
  *   kernel      0 to 65,536 bytes, 0 to 4,096 instructions of 8 bytes (short) or 16 bytes (long)
  *   registers   4,096 bytes: r0 to r127, 32 bytes each
- *   state       42 bytes, below
+ *   state       58 bytes, below
  *   log         up to 4,294,967,295 bytes, of which the first `count` are the log, below
  *   text        a listing to read, of any length, below
  *   A place is an offset in a kernel in units of 8 bytes.
@@ -28,7 +29,14 @@
  *    6  awake mask, bit n for channel n
  *    8  waiting mask
  *   10  sixteen places, one for each channel: where it waits; 0 if it does not wait
+ *   42  a0.0 to a0.7, the address register's eight numbers: any
  *   A channel is awake (its awake bit alone), waiting (its waiting bit alone) or off (neither). Anything else is refused (15).
+ *
+ * Registers by address
+ *   A source or destination in the registers may be found by address: at the byte that an element of a0 holds, and -512 to 511 bytes on, as the instruction
+ *   says. Where that leads is known only while the kernel runs. At each step, before any channel wakes, it must lead to an operand that lies well, all its
+ *   elements counted, of channels that are off too: its first byte a multiple of the element's size, every byte among the 4,096, the first and the last in
+ *   the same register or in neighbours. If it does not, the step is not made (22). a0 itself is read and written by mov with uw operands.
  */
 #ifndef SPOKESHAVER_H
 #define SPOKESHAVER_H
@@ -43,7 +51,7 @@ extern "C" {
 /* Sizes in bytes, and limits. */
 #define SPOKESHAVER_DICTIONARY_BYTES 512
 #define SPOKESHAVER_REGISTER_BYTES 4096
-#define SPOKESHAVER_STATE_BYTES 42
+#define SPOKESHAVER_STATE_BYTES 58
 #define SPOKESHAVER_KERNEL_MOST 65536
 #define SPOKESHAVER_INSTRUCTIONS_MOST 4096
 #define SPOKESHAVER_BUDGET_MOST 1000000
@@ -56,8 +64,8 @@ extern "C" {
  *   OFFSET  of a refused instruction, in bytes from the kernel's start; 0 for 1, 2, 13 to 16, 32, decode's 3 at or past the end, and every verdict;
  *           for 30 in bytes from the text's start, for 31 an instruction's number, counted from 0
  *   COUNT   instructions (check); 1 or 0 (forward); bytes of the result (pack, unpack, shorten, expand, list, read), of the instruction (decode) or of the kernel
- *           to load (pair, refusals too); steps made (run); bytes of a log (log_read, log_append, log_run) or its records (log_runs); 0 for start,
- *           step and every refusal but pair's and 14 of a log, which gives the count back */
+ *           to load (pair, refusals too); steps made (run, 22 too); bytes of a log (log_read, log_append, log_run) or its records (log_runs); 0 for
+ *           start, step and every refusal but pair's, a run's 22, and 14 of a log, which gives the count back */
 #define SPOKESHAVER_NUMBER(answer) ((unsigned)((uint64_t)(answer) & 0xFF))
 #define SPOKESHAVER_OFFSET(answer) ((uint32_t)((uint64_t)(answer) >> 8 & 0xFFFFFF))
 #define SPOKESHAVER_COUNT(answer) ((uint32_t)((uint64_t)(answer) >> 32))
@@ -67,7 +75,8 @@ extern "C" {
 #define SPOKESHAVER_ENDED 20   /* step, run: the place is the kernel's end */
 #define SPOKESHAVER_SPENT 21   /* run: the budget is spent short of the end */
 
-/* Refusals. Where more than one would do, the first of this list is given: 3 to 11 and 17 instruction by instruction, 12 after all have passed. */
+/* Refusals. Where more than one would do, the first of this list is given: 3 to 11 and 17 instruction by instruction, 12 after all have passed. 22 is judged at
+ * each step, after ENDED and SPENT. */
 #define SPOKESHAVER_WRONG_SIZE 1        /* registers, state or dictionary of another size, a kernel over 65,536 bytes, a word not of 16 (shorten) or 8 (expand), a count over the log's buffer, a buffer over 4,294,967,295 bytes */
 #define SPOKESHAVER_BUDGET_OVER 16      /* a budget over 1,000,000 */
 #define SPOKESHAVER_WIDE_DICTIONARY 2   /* a dictionary number is wider than its table */
@@ -76,13 +85,14 @@ extern "C" {
 #define SPOKESHAVER_UNLISTED 4          /* an opcode that is not listed */
 #define SPOKESHAVER_WRONG_FORM 5        /* a short branch; a short word where a long one is asked, or the reverse */
 #define SPOKESHAVER_RESERVED_BITS 6     /* a bit is set that must be clear */
-#define SPOKESHAVER_NOT_SERVED 7        /* a field has a value that is not served, or a predicate's group is larger than the size */
+#define SPOKESHAVER_NOT_SERVED 7        /* a field has a value that is not served, a predicate's group is larger than the size, or a0 is an operand of what is not a mov of uw operands */
 #define SPOKESHAVER_OPERAND_RULE 8      /* an operand rule is broken */
 #define SPOKESHAVER_REGION_SHAPE 9      /* a stride or width is undefined, the size is under the width, a source has a shape on which the machine hangs (README), or the destination's stride is 0 */
-#define SPOKESHAVER_UNALIGNED 10        /* a subregister is no multiple of the element's size */
-#define SPOKESHAVER_OUT_OF_REACH 11     /* an operand spans more than two registers, or goes past r127 */
+#define SPOKESHAVER_UNALIGNED 10        /* a subregister, of an operand that is not by address, is no multiple of the element's size */
+#define SPOKESHAVER_OUT_OF_REACH 11     /* an operand that is not by address spans more than two registers, or goes past r127, or past the 16 bytes of a0 */
 #define SPOKESHAVER_STRAY_JUMP 12       /* a jump lands on no instruction's start and not on the end; of break and cont JIP or UIP */
 #define SPOKESHAVER_BAD_STATE 15        /* a place in the state is no instruction's start and not the end, or a channel is none of the three */
+#define SPOKESHAVER_BAD_ADDRESS 22      /* step, run: an operand by address is misaligned, outside of the registers, or spans more than two of them */
 #define SPOKESHAVER_NO_SHORT_WORD 13    /* shorten: no short word expands to it */
 #define SPOKESHAVER_NO_LOG 32           /* logs: the text is no beginning of a log, or a value is out of its range; judged before 14 */
 #define SPOKESHAVER_NO_LISTING 30       /* read: the text is the listing of no kernel that is accepted; judged before 14 */
@@ -94,7 +104,8 @@ uint64_t spokeshaver_check(const uint8_t *dictionary, size_t dictionary_len, con
 
 /* Is the kernel accepted, and does every jump go forward? ACCEPTED with count 1 if every target lies after its branch, with 0 if one does not; or what check
  * refuses. With count 1 every run from a start, whatever the registers, flags and mask, with a budget from the kernel's instructions to 1,000,000 gives ENDED,
- * within as many steps as there are instructions; and so it is with the packed kernel, of which this call answers the same. */
+ * or BAD_ADDRESS where an address leads astray, within as many steps as there are instructions; and so it is with the packed kernel, of which this call
+ * answers the same. */
 uint64_t spokeshaver_forward(const uint8_t *dictionary, size_t dictionary_len, const uint8_t *kernel, size_t kernel_len);
 
 /* Packs a kernel of long words: each that can be is shortened, each jump still reaches the same instruction. The result stands at the front of `out`;
@@ -125,16 +136,18 @@ uint64_t spokeshaver_expand(const uint8_t *dictionary, size_t dictionary_len, co
 uint64_t spokeshaver_decode(const uint8_t *dictionary, size_t dictionary_len, const uint8_t *kernel, size_t kernel_len, uint64_t place);
 
 /* Writes the state before the first step: place 0, the flags f0.0 and f0.1 as given, channel n awake if bit n of the mask is 1 and off for good if it
- * is 0. ACCEPTED, or 1. */
+ * is 0, a0 zero. Other numbers may be put into a0 before a run. ACCEPTED, or 1. */
 uint64_t spokeshaver_start(uint16_t mask, uint16_t flag0, uint16_t flag1, uint8_t *state, size_t state_len);
 
-/* Judges the kernel and the state, then makes one step. ACCEPTED; ENDED, where nothing changes; or what check refuses, 15. */
+/* Judges the kernel and the state, then makes one step. ACCEPTED; ENDED, where nothing changes; or what check refuses, 15; or BAD_ADDRESS with the offset of the
+ * instruction at the state's place, where nothing changes either: the channels that wait there go on waiting. */
 uint64_t spokeshaver_step(const uint8_t *dictionary, size_t dictionary_len, const uint8_t *kernel, size_t kernel_len,
                           uint8_t *registers, size_t registers_len, uint8_t *state, size_t state_len);
 
-/* Judges the kernel and the state once, then makes the budget's steps unless the end comes first. ENDED or SPENT with the steps made as count; or
- * what check refuses, 15, 16. After SPENT a further run goes on where this one stopped. If a run of at least one step gives SPENT and leaves registers and state
- * as they were, no run from there ever ends. */
+/* Judges the kernel and the state once, then makes the budget's steps unless the end or a bad address comes first. ENDED or SPENT with the steps made as count;
+ * BAD_ADDRESS with the steps made before it as count, which are kept, and the offset of the instruction that was not made; or what check refuses, 15, 16. After
+ * SPENT a further run goes on where this one stopped. If a run of at least one step gives SPENT and leaves registers and state as they were, no run from there
+ * ever ends. */
 uint64_t spokeshaver_run(const uint8_t *dictionary, size_t dictionary_len, const uint8_t *kernel, size_t kernel_len, uint64_t budget,
                          uint8_t *registers, size_t registers_len, uint8_t *state, size_t state_len);
 

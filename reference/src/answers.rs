@@ -8,18 +8,27 @@ pub const DIFFERS: u8 = 31;
 pub const ENDED: u8 = 20;
 /// The budget is spent short of the end.
 pub const SPENT: u8 = 21;
+/// An address leads where no operand may lie.
+pub const BAD_ADDRESS: u8 = 22;
 
-/// A refusal: its number in the paper's table and the byte offset it names.
+/// A refusal: its number in the paper's table, the byte offset it names, and what was counted,
+/// which is 0 but for the steps that a run made before a bad address.
 #[derive(Clone, Copy, PartialEq, Eq, Debug)]
 pub struct Refusal {
     pub number: u8,
     pub at: usize,
+    pub count: usize,
 }
 
 impl Refusal {
+    /// A refusal of the instruction at a byte offset.
+    pub fn at(number: u8, at: usize) -> Refusal {
+        Refusal { number, at, count: 0 }
+    }
+
     /// A refusal that names no instruction: numbers 1, 2 and 13 to 16.
     pub fn plain(number: u8) -> Refusal {
-        Refusal { number, at: 0 }
+        Refusal::at(number, 0)
     }
 }
 

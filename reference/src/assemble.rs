@@ -1,8 +1,9 @@
 //! Putting long words together by name, for tests, the generator and the benchmark kernels.
 
 use crate::dictionary::{Dictionary, Table, TABLE_LENGTH};
+use crate::locations::A0;
 use crate::operations::{ElementType, Operation};
-use crate::words::{LongWord, FILE_IMMEDIATE, FILE_REGISTER};
+use crate::words::{LongWord, FILE_ARCHITECTURE, FILE_IMMEDIATE, FILE_REGISTER};
 
 /// The numbers of channels, in the order of their codes.
 pub const CHANNEL_COUNTS: [u32; 5] = [1, 2, 4, 8, 16];
@@ -80,6 +81,24 @@ impl LongWord {
         self.with_field(33, 32, 0).with_field(36, 34, element.code()).with_field(60, 53, 0)
     }
 
+    /// Destination in a0 from a byte of it on.
+    pub fn to_a0(self, subregister: u32, stride: u32, element: ElementType) -> LongWord {
+        self.to_register(A0, subregister, stride, element).with_field(33, 32, FILE_ARCHITECTURE)
+    }
+
+    /// Destination in the register file where an element of a0 says, and so many bytes on.
+    pub fn to_address(
+        self,
+        (element, immediate): (u32, i32),
+        stride: u32,
+        of: ElementType,
+    ) -> LongWord {
+        self.to_register(0, 0, stride, of)
+            .with_field(57, 48, immediate as u32)
+            .with_field(60, 58, element)
+            .with_field(63, 63, 1)
+    }
+
     fn source_kind(self, which: usize, file: u32, element: ElementType) -> LongWord {
         match which {
             0 => self.with_field(38, 37, file).with_field(41, 39, element.code()),
@@ -103,6 +122,36 @@ impl LongWord {
             .with_field(81 + up, 80 + up, codes.horizontal)
             .with_field(84 + up, 82 + up, codes.width)
             .with_field(88 + up, 85 + up, codes.vertical)
+    }
+
+    /// A source in a0 from a byte of it on.
+    pub fn a0_source(
+        self,
+        which: usize,
+        subregister: u32,
+        codes: RegionCodes,
+        element: ElementType,
+    ) -> LongWord {
+        self.register_source(which, A0, subregister, codes, element).source_kind(
+            which,
+            FILE_ARCHITECTURE,
+            element,
+        )
+    }
+
+    /// A source in the register file where an element of a0 says, and so many bytes on.
+    pub fn address_source(
+        self,
+        which: usize,
+        (element, immediate): (u32, i32),
+        codes: RegionCodes,
+        of: ElementType,
+    ) -> LongWord {
+        let up = 32 * which as u32;
+        self.register_source(which, 0, 0, codes, of)
+            .with_field(73 + up, 64 + up, immediate as u32)
+            .with_field(76 + up, 74 + up, element)
+            .with_field(79 + up, 79 + up, 1)
     }
 
     /// A source that is an immediate. A word immediate is laid in both halves.

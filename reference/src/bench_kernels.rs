@@ -22,9 +22,9 @@ pub struct BenchKernel {
     pub state: Vec<u8>,
 }
 
-/// The five kernels.
+/// The six kernels.
 pub fn all() -> Vec<BenchKernel> {
-    vec![mixed(), one_channel(), byte_types(), branch_heavy(), mixed_packed()]
+    vec![mixed(), one_channel(), byte_types(), branch_heavy(), mixed_packed(), by_address()]
 }
 
 /// The instructions of the mixed loop.
@@ -76,6 +76,17 @@ pub fn mixed_packed() -> BenchKernel {
     let program = read_kernel(&kernel_of(&words), &dictionary, Accepts::LongOnly);
     let packed = packing::pack(&program.expect("the mixed loop is legal"), &dictionary);
     finish("mixed packed", dictionary, packed)
+}
+
+/// (f) The mixed loop's length of operations of which all but a few have operands by address; the
+/// others move a0. Every address serves, whatever the loop has made of a0.
+pub fn by_address() -> BenchKernel {
+    let words = (0..199).map(address_word);
+    let kernel = kernel_of(&closed(words.collect()));
+    let a0 = std::array::from_fn(|element| 64 * (8 + element as u16));
+    let state = State { a0, ..State::start(0xFFFF, 0x5A3C, 0x0FF0) };
+    let bench = finish("by address", Dictionary::zero(), kernel);
+    BenchKernel { state: state.to_bytes().to_vec(), ..bench }
 }
 
 fn is_branch(word: LongWord) -> bool {
@@ -192,6 +203,44 @@ fn byte_word(number: usize) -> LongWord {
         3 => two(Cmp, element).conditioned(4, 0),
         4 => two(Xor, Uw).with_field(62, 61, 2),
         _ => two(Sel, element).predicated(0, false),
+    }
+}
+
+/// One of eight kinds of word. Elements of a0 hold multiples of 64 from 64 to 2,560, and what is
+/// added to them is a multiple of 64 from −64 to 448, so that 64 bytes lie in two registers.
+fn address_word(number: usize) -> LongWord {
+    let step = |factor: usize, limit: usize| (number / 8 * factor + number % 8) % limit;
+    let register = |factor: usize| 2 + 2 * step(factor, 48) as u32;
+    let at = |factor: usize| (step(factor, 8) as u32, 64 * step(factor, 9) as i32 - 64);
+    match number % 8 {
+        0 => {
+            let to = word(Mov, 1).to_a0(2 * step(3, 8) as u32, 1, Uw);
+            to.immediate_source(0, Uw, 64 * (1 + step(7, 40) as u32))
+        }
+        1 => word(Add, 16)
+            .to_register(register(7), 0, 1, D)
+            .address_source(0, at(5), PACKED, D)
+            .register_source(1, register(11), 0, PACKED, D),
+        2 => word(Add, 16)
+            .to_register(register(7), 0, 1, W)
+            .register_source(0, register(5), 0, PACKED, W)
+            .address_source(1, at(11), PACKED, W),
+        3 => word(Mov, 16).to_address(at(7), 1, D).register_source(0, register(5), 0, PACKED, D),
+        4 => word(Xor, 8)
+            .to_address(at(7), 1, Ud)
+            .address_source(0, at(5), PACKED, Ud)
+            .address_source(1, at(11), PACKED, Ud),
+        5 => word(Mov, 8).to_a0(0, 1, Uw).a0_source(0, 0, region(1, 2, 4), Uw),
+        6 => word(Cmp, 16)
+            .to_null(W)
+            .address_source(0, at(5), PACKED, W)
+            .register_source(1, register(11), 0, PACKED, W)
+            .conditioned(3, 0),
+        _ => word(Sel, 16)
+            .to_address(at(7), 2, W)
+            .address_source(0, at(5), SCALAR, W)
+            .address_source(1, at(11), region(16, 16, 1), W)
+            .predicated(0, true),
     }
 }
 

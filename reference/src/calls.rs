@@ -2,12 +2,12 @@
 //! Every call judges in the table's order, writes only when nothing refuses, and gives the
 //! packed answer.
 
-use crate::answers::{packed, require, Refusal, ACCEPTED, DIFFERS, ENDED, SPENT};
+use crate::answers::{packed, require, Refusal, ACCEPTED, BAD_ADDRESS, DIFFERS, ENDED, SPENT};
 use crate::channels::Registers;
 use crate::dictionary::{Dictionary, DICTIONARY_BYTES};
-use crate::engine;
+use crate::engine::{self, Ran};
 use crate::listing::{self, NO_LISTING};
-use crate::machine;
+use crate::machine::{self, Stepped};
 use crate::operations::Operation;
 use crate::packing;
 use crate::pairs;
@@ -26,7 +26,7 @@ type Outcome = Result<(u8, usize), Refusal>;
 fn answer(outcome: Outcome) -> u64 {
     match outcome {
         Ok((number, count)) => packed(number, 0, count),
-        Err(refusal) => packed(refusal.number, refusal.at, 0),
+        Err(refusal) => packed(refusal.number, refusal.at, refusal.count),
     }
 }
 
@@ -112,7 +112,7 @@ pub fn read(dictionary: &[u8], text: &[u8], out: &mut [u8]) -> u64 {
 
 fn read_outcome(dictionary: &[u8], text: &[u8], out: &mut [u8]) -> Outcome {
     let dictionary = judged_dictionary(dictionary, true)?;
-    let faulty = |at| Refusal { number: NO_LISTING, at };
+    let faulty = |at| Refusal { number: NO_LISTING, at, count: 0 };
     deliver(&listing::read(text, &dictionary).map_err(faulty)?, out)
 }
 
@@ -166,7 +166,7 @@ pub fn start(mask: u16, flag0: u16, flag1: u16, state: &mut [u8]) -> u64 {
     answer(Ok((ACCEPTED, 0)))
 }
 
-/// Makes one step. The number is 20 if the place is the end already.
+/// Makes one step. The number is 20 if the place is the end already, 22 if an address is bad.
 pub fn step(dictionary: &[u8], kernel: &[u8], registers: &mut [u8], state: &mut [u8]) -> u64 {
     answer(step_outcome(dictionary, kernel, registers, state))
 }
@@ -178,14 +178,17 @@ fn step_outcome(
     state: &mut [u8],
 ) -> Outcome {
     let (program, mut current) = judged_run(dictionary, kernel, 0, registers, state)?;
-    if !machine::step(&program, registers, &mut current) {
-        return Ok((ENDED, 0));
+    match machine::step(&program, registers, &mut current) {
+        Stepped::Ended => return Ok((ENDED, 0)),
+        Stepped::BadAddress => return Err(Refusal::at(BAD_ADDRESS, 8 * current.place as usize)),
+        Stepped::Made => {}
     }
     state.copy_from_slice(&current.to_bytes());
     Ok((ACCEPTED, 0))
 }
 
-/// Makes the budget's steps unless the end comes first. The count is the steps made.
+/// Makes the budget's steps unless the end or a bad address comes first. The count is the steps
+/// made, which are kept.
 pub fn run(
     dictionary: &[u8],
     kernel: &[u8],
@@ -207,8 +210,8 @@ pub fn run_by_second_engine(
     answer(run_outcome(second_engine::run, dictionary, kernel, budget, registers, state))
 }
 
-/// Makes the steps of a judged kernel on a judged state and tells how many were made.
-type Engine = fn(&Program, u64, &mut Registers, &mut State) -> u64;
+/// Makes the steps of a judged kernel on a judged state.
+type Engine = fn(&Program, u64, &mut Registers, &mut State) -> Ran;
 
 fn run_outcome(
     engine: Engine,
@@ -220,10 +223,13 @@ fn run_outcome(
 ) -> Outcome {
     let (program, mut current) = judged_run(dictionary, kernel, budget, registers, state)?;
     let file = registers.try_into().expect("the size is judged");
-    let steps = engine(&program, budget, file, &mut current);
+    let ran = engine(&program, budget, file, &mut current);
     state.copy_from_slice(&current.to_bytes());
-    let ended = current.place as usize == program.end;
-    Ok((if ended { ENDED } else { SPENT }, steps as usize))
+    let (place, count) = (current.place as usize, ran.steps as usize);
+    if ran.bad_address {
+        return Err(Refusal { number: BAD_ADDRESS, at: 8 * place, count });
+    }
+    Ok((if place == program.end { ENDED } else { SPENT }, count))
 }
 
 /// Rules 1, 16, 2, 17, 3 to 12 and 15, for a step or a run.

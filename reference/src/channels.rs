@@ -3,7 +3,10 @@
 //! Every value of the bench and every result before clamping fits 64 signed bits: the widest
 //! is a dword shifted up by 31.
 
-use crate::decoded::{Condition, Decoded, Destination, Layout, Modifier, Predicate, Source};
+use crate::decoded::{
+    Condition, Decoded, Destination, Layout, Modifier, Origin, Predicate, Source,
+};
+use crate::locations::A0_ELEMENTS;
 use crate::operations::{ElementType, Operation};
 use crate::regions::FILE_BYTES;
 use crate::state::State;
@@ -51,8 +54,8 @@ fn execute_channels<const N: usize>(
     if enabled == 0 {
         return;
     }
-    let left = load::<N>(registers, &instruction.sources[0]);
-    let right = load::<N>(registers, &instruction.sources[1]);
+    let left = load::<N>(registers, &state.a0, &instruction.sources[0]);
+    let right = load::<N>(registers, &state.a0, &instruction.sources[1]);
     let results = match instruction.operation {
         Operation::Sel => select(&left, &right, holding),
         Operation::Cmp => {
@@ -65,24 +68,31 @@ fn execute_channels<const N: usize>(
         operation => combine(operation, left, &right),
     };
     if let Some(destination) = &instruction.destination {
-        store::<N>(registers, destination, results, enabled);
+        store::<N>(registers, &mut state.a0, destination, results, enabled);
     }
 }
 
+/// The numbers of a0.
+type A0 = [u16; A0_ELEMENTS];
+
 #[inline]
-fn load<const N: usize>(registers: &Registers, source: &Source) -> [i64; N] {
-    let (layout, element, modifier) = match source {
+fn load<const N: usize>(registers: &Registers, a0: &A0, source: &Source) -> [i64; N] {
+    let (origin, layout, element, modifier) = match source {
         Source::Immediate(value) => return [*value; N],
-        Source::Elements { layout, element, modifier } => (layout, element, modifier),
+        Source::Elements { origin, layout, element, modifier } => {
+            (origin, layout, element, modifier)
+        }
     };
-    let values = match element {
-        ElementType::Ud => gather(registers, layout, |bytes| u32::from_le_bytes(bytes) as i64),
-        ElementType::D => gather(registers, layout, |bytes| i32::from_le_bytes(bytes) as i64),
-        ElementType::Uw => gather(registers, layout, |bytes| u16::from_le_bytes(bytes) as i64),
-        ElementType::W => gather(registers, layout, |bytes| i16::from_le_bytes(bytes) as i64),
-        ElementType::Ub => gather(registers, layout, |bytes| u8::from_le_bytes(bytes) as i64),
-        ElementType::B => gather(registers, layout, |bytes| i8::from_le_bytes(bytes) as i64),
+    let start = match origin {
+        Origin::Register(start) => *start as usize,
+        Origin::Address(address) => address.start(a0) as usize,
+        Origin::A0(first) => return modified(from_a0(a0, *first as usize, layout), *modifier),
     };
+    modified(gather_typed(registers, start, layout, *element), *modifier)
+}
+
+#[inline]
+fn modified<const N: usize>(values: [i64; N], modifier: Modifier) -> [i64; N] {
     match modifier {
         Modifier::None => values,
         Modifier::Absolute => values.map(|value| value.abs()),
@@ -91,30 +101,52 @@ fn load<const N: usize>(registers: &Registers, source: &Source) -> [i64; N] {
     }
 }
 
+/// Reads `N` numbers of a0, the first at an element of it.
+#[inline(never)]
+fn from_a0<const N: usize>(a0: &A0, first: usize, layout: &Layout) -> [i64; N] {
+    std::array::from_fn(|n| a0[first + layout.distance(n, 2) / 2] as i64)
+}
+
+/// Reads `N` elements of a type from a byte of the register file on.
+#[inline]
+fn gather_typed<const N: usize>(
+    registers: &Registers,
+    start: usize,
+    layout: &Layout,
+    element: ElementType,
+) -> [i64; N] {
+    match element {
+        ElementType::Ud => gather(registers, start, layout, |it| u32::from_le_bytes(it) as i64),
+        ElementType::D => gather(registers, start, layout, |it| i32::from_le_bytes(it) as i64),
+        ElementType::Uw => gather(registers, start, layout, |it| u16::from_le_bytes(it) as i64),
+        ElementType::W => gather(registers, start, layout, |it| i16::from_le_bytes(it) as i64),
+        ElementType::Ub => gather(registers, start, layout, |it| u8::from_le_bytes(it) as i64),
+        ElementType::B => gather(registers, start, layout, |it| i8::from_le_bytes(it) as i64),
+    }
+}
+
 /// Reads `N` elements of `SIZE` bytes.
 #[inline]
 fn gather<const N: usize, const SIZE: usize>(
     registers: &Registers,
+    start: usize,
     layout: &Layout,
     value_of: impl Fn([u8; SIZE]) -> i64,
 ) -> [i64; N] {
     let mut values = [0; N];
     match *layout {
-        Layout::Single { start } => {
+        Layout::Single => {
             values = [value_of(element_at(registers, start)); N];
         }
-        Layout::Packed { start } => {
+        Layout::Packed => {
             let part = &registers[start..start + N * SIZE];
             for (value, bytes) in values.iter_mut().zip(part.chunks_exact(SIZE)) {
                 *value = value_of(bytes.try_into().expect("a whole element"));
             }
         }
-        Layout::Rows { start, row_step, column_step, width_shift } => {
-            let column_mask = (1 << width_shift) - 1;
+        Layout::Rows { .. } => {
             for (n, value) in values.iter_mut().enumerate() {
-                let row = n >> width_shift;
-                let column = n & column_mask;
-                let byte = start + row * row_step + column * column_step;
+                let byte = start + layout.distance(n, SIZE);
                 *value = value_of(element_at(registers, byte));
             }
         }
@@ -131,6 +163,7 @@ fn element_at<const SIZE: usize>(registers: &Registers, start: usize) -> [u8; SI
 #[inline]
 fn store<const N: usize>(
     registers: &mut Registers,
+    a0: &mut A0,
     destination: &Destination,
     results: [i64; N],
     enabled: u16,
@@ -142,28 +175,44 @@ fn store<const N: usize>(
     } else {
         results
     };
+    let start = match destination.origin {
+        Origin::Register(start) => start as usize,
+        Origin::Address(address) => address.start(a0) as usize,
+        Origin::A0(first) => {
+            return store_in_a0(a0, first as usize, destination.step, &results, enabled)
+        }
+    };
+    let to = Line { start, step: destination.step };
     match element.size() {
-        4 => {
-            scatter(registers, destination, &results, enabled, |value| (value as u32).to_le_bytes())
-        }
-        2 => {
-            scatter(registers, destination, &results, enabled, |value| (value as u16).to_le_bytes())
-        }
-        _ => scatter(registers, destination, &results, enabled, |value| [value as u8]),
+        4 => scatter(registers, to, &results, enabled, |value| (value as u32).to_le_bytes()),
+        2 => scatter(registers, to, &results, enabled, |value| (value as u16).to_le_bytes()),
+        _ => scatter(registers, to, &results, enabled, |value| [value as u8]),
     }
+}
+
+/// Writes the enabled ones of the results to a0, from an element on, so many bytes apart.
+fn store_in_a0(a0: &mut A0, first: usize, step: usize, results: &[i64], enabled: u16) {
+    for (n, &value) in results.iter().enumerate().filter(|(n, _)| (enabled >> n) & 1 == 1) {
+        a0[first + n * step / 2] = value as u16;
+    }
+}
+
+/// Where results go in the register file: the first byte, and bytes from one to the next.
+struct Line {
+    start: usize,
+    step: usize,
 }
 
 #[inline]
 fn scatter<const N: usize, const SIZE: usize>(
     registers: &mut Registers,
-    destination: &Destination,
+    Line { start, step }: Line,
     results: &[i64; N],
     enabled: u16,
     bytes_of: impl Fn(i64) -> [u8; SIZE],
 ) {
-    let start = destination.start;
     let all = u16::MAX >> (16 - N);
-    if destination.step == SIZE && enabled == all {
+    if step == SIZE && enabled == all {
         let part = &mut registers[start..start + N * SIZE];
         for (bytes, &value) in part.chunks_exact_mut(SIZE).zip(results) {
             bytes.copy_from_slice(&bytes_of(value));
@@ -172,7 +221,7 @@ fn scatter<const N: usize, const SIZE: usize>(
     }
     for (n, &value) in results.iter().enumerate() {
         if (enabled >> n) & 1 == 1 {
-            let byte = start + n * destination.step;
+            let byte = start + n * step;
             registers[byte..byte + SIZE].copy_from_slice(&bytes_of(value));
         }
     }

@@ -1,11 +1,12 @@
 //! Instructions decoded ahead of a run, with targets as instruction numbers, the end being
 //! one past the last.
 
+use crate::locations::{Kind, Location, A0_ELEMENTS};
 use crate::operations::{ElementType, Operation};
-use crate::regions::{power_of_code, Region};
-use crate::rules::{group_size, writes_register, Instruction, Program};
+use crate::regions::{power_of_code, Region, FILE_BYTES, REGISTER_BYTES};
+use crate::rules::{group_size, writes, Instruction, Program};
 use crate::state::CHANNELS;
-use crate::words::{LongWord, FILE_IMMEDIATE};
+use crate::words::LongWord;
 
 /// A decoded instruction.
 #[derive(Clone, Copy)]
@@ -19,6 +20,8 @@ pub struct Decoded {
     pub condition: Condition,
     pub sources: [Source; 2],
     pub destination: Option<Destination>,
+    /// Whether an operand lies where an element of a0 says.
+    pub by_address: bool,
     /// Where a taken branch goes, as an instruction number.
     pub target: u16,
     /// Where the channels wait that if, else, break or cont puts to wait.
@@ -89,18 +92,74 @@ pub enum Condition {
 #[derive(Clone, Copy)]
 pub enum Source {
     Immediate(i64),
-    Elements { layout: Layout, element: ElementType, modifier: Modifier },
+    Elements { origin: Origin, layout: Layout, element: ElementType, modifier: Modifier },
 }
 
-/// How a source's elements lie; the numbers are bytes.
+/// Where an operand's first element lies.
+#[derive(Clone, Copy)]
+pub enum Origin {
+    /// At a byte of the register file.
+    Register(u16),
+    /// At the byte of the register file that an element of a0 and a number give.
+    Address(Address),
+    /// At an element of a0.
+    A0(u16),
+}
+
+/// An operand by address: the element of a0, the number that is added, the element's size, and
+/// how far behind its first byte the operand's last one lies.
+#[derive(Clone, Copy)]
+pub struct Address {
+    element: u8,
+    size: u8,
+    immediate: i16,
+    span: u16,
+}
+
+impl Address {
+    /// The first byte. It is in the register file once the address is found to serve.
+    #[inline]
+    pub fn start(&self, a0: &[u16; A0_ELEMENTS]) -> i64 {
+        a0[self.element as usize] as i64 + self.immediate as i64
+    }
+
+    /// Whether the operand is aligned, inside of the register file, and within two registers.
+    pub fn serves(&self, a0: &[u16; A0_ELEMENTS]) -> bool {
+        let first = self.start(a0);
+        let last = first + self.span as i64;
+        let (file, register) = (FILE_BYTES as i64, REGISTER_BYTES as i64);
+        first % self.size as i64 == 0
+            && first >= 0
+            && last < file
+            && last / register <= first / register + 1
+    }
+}
+
+/// How a source's elements lie from the first on; the numbers are bytes.
 #[derive(Clone, Copy)]
 pub enum Layout {
     /// All channels read one element.
-    Single { start: usize },
+    Single,
     /// The elements lie side by side.
-    Packed { start: usize },
+    Packed,
     /// Rows of `1 << width_shift` elements.
-    Rows { start: usize, row_step: usize, column_step: usize, width_shift: u32 },
+    Rows { row_step: usize, column_step: usize, width_shift: u32 },
+}
+
+impl Layout {
+    /// How many bytes element n lies behind the first, given an element's size.
+    #[inline]
+    pub fn distance(&self, n: usize, size: usize) -> usize {
+        match *self {
+            Layout::Single => 0,
+            Layout::Packed => n * size,
+            Layout::Rows { row_step, column_step, width_shift } => {
+                let row = n >> width_shift;
+                let column = n - (row << width_shift);
+                row * row_step + column * column_step
+            }
+        }
+    }
 }
 
 #[derive(Clone, Copy, PartialEq, Eq)]
@@ -113,7 +172,7 @@ pub enum Modifier {
 
 #[derive(Clone, Copy)]
 pub struct Destination {
-    pub start: usize,
+    pub origin: Origin,
     /// Bytes from one element to the next.
     pub step: usize,
     pub element: ElementType,
@@ -149,8 +208,30 @@ pub fn decode(instruction: &Instruction, program: &Program) -> Decoded {
         condition: decode_condition(word.condition_modifier()),
         sources: [source(0), source(1)],
         destination: if takes_operands { decode_destination(word) } else { None },
+        by_address: false,
         target: number(targets.first()),
         wait: number(targets.last()),
+    }
+    .with_addresses_known()
+}
+
+impl Decoded {
+    /// The operands by address.
+    pub fn addresses(&self) -> impl Iterator<Item = Address> {
+        let of_source = |source: &Source| match source {
+            Source::Elements { origin, .. } => Some(*origin),
+            Source::Immediate(_) => None,
+        };
+        let [first, second] = [0, 1].map(|which| of_source(&self.sources[which]));
+        let origins = [first, second, self.destination.map(|destination| destination.origin)];
+        origins.into_iter().filter_map(|origin| match origin {
+            Some(Origin::Address(address)) => Some(address),
+            _ => None,
+        })
+    }
+
+    fn with_addresses_known(self) -> Decoded {
+        Decoded { by_address: self.addresses().next().is_some(), ..self }
     }
 }
 
@@ -166,12 +247,13 @@ fn decode_condition(code: u32) -> Condition {
 }
 
 fn decode_destination(word: LongWord) -> Option<Destination> {
-    if !writes_register(word) {
+    if !writes(word) {
         return None;
     }
-    let region = Region::of_destination(&word.destination())?;
+    let fields = word.destination();
+    let region = Region::of_destination(&fields)?;
     Some(Destination {
-        start: region.start,
+        origin: origin_of(word, &region, fields.location()),
         step: region.horizontal_stride * region.element.size(),
         element: region.element,
         saturates: word.saturate() == 1,
@@ -181,7 +263,7 @@ fn decode_destination(word: LongWord) -> Option<Destination> {
 fn decode_source(word: LongWord, which: usize) -> Source {
     let fields = word.source(which);
     let element = ElementType::from_code(fields.type_code).expect("judged");
-    if fields.file == FILE_IMMEDIATE {
+    if fields.location().kind() == Kind::Immediate {
         return Source::Immediate(immediate_value(word.immediate(), element));
     }
     let region = Region::of_source(&fields).expect("judged");
@@ -191,8 +273,25 @@ fn decode_source(word: LongWord, which: usize) -> Source {
         2 => Modifier::Negated,
         _ => Modifier::NegatedAbsolute,
     };
-    let channels = power_of_code(word.execution_size_code()).expect("judged");
-    Source::Elements { layout: layout_of(&region, channels), element, modifier }
+    let origin = origin_of(word, &region, fields.location());
+    Source::Elements { origin, layout: layout_of(word, &region), element, modifier }
+}
+
+fn channels_of(word: LongWord) -> usize {
+    power_of_code(word.execution_size_code()).expect("judged")
+}
+
+fn origin_of(word: LongWord, region: &Region, location: Location) -> Origin {
+    match location.kind() {
+        Kind::A0 => Origin::A0(location.subregister as u16 / 2),
+        Kind::ByAddress => Origin::Address(Address {
+            element: location.address_element() as u8,
+            size: region.element.size() as u8,
+            immediate: location.address_immediate() as i16,
+            span: region.span(channels_of(word)) as u16,
+        }),
+        _ => Origin::Register(region.start as u16),
+    }
 }
 
 fn immediate_value(number: u32, element: ElementType) -> i64 {
@@ -206,17 +305,15 @@ fn immediate_value(number: u32, element: ElementType) -> i64 {
     }
 }
 
-fn layout_of(region: &Region, channels: usize) -> Layout {
+fn layout_of(word: LongWord, region: &Region) -> Layout {
     let size = region.element.size();
-    let start = region.start;
-    let steps = |step: usize| (0..channels).all(|n| region.byte_of(n) == start + n * step);
+    let steps = |step: usize| (0..channels_of(word)).all(|n| region.distance_of(n) == n * step);
     if steps(0) {
-        Layout::Single { start }
+        Layout::Single
     } else if steps(size) {
-        Layout::Packed { start }
+        Layout::Packed
     } else {
         Layout::Rows {
-            start,
             row_step: region.vertical_stride * size,
             column_step: region.horizontal_stride * size,
             width_shift: region.width.trailing_zeros(),

@@ -9,20 +9,31 @@ use crate::operations::Operation;
 use crate::rules::Program;
 use crate::state::{State, CHANNELS};
 
-/// Runs a judged kernel on a judged state and tells how many steps were made.
-pub fn run(program: &Program, budget: u64, registers: &mut Registers, state: &mut State) -> u64 {
+/// How a run went: the steps that were made, and whether it stopped at a bad address.
+#[derive(Clone, Copy, PartialEq, Eq, Debug)]
+pub struct Ran {
+    pub steps: u64,
+    pub bad_address: bool,
+}
+
+/// Runs a judged kernel on a judged state.
+pub fn run(program: &Program, budget: u64, registers: &mut Registers, state: &mut State) -> Ran {
     let decoded: Vec<Decoded> =
         program.instructions.iter().map(|instruction| decode(instruction, program)).collect();
     let numbered = |place: u16| number_of(program, place as usize);
     rename_places(state, numbered);
-    let mut steps = 0;
-    while steps < budget {
+    let mut ran = Ran { steps: 0, bad_address: false };
+    while ran.steps < budget {
         let Some(instruction) = decoded.get(state.place as usize) else { break };
+        if instruction.by_address && !instruction.addresses().all(|it| it.serves(&state.a0)) {
+            ran.bad_address = true;
+            break;
+        }
         take_step(instruction, registers, state);
-        steps += 1;
+        ran.steps += 1;
     }
     rename_places(state, |number| program.place_of(number as usize) as u16);
-    steps
+    ran
 }
 
 /// Renames the state's place and those of its waiting channels.

@@ -2,6 +2,8 @@
 //! with all its inputs; `perform` makes the call on any bench and hands back the answer and
 //! the final content of everything lent for writing.
 
+mod a0_moves;
+mod addresses;
 mod cases;
 mod damage;
 mod dictionaries;
@@ -190,10 +192,10 @@ pub fn possible(name: &str) -> BTreeSet<u8> {
         "expand" => [0, 1, 2, 4, 5, 14].into(),
         "decode" => (0..=11).collect(),
         "start" => [0, 1].into(),
-        "step" => with(&[0, 15, 17, 20]),
+        "step" => with(&[0, 15, 17, 20, 22]),
         "pair" => with(&[0, 17, 31]),
         "log_read" | "log_runs" => [0, 1, 32].into(),
         "log_append" | "log_run" => [0, 1, 14, 32].into(),
-        _ => with(&[15, 16, 17, 20, 21]),
+        _ => with(&[15, 16, 17, 20, 21, 22]),
     }
 }

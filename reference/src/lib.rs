@@ -15,6 +15,7 @@ pub mod dictionary;
 pub mod engine;
 pub mod generate;
 pub mod listing;
+pub mod locations;
 pub mod log;
 pub mod look_up;
 pub mod machine;

@@ -1,17 +1,31 @@
 //! One step, told as plainly as the paper tells it (paper: "Operations" and "How the road
 //! forks"). The run in `engine` does the same work in a quicker way.
 
+use crate::locations::{Kind, Location, A0_ELEMENTS};
 use crate::operations::{ElementType, Operation};
-use crate::regions::{power_of_code, Region};
-use crate::rules::{group_size, writes_register, Instruction, Program};
+use crate::regions::{power_of_code, Region, FILE_BYTES, REGISTER_BYTES};
+use crate::rules::{group_size, writes, Instruction, Program};
 use crate::state::{State, CHANNELS};
-use crate::words::{LongWord, FILE_IMMEDIATE};
+use crate::words::LongWord;
 
-/// Makes one step of a judged kernel on a judged state, unless the place is the end.
-/// Tells whether a step was made.
-pub fn step(program: &Program, registers: &mut [u8], state: &mut State) -> bool {
-    let Some(index) = program.index_of(state.place as usize) else { return false };
+/// What came of a step.
+#[derive(Clone, Copy, PartialEq, Eq, Debug)]
+pub enum Stepped {
+    Made,
+    /// The place is the end, and nothing changed.
+    Ended,
+    /// An address leads where no operand may lie, and nothing changed.
+    BadAddress,
+}
+
+/// Makes one step of a judged kernel on a judged state, unless the place is the end or an address
+/// is bad, which is seen before any channel wakes.
+pub fn step(program: &Program, registers: &mut [u8], state: &mut State) -> Stepped {
+    let Some(index) = program.index_of(state.place as usize) else { return Stepped::Ended };
     let instruction = &program.instructions[index];
+    if !addresses_serve(instruction, &state.a0) {
+        return Stepped::BadAddress;
+    }
     state.wake_at(instruction.place);
     let next = if instruction.operation.is_branch() {
         branch(instruction, state)
@@ -22,7 +36,55 @@ pub fn step(program: &Program, registers: &mut [u8], state: &mut State) -> bool 
         instruction.next_place()
     };
     state.place = next as u16;
-    true
+    Stepped::Made
+}
+
+/// The numbers of a0.
+type A0 = [u16; A0_ELEMENTS];
+
+/// A region as it lies now: by address it starts where the element of a0 says.
+fn placed(region: Option<Region>, location: Location, a0: &A0) -> Region {
+    let region = region.expect("judged");
+    match location.kind() {
+        Kind::ByAddress => region.moved(a0[location.address_element()] as i64),
+        _ => region,
+    }
+}
+
+fn placed_source(word: LongWord, which: usize, a0: &A0) -> Region {
+    let fields = word.source(which);
+    placed(Region::of_source(&fields), fields.location(), a0)
+}
+
+fn placed_destination(word: LongWord, a0: &A0) -> Region {
+    let fields = word.destination();
+    placed(Region::of_destination(&fields), fields.location(), a0)
+}
+
+/// Whether each operand by address lies where an operand may lie. Only operations that are no
+/// branches have operands.
+fn addresses_serve(instruction: &Instruction, a0: &A0) -> bool {
+    let word = instruction.word;
+    let count = instruction.operation.source_count();
+    let channels = power_of_code(word.execution_size_code()).unwrap_or(1);
+    let by_address = |location: Location| location.kind() == Kind::ByAddress;
+    let sources_serve = (0..count)
+        .filter(|&which| by_address(word.source(which).location()))
+        .all(|which| lies_well(&placed_source(word, which, a0), channels));
+    let is_judged = count > 0 && by_address(word.destination().location());
+    sources_serve && (!is_judged || lies_well(&placed_destination(word, a0), channels))
+}
+
+/// What 10 and 11 ask of a direct operand, of every element, enabled or not: aligned, inside of the
+/// register file, first and last byte in the same or in neighbouring registers.
+fn lies_well(region: &Region, channels: usize) -> bool {
+    let size = region.element.size() as i64;
+    let starts: Vec<i64> = (0..channels).map(|n| region.byte_of(n)).collect();
+    let are_aligned = starts.iter().all(|start| start.rem_euclid(size) == 0);
+    let are_inside = starts.iter().all(|&start| start >= 0 && start + size <= FILE_BYTES as i64);
+    let register = |byte: i64| byte.div_euclid(REGISTER_BYTES as i64);
+    let (first, last) = (starts[0], starts[channels - 1] + size - 1);
+    are_aligned && are_inside && register(last) - register(first) <= 1
 }
 
 /// Whether a channel's predicate holds: its group votes by the flag's bits, any with an even
@@ -105,7 +167,7 @@ fn execute(instruction: &Instruction, registers: &mut [u8], state: &mut State) {
         let masks = instruction.operation != Operation::Sel;
         let awake = state.is_awake(channel) || word.write_enable_control() == 1;
         let enabled = awake && (holds || !masks);
-        let value = element_result(instruction, registers, n, holds);
+        let value = element_result(instruction, registers, &state.a0, n, holds);
         if enabled {
             results.push((n, value));
         }
@@ -114,18 +176,22 @@ fn execute(instruction: &Instruction, registers: &mut [u8], state: &mut State) {
         }
     }
     state.flags[word.flag_choice() as usize] = flag;
-    if writes_register(word) {
-        write_results(word, registers, &results);
+    if writes(word) {
+        write_results(word, registers, &mut state.a0, &results);
     }
 }
 
-fn write_results(word: LongWord, registers: &mut [u8], results: &[(usize, i128)]) {
-    let region = Region::of_destination(&word.destination()).expect("judged");
+fn write_results(word: LongWord, registers: &mut [u8], a0: &mut A0, results: &[(usize, i128)]) {
+    let region = placed_destination(word, a0);
+    let is_a0 = word.destination().location().kind() == Kind::A0;
     for &(n, value) in results {
         let stored = fit(value, region.element, word.saturate() == 1);
-        let start = region.byte_of(n);
+        let start = region.byte_of(n) as usize;
         let size = region.element.size();
-        registers[start..start + size].copy_from_slice(&stored.to_le_bytes()[..size]);
+        match is_a0 {
+            true => a0[start / 2] = stored as u16,
+            false => registers[start..start + size].copy_from_slice(&stored.to_le_bytes()[..size]),
+        }
     }
 }
 
@@ -140,11 +206,17 @@ fn fit(value: i128, element: ElementType, saturate: bool) -> i128 {
 }
 
 /// The exact result of channel n, counted from the operation's own first channel.
-fn element_result(instruction: &Instruction, registers: &[u8], n: usize, holds: bool) -> i128 {
+fn element_result(
+    instruction: &Instruction,
+    registers: &[u8],
+    a0: &A0,
+    n: usize,
+    holds: bool,
+) -> i128 {
     let word = instruction.word;
-    let first = source_value(word, 0, registers, n);
+    let first = source_value(word, 0, registers, a0, n);
     let second = match instruction.operation.source_count() {
-        2 => source_value(word, 1, registers, n),
+        2 => source_value(word, 1, registers, a0, n),
         _ => 0,
     };
     match instruction.operation {
@@ -192,15 +264,19 @@ fn compare(difference: i128, condition: u32) -> bool {
     }
 }
 
-/// The value of a source for channel n, its modifier applied.
-fn source_value(word: LongWord, which: usize, registers: &[u8], n: usize) -> i128 {
+/// The value of a source for channel n, its modifier applied. Of a0 the type is uw.
+fn source_value(word: LongWord, which: usize, registers: &[u8], a0: &A0, n: usize) -> i128 {
     let fields = word.source(which);
     let element = ElementType::from_code(fields.type_code).expect("judged");
-    if fields.file == FILE_IMMEDIATE {
+    let kind = fields.location().kind();
+    if kind == Kind::Immediate {
         return value_of_bytes(&word.immediate().to_le_bytes(), element);
     }
-    let region = Region::of_source(&fields).expect("judged");
-    let value = value_of_bytes(&registers[region.byte_of(n)..], element);
+    let start = placed_source(word, which, a0).byte_of(n) as usize;
+    let value = match kind {
+        Kind::A0 => a0[start / 2] as i128,
+        _ => value_of_bytes(&registers[start..], element),
+    };
     match fields.modifier {
         0 => value,
         1 => value.abs(),

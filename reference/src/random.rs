@@ -11,6 +11,12 @@ impl Random {
         Random { state: seed }
     }
 
+    /// Another generator, which depends on this one and on a name. This one stays as it is, so
+    /// that what is drawn beside changes nothing that is drawn from here on.
+    pub fn beside(&self, name: u64) -> Random {
+        Random::new(self.clone().number() ^ name)
+    }
+
     /// The next 64 bits.
     pub fn number(&mut self) -> u64 {
         self.state = self.state.wrapping_add(0x9E37_79B9_7F4A_7C15);

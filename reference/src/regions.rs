@@ -1,5 +1,4 @@
-//! Where an operand's elements lie in the register file (paper: "Operations"; source
-//! document 001 owns regions).
+//! Where an operand's elements lie (paper: "Operations"; source document 001 owns regions).
 
 use crate::operations::ElementType;
 use crate::words::{DestinationFields, SourceFields};
@@ -24,11 +23,11 @@ pub fn vertical_of_code(code: u32) -> Option<usize> {
     [0, 1, 2, 4, 8, 16, 32].get(code as usize).copied()
 }
 
-/// An operand in the register file: element n lies in row n / width, column n % width.
+/// An operand in the register file or in a0: element n lies in row n / width, column n % width.
 #[derive(Clone, Copy, PartialEq, Eq, Debug)]
 pub struct Region {
-    /// Byte of the first element.
-    pub start: usize,
+    /// Byte of the first element. An address may lead before the register file.
+    pub start: i64,
     pub vertical_stride: usize,
     pub width: usize,
     pub horizontal_stride: usize,
@@ -36,10 +35,11 @@ pub struct Region {
 }
 
 impl Region {
-    /// The region of a register source, if its codes are defined.
+    /// The region of a source that has one, if its codes are defined. By address, its start is
+    /// counted from what a0 holds.
     pub fn of_source(fields: &SourceFields) -> Option<Region> {
         Some(Region {
-            start: fields.register as usize * REGISTER_BYTES + fields.subregister as usize,
+            start: fields.location().start(),
             vertical_stride: vertical_of_code(fields.vertical_stride)?,
             width: power_of_code(fields.width)?,
             horizontal_stride: stride_of_code(fields.horizontal_stride),
@@ -47,10 +47,10 @@ impl Region {
         })
     }
 
-    /// The region of a register destination: one row as long as need be.
+    /// The region of a destination that has one: one row as long as need be.
     pub fn of_destination(fields: &DestinationFields) -> Option<Region> {
         Some(Region {
-            start: fields.register as usize * REGISTER_BYTES + fields.subregister as usize,
+            start: fields.location().start(),
             vertical_stride: 0,
             width: 16,
             horizontal_stride: stride_of_code(fields.stride),
@@ -75,19 +75,35 @@ impl Region {
         row_ends_elsewhere || column_has_stride || element_has_stride || scalar_is_wide
     }
 
-    /// The first byte of element n.
-    pub fn byte_of(&self, n: usize) -> usize {
+    /// The region so many bytes further on.
+    pub fn moved(self, bytes: i64) -> Region {
+        Region { start: self.start + bytes, ..self }
+    }
+
+    /// How many bytes element n lies behind the first.
+    pub fn distance_of(&self, n: usize) -> usize {
         let row = n / self.width;
         let column = n % self.width;
         let elements = row * self.vertical_stride + column * self.horizontal_stride;
-        self.start + elements * self.element.size()
+        elements * self.element.size()
+    }
+
+    /// The first byte of element n.
+    pub fn byte_of(&self, n: usize) -> i64 {
+        self.start + self.distance_of(n) as i64
+    }
+
+    /// How many bytes the last byte of so many elements lies behind the first. No stride is
+    /// negative, so the last element lies highest.
+    pub fn span(&self, channels: usize) -> usize {
+        self.distance_of(channels - 1) + self.element.size() - 1
     }
 
     /// Whether the first and the last byte of so many elements lie in the same or in
-    /// neighbouring registers, none past r127 (rule 11). No stride is negative, so the last
-    /// element lies highest.
-    pub fn fits(&self, channels: usize) -> bool {
-        let last = self.byte_of(channels - 1) + self.element.size() - 1;
-        last < FILE_BYTES && last / REGISTER_BYTES - self.start / REGISTER_BYTES <= 1
+    /// neighbouring registers, none past the last of so many bytes (rule 11).
+    pub fn fits(&self, channels: usize, bytes: usize) -> bool {
+        let start = self.start as usize;
+        let last = start + self.span(channels);
+        last < bytes && last / REGISTER_BYTES - start / REGISTER_BYTES <= 1
     }
 }

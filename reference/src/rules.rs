@@ -2,11 +2,10 @@
 
 use crate::answers::Refusal;
 use crate::dictionary::Dictionary;
+use crate::locations::Kind;
 use crate::operations::{ElementType, Operation};
 use crate::regions::{power_of_code, Region};
-use crate::words::{
-    expand, is_short, LongWord, ShortWord, SourceFields, FILE_IMMEDIATE, FILE_NULL, FILE_REGISTER,
-};
+use crate::words::{expand, is_short, LongWord, ShortWord, SourceFields, FILE_IMMEDIATE};
 
 /// A kernel holds at most this many bytes.
 pub const KERNEL_BYTES: usize = 65_536;
@@ -107,7 +106,7 @@ pub fn read_kernel(
     let mut offset = 0;
     while offset < kernel.len() {
         if instructions.len() == KERNEL_INSTRUCTIONS {
-            return Err(Refusal { number: 17, at: offset });
+            return Err(Refusal::at(17, offset));
         }
         let instruction = read_instruction(kernel, offset, dictionary, accepts)?;
         offset = 8 * instruction.next_place();
@@ -123,7 +122,7 @@ fn judge_jumps(program: &Program) -> Result<(), Refusal> {
     for instruction in &program.instructions {
         for target in instruction.target_places() {
             if target < 0 || !program.is_start_or_end(target as usize) {
-                return Err(Refusal { number: 12, at: 8 * instruction.place });
+                return Err(Refusal::at(12, 8 * instruction.place));
             }
         }
     }
@@ -138,7 +137,7 @@ pub fn read_instruction(
     accepts: Accepts,
 ) -> Result<Instruction, Refusal> {
     let judged = judge_at(&kernel[offset..], dictionary, accepts);
-    let (word, operation, is_short) = judged.map_err(|number| Refusal { number, at: offset })?;
+    let (word, operation, is_short) = judged.map_err(|number| Refusal::at(number, offset))?;
     Ok(Instruction { place: offset / 8, word, operation, is_short })
 }
 
@@ -258,28 +257,34 @@ fn branch_is_served(word: LongWord, operation: Operation) -> bool {
 
 /// Rule 7, files, AddrMode and types of the destination and of each source that is read.
 fn operands_are_served(word: LongWord, operation: Operation) -> bool {
-    destination_is_served(word) && sources(word, operation).all(|fields| source_is_served(&fields))
+    destination_is_served(word)
+        && sources(word, operation).all(|fields| source_is_served(&fields))
+        && a0_is_served(word, operation)
 }
 
 fn destination_is_served(word: LongWord) -> bool {
     let destination = word.destination();
-    let file_is_served = match destination.file {
-        FILE_REGISTER => true,
-        FILE_NULL => destination.register == 0,
-        _ => false,
-    };
+    let kind = destination.location().kind();
     let type_is_listed = ElementType::from_code(destination.type_code).is_some();
-    file_is_served && destination.address_mode == 0 && type_is_listed
+    (kind.has_region() || kind == Kind::Null) && type_is_listed
 }
 
 fn source_is_served(source: &SourceFields) -> bool {
-    match source.file {
-        FILE_REGISTER => {
-            source.address_mode == 0 && ElementType::from_code(source.type_code).is_some()
-        }
-        FILE_IMMEDIATE => source.type_code <= 3,
-        _ => false,
+    match source.location().kind() {
+        Kind::Immediate => source.type_code <= 3,
+        kind => kind.has_region() && ElementType::from_code(source.type_code).is_some(),
     }
+}
+
+/// Rule 7, a0: only mov has it as an operand, and then every operand is of type uw, a null
+/// destination by its type.
+fn a0_is_served(word: LongWord, operation: Operation) -> bool {
+    let destination = word.destination();
+    let mut operands = vec![(destination.location().kind(), destination.type_code)];
+    operands.extend(sources(word, operation).map(|it| (it.location().kind(), it.type_code)));
+    let has_a0 = operands.iter().any(|(kind, _)| *kind == Kind::A0);
+    let are_uw = operands.iter().all(|(_, code)| *code == ElementType::Uw.code());
+    !has_a0 || (operation == Operation::Mov && are_uw)
 }
 
 /// The sources that an operation reads.
@@ -334,44 +339,39 @@ fn element_of(source: &SourceFields) -> Option<ElementType> {
     ElementType::from_code(source.type_code)
 }
 
-/// The sources that are read from the register file.
-fn register_sources(word: LongWord, operation: Operation) -> impl Iterator<Item = SourceFields> {
-    sources(word, operation).filter(|fields| fields.file == FILE_REGISTER)
-}
-
-/// Whether the destination is in the register file and not null.
-pub fn writes_register(word: LongWord) -> bool {
-    word.destination().file == FILE_REGISTER
+/// Whether the destination is not null.
+pub fn writes(word: LongWord) -> bool {
+    word.destination().location().kind() != Kind::Null
 }
 
 /// Rule 9.
 fn regions_are_defined(word: LongWord, operation: Operation) -> bool {
     let size = power_of_code(word.execution_size_code()).unwrap_or(1);
-    let sources_are_defined = register_sources(word, operation)
+    let sources_are_defined = sources(word, operation)
+        .filter(|fields| fields.location().kind().has_region())
         .all(|fields| Region::of_source(&fields).is_some_and(|region| region.serves(size)));
-    let stride_is_defined = !writes_register(word) || word.destination().stride != 0;
+    let stride_is_defined = !writes(word) || word.destination().stride != 0;
     sources_are_defined && stride_is_defined
 }
 
-/// The regions of all operands in the register file. Asked only after rules 7 and 9 passed.
-fn operand_regions(word: LongWord, operation: Operation) -> Vec<Region> {
-    let sources = register_sources(word, operation);
-    let mut regions: Vec<Region> =
-        sources.filter_map(|fields| Region::of_source(&fields)).collect();
-    if writes_register(word) {
-        regions.extend(Region::of_destination(&word.destination()));
-    }
-    regions
+/// The operands that lie where the word says, each with how many bytes there are: those of the
+/// register file, or of a0. Where an address leads is judged at each step. Asked only after rules
+/// 7 and 9 passed.
+fn direct_regions(word: LongWord, operation: Operation) -> Vec<(Region, usize)> {
+    let to = word.destination();
+    let from = sources(word, operation).map(|it| (Region::of_source(&it), it.location()));
+    let operands = from.chain([(Region::of_destination(&to), to.location())]);
+    operands.filter_map(|(region, location)| Some((region?, location.kind().bytes()?))).collect()
 }
 
 /// Rule 10. A register is 32 bytes, so only the subregister matters.
 fn operands_are_aligned(word: LongWord, operation: Operation) -> bool {
-    let regions = operand_regions(word, operation);
-    regions.iter().all(|region| region.start % region.element.size() == 0)
+    let regions = direct_regions(word, operation);
+    regions.iter().all(|(region, _)| region.start % region.element.size() as i64 == 0)
 }
 
 /// Rule 11.
 fn operands_fit(word: LongWord, operation: Operation) -> bool {
     let size = power_of_code(word.execution_size_code()).unwrap_or(1);
-    operand_regions(word, operation).iter().all(|region| region.fits(size))
+    direct_regions(word, operation).iter().all(|(region, bytes)| region.fits(size, *bytes))
 }

@@ -12,7 +12,8 @@ mod sources;
 mod targets;
 
 use crate::channels::Registers;
-use crate::decoded::{decode, Decoded};
+use crate::decoded::{decode, Address, Decoded};
+use crate::engine::Ran;
 use crate::operations::Operation;
 use crate::rules::Program;
 use crate::state::State;
@@ -21,25 +22,51 @@ use machine::Machine;
 /// The work of one instruction behind waking. It gives the instruction number to go on with.
 type Step = Box<dyn Fn(&mut Machine) -> usize>;
 
-/// Runs a judged kernel on a judged state and tells how many steps were made.
-pub fn run(program: &Program, budget: u64, registers: &mut Registers, state: &mut State) -> u64 {
-    let chosen: Vec<Step> = steps_of(program);
+/// An instruction made ready: the addresses to look at before anything wakes, if it has any, and
+/// its work.
+struct Chosen {
+    addresses: Option<Box<[Address]>>,
+    step: Step,
+}
+
+impl Chosen {
+    /// Whether every address leads where an operand may lie.
+    #[inline]
+    fn serves(&self, machine: &Machine) -> bool {
+        match &self.addresses {
+            None => true,
+            Some(addresses) => addresses.iter().all(|address| address.serves(&machine.a0)),
+        }
+    }
+}
+
+/// Runs a judged kernel on a judged state.
+pub fn run(program: &Program, budget: u64, registers: &mut Registers, state: &mut State) -> Ran {
+    let chosen: Vec<Chosen> = chosen_of(program);
     let (mut machine, mut number) = Machine::begin(program, registers, state);
-    let mut steps = 0;
+    let (mut steps, mut bad_address) = (0, false);
     while steps < budget {
-        let Some(step) = chosen.get(number) else { break };
+        let Some(instruction) = chosen.get(number) else { break };
+        if !instruction.serves(&machine) {
+            bad_address = true;
+            break;
+        }
         machine.wake(number);
-        number = step(&mut machine);
+        number = (instruction.step)(&mut machine);
         steps += 1;
     }
     *state = machine.end(program, number);
-    steps
+    Ran { steps, bad_address }
 }
 
-/// The functions of a program's instructions.
-fn steps_of(program: &Program) -> Vec<Step> {
+/// The instructions of a program, made ready.
+fn chosen_of(program: &Program) -> Vec<Chosen> {
     let decoded = program.instructions.iter().map(|instruction| decode(instruction, program));
-    decoded.enumerate().map(|(number, decoded)| step_of(&decoded, number + 1)).collect()
+    let chosen = decoded.enumerate().map(|(number, decoded)| Chosen {
+        addresses: decoded.by_address.then(|| decoded.addresses().collect()),
+        step: step_of(&decoded, number + 1),
+    });
+    chosen.collect()
 }
 
 /// The function of a decoded instruction, given the number of the one behind it.

@@ -1,15 +1,17 @@
-//! The state of a run and its 42 bytes (include/spokeshaver.h tells them for C).
+//! The state of a run and its 58 bytes (include/spokeshaver.h tells them for C).
 
 use crate::answers::{require, Refusal};
+use crate::locations::A0_ELEMENTS;
 use crate::rules::Program;
 
 /// Bytes of a lent state.
-pub const STATE_BYTES: usize = 42;
+pub const STATE_BYTES: usize = 58;
 /// The number of channels.
 pub const CHANNELS: usize = 16;
 
-/// Flags, place and channels. A channel is awake (its awake bit alone), waiting (its waiting
-/// bit alone, at its place) or off (neither bit). One that doesn't wait has place 0.
+/// Flags, place, channels and a0. A channel is awake (its awake bit alone), waiting (its waiting
+/// bit alone, at its place) or off (neither bit). One that doesn't wait has place 0. The numbers
+/// of a0 may be any.
 #[derive(Clone, Copy, PartialEq, Eq, Debug)]
 pub struct State {
     pub flags: [u16; 2],
@@ -17,10 +19,12 @@ pub struct State {
     pub awake: u16,
     pub waiting: u16,
     pub waiting_places: [u16; CHANNELS],
+    pub a0: [u16; A0_ELEMENTS],
 }
 
 impl State {
-    /// The state before the first step: channels of the mask awake, the others off for good.
+    /// The state before the first step: channels of the mask awake, the others off for good, a0
+    /// zero.
     pub fn start(mask: u16, flag0: u16, flag1: u16) -> State {
         State {
             flags: [flag0, flag1],
@@ -28,10 +32,11 @@ impl State {
             awake: mask,
             waiting: 0,
             waiting_places: [0; CHANNELS],
+            a0: [0; A0_ELEMENTS],
         }
     }
 
-    /// Reads 42 bytes, legal or not.
+    /// Reads 58 bytes, legal or not.
     pub fn from_bytes(bytes: &[u8]) -> State {
         let number = |index: usize| u16::from_le_bytes([bytes[2 * index], bytes[2 * index + 1]]);
         State {
@@ -40,6 +45,7 @@ impl State {
             awake: number(3),
             waiting: number(4),
             waiting_places: std::array::from_fn(|channel| number(5 + channel)),
+            a0: std::array::from_fn(|element| number(5 + CHANNELS + element)),
         }
     }
 
@@ -47,7 +53,7 @@ impl State {
         let [flag0, flag1] = self.flags;
         let front = [flag0, flag1, self.place, self.awake, self.waiting];
         let mut bytes = [0; STATE_BYTES];
-        let numbers = front.iter().chain(&self.waiting_places);
+        let numbers = front.iter().chain(&self.waiting_places).chain(&self.a0);
         for (pair, number) in bytes.chunks_exact_mut(2).zip(numbers) {
             pair.copy_from_slice(&number.to_le_bytes());
         }

@@ -10,7 +10,9 @@
 //! A size in channels stands in parentheses, a subregister counts elements of the operand's
 //! type, a number with a type is an immediate. `.sat` saturates; `-`, `|` and `-|` before a
 //! register are the modifiers. `(+f0.0.any4h)` asks for any, `.all4h` for all of the flag's
-//! bits in the channel's group of 4; groups are of 2, 4, 8 or 16. Words are long, so that instruction n starts at place 2n.
+//! bits in the channel's group of 4; groups are of 2, 4, 8 or 16. `r[a0.2 + 12]<8;8,1>:d` lies in
+//! the register file at the byte that a0.2 holds and 12 more; `a0.2<0;1,0>:uw` is that number
+//! itself. Words are long, so that instruction n starts at place 2n.
 //!
 //! A text that no word can hold as it stands is refused. What the bench refuses is not: a
 //! reviewer may write it in order to see the refusal.
@@ -113,10 +115,10 @@ fn is_label(name: &str) -> bool {
 
 fn instruction(line: &str, at: usize, labels: &Labels) -> Result<LongWord, Fault> {
     let (predicate, line) = predicate(line)?;
-    let mut parts = line.split_whitespace();
-    let (operation, suffixes, channels) = head(parts.next().unwrap_or(""))?;
-    let operands: Vec<&str> = parts.collect();
-    let (condition, operands) = condition_and_rest(suffixes.condition, &operands)?;
+    let parts = parts(line);
+    let (first, operands) = parts.split_first().unwrap_or((&"", &[]));
+    let (operation, suffixes, channels) = head(first)?;
+    let (condition, operands) = condition_and_rest(suffixes.condition, operands)?;
     let mut result = with_flags(word(operation, channels), predicate, condition)?;
     if suffixes.saturated {
         result = result.saturated();
@@ -125,6 +127,16 @@ fn instruction(line: &str, at: usize, labels: &Labels) -> Result<LongWord, Fault
         true => jump(result, operation, at, &targets(operation, operands, labels)?),
         false => with_operands(result, operation, operands),
     }
+}
+
+/// The parts of an instruction, with blanks between them; those in square brackets part nothing.
+fn parts(line: &str) -> Vec<&str> {
+    let mut inside = false;
+    let blank = |character: char| {
+        inside = character == '[' || (inside && character != ']');
+        !inside && character.is_whitespace()
+    };
+    line.split(blank).filter(|part| !part.is_empty()).collect()
 }
 
 /// The first word of an instruction: operation, suffixes and channels.

@@ -2,12 +2,13 @@
 //! (paper: "The long word" and "The short word").
 
 use crate::dictionary::{Dictionary, Table};
+use crate::locations::Location;
 use crate::operations::Operation;
 
 /// File code of the general registers.
 pub const FILE_REGISTER: u32 = 1;
-/// File code of the null destination, when its register is 0.
-pub const FILE_NULL: u32 = 0;
+/// File code of the architecture registers, of which null and a0 are served.
+pub const FILE_ARCHITECTURE: u32 = 0;
 /// File code of an immediate.
 pub const FILE_IMMEDIATE: u32 = 3;
 /// The bit that tells a short word from a long one.
@@ -51,6 +52,20 @@ pub struct DestinationFields {
     pub register: u32,
     pub stride: u32,
     pub address_mode: u32,
+}
+
+impl SourceFields {
+    pub fn location(&self) -> Location {
+        let SourceFields { file, register, subregister, address_mode, .. } = *self;
+        Location { file, register, subregister, address_mode }
+    }
+}
+
+impl DestinationFields {
+    pub fn location(&self) -> Location {
+        let DestinationFields { file, register, subregister, address_mode, .. } = *self;
+        Location { file, register, subregister, address_mode }
+    }
 }
 
 impl LongWord {

@@ -2,9 +2,11 @@
 
 use spokeshaver_reference::answers::Answer;
 use spokeshaver_reference::bench_kernels::{
-    all, mixed, mixed_loop, mixed_packed, MIXED_INSTRUCTIONS,
+    all, by_address, mixed, mixed_loop, mixed_packed, MIXED_INSTRUCTIONS,
 };
 use spokeshaver_reference::calls;
+use spokeshaver_reference::state::State;
+use std::collections::BTreeSet;
 
 #[test]
 fn all_are_accepted_and_run_on() {
@@ -31,6 +33,28 @@ fn mixed_has_the_length_asked_for_and_packs_well() {
     assert_eq!(checked.count, MIXED_INSTRUCTIONS);
     let shortened = (long.kernel.len() - packed.kernel.len()) / 8;
     assert!(shortened >= MIXED_INSTRUCTIONS - 4, "only {shortened} words are short");
+}
+
+/// Most words find an operand by address, by every element of a0, and all elements change.
+#[test]
+fn addresses_are_used() {
+    let mut bench = by_address();
+    let (mut words, mut elements) = (0, BTreeSet::new());
+    for bytes in bench.kernel.chunks_exact(16) {
+        let word = u128::from_le_bytes(bytes.try_into().expect("a word"));
+        let used: Vec<u32> =
+            [48, 64, 96].into_iter().filter(|low| word >> (low + 15) & 1 == 1).collect();
+        let is_branch = word & 0x7F == 0x27;
+        words += (!used.is_empty() && !is_branch) as usize;
+        elements.extend(used.iter().map(|low| word >> (low + 10) & 7));
+    }
+    assert_eq!((bench.kernel.len() / 16, elements.len()), (MIXED_INSTRUCTIONS, 8));
+    assert!(words >= 140, "{words}");
+    let before = State::from_bytes(&bench.state).a0;
+    let (registers, state) = (&mut bench.registers, &mut bench.state);
+    calls::run(&bench.dictionary, &bench.kernel, 2_000, registers, state);
+    let after = State::from_bytes(&bench.state).a0;
+    assert!((0..8).all(|element| before[element] != after[element]), "{after:?}");
 }
 
 #[test]

@@ -1,4 +1,4 @@
-//! When a kernel must finish, and what a step may change (02 §14), over generated kernels.
+//! When a kernel must finish, and what a step may change (02 §14, §7), over generated kernels.
 
 use spokeshaver_reference::answers::Answer;
 use spokeshaver_reference::assemble::{branch, jmpi, kernel_of, leave, word};
@@ -40,11 +40,11 @@ fn run(random: &mut Random, dictionary: &[u8], kernel: &[u8], budget: usize) -> 
     Answer::of(calls::run(dictionary, kernel, budget as u64, &mut registers, &mut state))
 }
 
-/// Where every jump goes forward a run ends within as many steps as there are instructions, and
-/// so does one of the packed kernel.
+/// Where every jump goes forward a run ends, or stops at a bad address, within as many steps as
+/// there are instructions, and so does one of the packed kernel.
 #[test]
 fn forward_kernels_end() {
-    let mut ended = 0;
+    let (mut ended, mut stopped) = (0, 0);
     for (case, kernel) in forward_cases() {
         let dictionary = &case.dictionary;
         let answer = Answer::of(calls::forward(dictionary, &kernel));
@@ -61,11 +61,13 @@ fn forward_kernels_end() {
             let again = Answer::of(calls::forward(dictionary, kernel));
             assert_eq!((again.number, again.count), (0, 1), "seed {}", case.seed);
             let ran = run(&mut random, dictionary, kernel, count);
-            assert!(ran.number == 20 && ran.count <= count, "seed {}: {ran:?}", case.seed);
+            assert!(matches!(ran.number, 20 | 22), "seed {}: {ran:?}", case.seed);
+            assert!(ran.count <= count, "seed {}: {ran:?}", case.seed);
+            ended += (ran.number == 20) as usize;
+            stopped += (ran.number == 22) as usize;
         }
-        ended += 1;
     }
-    assert!(ended > 500, "{ended}");
+    assert!(ended > 500 && stopped > 100, "{ended} {stopped}");
 }
 
 /// Each branch comes up in a kernel whose jumps all go forward, jmpi with distance 0 too; and as
@@ -144,11 +146,24 @@ fn at_its_bound_and_never() {
     assert_eq!((ran.number, ran.count, forward(&back)), (21, 1_000_000, 0));
 }
 
+/// The first byte of a word's destination, in the register file or in a0, by the numbers in a0.
+fn origin(word: LongWord, a0: &[u16; 8]) -> usize {
+    let file = word.field(33, 32);
+    match (file, word.bit(63)) {
+        (1, 1) => {
+            let signed = (word.field(57, 48) as i32) << 22 >> 22;
+            (a0[word.field(60, 58) as usize] as i32 + signed) as usize
+        }
+        (1, _) => word.field(60, 53) as usize * 32 + word.field(52, 48) as usize,
+        _ => word.field(52, 48) as usize,
+    }
+}
+
 /// The channel of a word, counted with its quarter, whose destination element has a byte.
-fn writer(word: LongWord, byte: usize) -> Option<u32> {
+fn writer(word: LongWord, a0: &[u16; 8], byte: usize) -> Option<u32> {
     let size = 4 >> (word.field(36, 34) / 2);
     let stride = [0, 1, 2, 4][word.field(62, 61) as usize];
-    let origin = word.field(60, 53) as usize * 32 + word.field(52, 48) as usize;
+    let origin = origin(word, a0);
     let found = (0..1u32 << word.execution_size_code()).find(|&channel| {
         let element = origin + channel as usize * stride * size;
         (element..element + size).contains(&byte)
@@ -156,11 +171,11 @@ fn writer(word: LongWord, byte: usize) -> Option<u32> {
     found.map(|channel| 8 * word.quarter_control() + channel)
 }
 
-/// Each register byte that a step changes lies in the destination element of a channel that is
-/// awake (or WECtrl is 1), and only cmp changes flags.
+/// Each byte of registers and a0 that a step changes lies in the destination element of a channel
+/// that is awake (or WECtrl is 1), a0's only where a0 is the destination; only cmp changes flags.
 #[test]
 fn steps_change_what_they_may() {
-    let mut changed = 0;
+    let (mut changed, mut changed_a0) = (0, 0);
     for case in (7..SEEDS).step_by(CALLS as usize).map(case) {
         let Call::Step { kernel, .. } = &case.call else { continue };
         let (before, after) = (lent(&case), perform(&case, &mut Reference));
@@ -175,12 +190,19 @@ fn steps_change_what_they_may() {
         if made.operation != Operation::Cmp {
             assert_eq!(State::from_bytes(&after.state).flags, state.flags, "seed {}", case.seed);
         }
+        let enabled = |byte: usize| {
+            let writer = writer(made.word, &state.a0, byte).expect("a destination element");
+            state.awake >> writer & 1 == 1 || made.word.write_enable_control() == 1
+        };
+        let file = made.word.field(33, 32);
         for byte in (0..4096).filter(|&byte| before.registers[byte] != after.registers[byte]) {
-            let writer = writer(made.word, byte).expect("a destination element");
-            let awake = state.awake >> writer & 1 == 1;
-            assert!(awake || made.word.write_enable_control() == 1, "seed {}", case.seed);
+            assert!(file == 1 && enabled(byte), "seed {}", case.seed);
             changed += 1;
         }
+        for byte in (0..16).filter(|byte| before.state[42 + byte] != after.state[42 + byte]) {
+            assert!(file == 0 && enabled(byte), "seed {}", case.seed);
+            changed_a0 += 1;
+        }
     }
-    assert!(changed > 2_000, "{changed}");
+    assert!(changed > 2_000 && changed_a0 > 50, "{changed} {changed_a0}");
 }

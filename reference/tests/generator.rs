@@ -15,6 +15,8 @@ use spokeshaver_reference::state::State;
 use std::collections::{BTreeMap, BTreeSet};
 
 const SEEDS: u64 = 3_000 * CALLS;
+/// For what comes up seldom, and not in the rounds of seeds that have addresses.
+const MORE_SEEDS: u64 = 4_000 * CALLS;
 
 fn outcome(case: &Case) -> Outcome {
     perform(case, &mut Reference)
@@ -43,7 +45,8 @@ fn refusals_change_nothing() {
         let case = case(seed);
         let after = outcome(&case);
         let answer = Answer::of(after.answer);
-        if (1..=17).contains(&answer.number) {
+        let refused_step = answer.number == 22 && case.call.name() == "step";
+        if (1..=17).contains(&answer.number) || refused_step {
             let before = Outcome { answer: after.answer, ..lent(&case) };
             assert_eq!(after, before, "seed {seed}");
             // Of a pair the long kernel may be loaded although the sent one is refused.
@@ -117,7 +120,7 @@ fn stepped(case: &Case) -> Option<(Instruction, State)> {
 #[test]
 fn masked_compares_of_set_flags_come_up() {
     let mut seen: BTreeMap<(&str, u32, u32), usize> = BTreeMap::new();
-    let cases = (7..SEEDS).step_by(CALLS as usize).filter_map(|seed| stepped(&case(seed)));
+    let cases = (7..MORE_SEEDS).step_by(CALLS as usize).filter_map(|seed| stepped(&case(seed)));
     for (instruction, state) in cases.filter(|(made, _)| made.operation == Operation::Cmp) {
         let word = instruction.word;
         let (quarter, choice) = (word.quarter_control(), word.flag_choice());
@@ -267,7 +270,7 @@ fn judged_kernel_of(case: &Case) -> Option<&[u8]> {
 #[test]
 fn the_limits_come_up() {
     let (mut counts, mut lengths, mut jumps) = (BTreeSet::new(), BTreeSet::new(), BTreeSet::new());
-    for case in (0..SEEDS).filter(|seed| seed % CALLS < 3).map(case) {
+    for case in (0..MORE_SEEDS).filter(|seed| seed % CALLS < 3).map(case) {
         let Some(kernel) = judged_kernel_of(&case) else { continue };
         lengths.insert(kernel.len());
         if case.dictionary.len() != DICTIONARY_BYTES || kernel.len() > KERNEL_BYTES {

@@ -3,6 +3,7 @@
 use spokeshaver_reference::answers::{packed, Answer};
 use spokeshaver_reference::log::{log_append, log_read, log_run, log_runs, read, record};
 use spokeshaver_reference::log::{Values, Whole};
+use spokeshaver_reference::state::STATE_BYTES;
 
 const FIRST: Values = [20, 0, 0, 16];
 
@@ -135,7 +136,7 @@ fn counts_past_the_buffer_and_values_past_their_limits() {
 
 #[test]
 fn a_run_is_logged_by_its_answer_and_state() {
-    let mut state = [0; 42];
+    let mut state = [0; STATE_BYTES];
     state[4] = 3;
     state[6..8].copy_from_slice(&[0x0F, 0x80]);
     let mut buffer = vec![0; 100];

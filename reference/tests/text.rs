@@ -1,31 +1,11 @@
 //! The text assembler writes what a line says or refuses the line.
 
+mod texts;
+
 use spokeshaver_reference::text::assemble;
 use std::path::{Path, PathBuf};
 use std::process::{Command, Output};
-
-/// Asserts that the text is refused on this line, with all these words in the message.
-fn refused(text: &str, line: usize, words: &[&str]) {
-    let Err(fault) = assemble(text) else { panic!("accepted: {text}") };
-    assert!(fault.starts_with(&format!("line {line}: ")), "{text}: {fault}");
-    for word in words {
-        assert!(fault.contains(word), "{text}: {fault} lacks {word}");
-    }
-}
-
-/// Asserts that each text, on the second line, is refused with these words in the message.
-fn all_refused(texts: &[&str], words: &[&str]) {
-    for text in texts {
-        refused(&format!("nop(1)\n{text}\nend:"), 2, words);
-    }
-}
-
-/// The fields of the only word of a text: bits `high` down to `low` of each pair.
-fn fields<const COUNT: usize>(text: &str, places: [(u32, u32); COUNT]) -> [u32; COUNT] {
-    let (kernel, _) = assemble(text).unwrap_or_else(|fault| panic!("{text}: {fault}"));
-    let number = u128::from_le_bytes(kernel.try_into().expect("one word"));
-    places.map(|(high, low)| (number >> low) as u32 & (u32::MAX >> (31 - (high - low))))
-}
+use texts::*;
 
 fn example(name: &str) -> PathBuf {
     Path::new(env!("CARGO_MANIFEST_DIR")).join("../examples").join(name)

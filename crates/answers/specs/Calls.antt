@@ -16,7 +16,8 @@ use Rattle.paper.specs.Expand.{isShort, expand}
 use Rattle.paper.specs.Shorten.{shorten}
 use Rattle.paper.specs.Operation.{operation, isListed, isBranch}
 use Rattle.paper.specs.Kernel.{Instr, Forms, longAndShort, longOnly, Judged, refused, passed, judgeAt, Parsed, bad, good}
-use Rattle.paper.specs.Machine.{State, step, stops, stopsOn, run}
+use Rattle.paper.specs.Machine.{State, Outcome, step, stops, stopsOn, run}
+use Rattle.paper.specs.Address.{addressStops}
 use Rattle.paper.specs.Jump.{fetch}
 use Rattle.paper.specs.Forward.{forward}
 use Rattle.paper.specs.Enable.{digit}
@@ -25,17 +26,16 @@ use Rattle.paper.specs.Packing.{Form, relay}
 use Rattle.paper.specs.Calls.{Answer, verdict, refusal, refusalWith, numberOf, Written, deliver, sized, accepted, judgedKernel, checkedAs, checkCall, forwardAs, forwardCall, relaid, packCall, unpackCall, pairedAs, pairCall}
 use Rattle.paper.specs.Program.{lineOf, program, agreed}
 use Rattle.paper.specs.Calls.{oneWord, shortened, shortenCall, expandCall, judgedAs, decodeAt, decodedAs, decodeCall, startCall}
-use Rattle.paper.specs.Calls.{Changed, allSized, onState, steppedAs, stepCall, ranAs, runCall}
+use Rattle.paper.specs.Calls.{Changed, allSized, onState, stoppedAs, steppedAs, stepCall, ranAs, runCall}
 use Rattle.laws.specs.Bytes.{length-bytesOf}
 use Rattle.laws.specs.Relay.{relay-length, newEnd-near}
 use Rattle.laws.specs.Agreed.{agreed-few}
-use Rattle.laws.specs.Runs.{ran}
-use Rattle.laws.specs.Calls.{run-verdict}
+use Rattle.laws.specs.Runs.{ran, Verdict, ended, spent, astray, verdict-says}
 use Rattle.laws.specs.Masks.{digit-less}
 use Rattle.answers.specs.Numbers.{oneTo, checkNumbers, forwardNumbers, packNumbers, unpackNumbers, pairNumbers, shortenNumbers, expandNumbers, decodeNumbers, startNumbers, stepNumbers, runNumbers}
 use Rattle.answers.specs.Small.{Small, small-refusal, small-verdict, small-counts}
 use Rattle.answers.specs.Judging.{Modest, modest-number, modest-above, modest-size, judged-modest}
-use Rattle.answers.specs.Kernels.{KernelNo, Near, near-refused, near-number, near-few, near-more, sized-most, judged-near, accepted-near, Few, few-number, long-few}
+use Rattle.answers.specs.Kernels.{KernelNo, Near, near-refused, near-number, near-few, near-more, near-fetched, sized-most, judged-near, accepted-near, Few, few-number, long-few}
 use Rattle.laws.specs.Truth.{both-true}
 
 -- ---- choices and refusals
@@ -246,12 +246,19 @@ start-fine mask flag0 flag1 bytes =
 
 -- What is done with a state has a fine answer where it has one on every accepted kernel.
 state-fine : (others : ℕ → Bool) → others 17 ≡ true → others 15 ≡ true → (registers bytes : List ℕ) (go : List Instr → State → Changed)
-    → ((k : List Instr) (s : State) → FineChanged (λ n. oneTo 12 n || others n) (go k s))
+    → ((k : List Instr) (s : State) → Near kernelBytes instructionLimit (good k) → FineChanged (λ n. oneTo 12 n || others n) (go k s))
     → (q : Parsed) → Near kernelBytes instructionLimit q → FineChanged (λ n. oneTo 12 n || others n) (onState registers bytes go q)
 state-fine others last illegal registers bytes go h (bad number offset) n = fine-bad others number offset (λ _. last) n
 state-fine others last illegal registers bytes go h (good k) n =
-    by-cond (FineChanged (λ m. oneTo 12 m || others m)) (stateLegal k registers bytes) _ _ (λ _. h k (stateOf registers bytes))
+    by-cond (FineChanged (λ m. oneTo 12 m || others m)) (stateLegal k registers bytes) _ _ (λ _. h k (stateOf registers bytes) n)
     (λ _. fine-no (λ m. oneTo 12 m || others m) 15 0 illegal (omega arith) (omega arith))
+
+-- 22 at an instruction of an accepted kernel: its place is inside, and it counts up to 1,000,000 steps.
+fine-astray : (numbers : ℕ → Bool) → numbers 22 ≡ true → (k : List Instr) → Near kernelBytes instructionLimit (good k)
+    → (place : ℕ) (i : Instr) → fetch k place ≡ some i → (steps : ℕ) → steps ≤ budgetLimit → Fine numbers (refusalWith 22 (8 * place) steps)
+fine-astray numbers l k n place i e steps c =
+    let inside = near-fetched kernelBytes instructionLimit k place i n e in
+    record { listed = l; small = small-counts 22 (8 * place) steps (omega arith) (omega arith) (omega arith) }
 
 -- A kernel that is judged once all sizes are right.
 lent-near : (dictionary kernel registers bytes : List ℕ) → allSized dictionary kernel registers bytes ≡ true
@@ -260,21 +267,27 @@ lent-near dictionary kernel registers bytes e =
     near-more (length kernel) kernelBytes instructionLimit _ (sized-most dictionary kernel (both-true (sized dictionary kernel) _ e .0))
     (judged-near longAndShort dictionary kernel)
 
--- A step answers 0, 20 or a refusal, and counts nothing.
+-- A step answers 0, 20, 22 or a refusal, and counts nothing.
 pub step-fine : (dictionary kernel registers bytes : List ℕ) → Fine stepNumbers (stepCall dictionary kernel registers bytes .answer)
 unfolding stepCall
 step-fine dictionary kernel registers bytes =
     by-cond (FineChanged stepNumbers) (allSized dictionary kernel registers bytes) _ _
-    (λ right. state-fine (λ n. eqb n 0 || (eqb n 15 || (eqb n 17 || eqb n 20))) refl refl registers bytes (λ k s. steppedAs (stops k s) registers bytes (step k s)) stepped _
-    (lent-near dictionary kernel registers bytes right))
+    (λ right. state-fine (λ n. eqb n 0 || (eqb n 15 || (eqb n 17 || (eqb n 20 || eqb n 22)))) refl refl registers bytes
+    (λ k s. steppedAs (stops k s) registers bytes s (step k s)) stepped _ (lent-near dictionary kernel registers bytes right))
     (λ _. fine-no stepNumbers 1 0 refl (omega arith) (omega arith))
   where
-    stepped : (k : List Instr) (s : State) → FineChanged stepNumbers (steppedAs (stops k s) registers bytes (step k s))
-    stepped k s = go (fetch k (s .place)) (step k s)
+    stepped : (k : List Instr) (s : State) → Near kernelBytes instructionLimit (good k)
+        → FineChanged stepNumbers (steppedAs (stops k s) registers bytes s (step k s))
+    stepped k s near = go (fetch k (s .place)) refl (step k s)
       where
-        go : (o : Option Instr) (after : State) → FineChanged stepNumbers (steppedAs (stopsOn o) registers bytes after)
-        go none after = fine-told stepNumbers 20 0 refl (omega arith) (omega arith)
-        go (some i) after = fine-told stepNumbers 0 0 refl (omega arith) (omega arith)
+        go : (o : Option Instr) → fetch k (s .place) ≡ o → (after : State)
+            → FineChanged stepNumbers (steppedAs (stopsOn o (s .store .addresses)) registers bytes s after)
+        go none e after = fine-told stepNumbers 20 0 refl (omega arith) (omega arith)
+        go (some i) e after = by (addressStops (s .store .addresses) (i .word))
+          where
+            by : (t : Bool) → FineChanged stepNumbers (steppedAs (cond t (some 22) none) registers bytes s after)
+            by true = fine-astray stepNumbers refl k near (s .place) i e 0 (omega arith)
+            by false = fine-told stepNumbers 0 0 refl (omega arith) (omega arith)
 
 -- A run makes no more steps than its budget, which is at most 1,000,000.
 pub run-fine : (dictionary kernel : List ℕ) (budget : ℕ) (registers bytes : List ℕ)
@@ -283,14 +296,19 @@ unfolding runCall
 run-fine dictionary kernel budget registers bytes =
     by-cond (FineChanged runNumbers) (not (allSized dictionary kernel registers bytes)) _ _ (λ _. fine-no runNumbers 1 0 refl (omega arith) (omega arith))
     (λ right. by-cond (FineChanged runNumbers) (ltb budgetLimit budget) _ _ (λ _. fine-no runNumbers 16 0 refl (omega arith) (omega arith))
-    (λ within. state-fine (λ n. eqb n 15 || (eqb n 16 || (eqb n 17 || (eqb n 20 || eqb n 21)))) refl refl registers bytes (λ k s. ranAs (run k budget s)) (made (ltb-false budgetLimit budget within)) _
-    (lent-near dictionary kernel registers bytes (not-false _ right))))
+    (λ within. state-fine (λ n. eqb n 15 || (eqb n 16 || (eqb n 17 || (eqb n 20 || (eqb n 21 || eqb n 22))))) refl refl registers bytes
+    (λ k s. ranAs (run k budget s)) (made (ltb-false budgetLimit budget within)) _ (lent-near dictionary kernel registers bytes (not-false _ right))))
   where
-    made : budget ≤ budgetLimit → (k : List Instr) (s : State) → FineChanged runNumbers (ranAs (run k budget s))
-    made within k s =
-        let r = ran (stops k) (step k) budget s in
-        let few = r .within in
-        elim (run-verdict k budget s) [
-          | inl e ↦ fine-told runNumbers (run k budget s .verdict) (run k budget s .steps) (rw e) (omega arith) (omega arith)
-          | inr e ↦ fine-told runNumbers (run k budget s .verdict) (run k budget s .steps) (rw e) (omega arith) (omega arith)
-        ]
+    made : budget ≤ budgetLimit → (k : List Instr) (s : State) → Near kernelBytes instructionLimit (good k) → FineChanged runNumbers (ranAs (run k budget s))
+    made within k s near = go (verdict-says k budget s)
+      where
+        o : Outcome
+        o = run k budget s
+
+        few : o .steps ≤ budgetLimit
+        few = let r = ran (stops k) (step k) budget s .within in omega arith
+
+        go : Verdict k budget o → Fine runNumbers (stoppedAs (o .verdict) (o .state .place) (o .steps))
+        go (ended v f) = rw v (fine-told runNumbers 20 (o .steps) refl (omega arith) few)
+        go (spent v n i f) = rw v (fine-told runNumbers 21 (o .steps) refl (omega arith) few)
+        go (astray v n i f a) = rw v (fine-astray runNumbers refl k near (o .state .place) i f (o .steps) few)

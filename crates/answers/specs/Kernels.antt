@@ -3,8 +3,8 @@
 use mathlib.Core.Bool.{Bool, true, false, cond, _&&_, false≢true}
 use mathlib.Core.List.{List, [], _∷_}
 use mathlib.Core.Logic.{_⊎_, inl, inr}
-use mathlib.Core.Option.{Option, none, some}
-use mathlib.Core.Path.{_≡_, refl}
+use mathlib.Core.Option.{Option, none, some, Option·none-ne-some}
+use mathlib.Core.Path.{_≡_, refl, sym, _∙_}
 use Prim.Native.Nat.{ℕ, zero, suc, _+_, _*_, _/_, _<_, _≤_}
 use native.Mathlib.Omega.{arith}
 use lib.Dec.{eqb, ltb}
@@ -13,8 +13,9 @@ use borrow.Author.Tests.{ltb-true, leb-true}
 use Rattle.paper.specs.Limits.{dictionaryBytes, kernelBytes, instructionLimit}
 use Rattle.paper.specs.Dictionary.{Dictionary, dictionaryOf, inRange}
 use Rattle.paper.specs.Kernel.{Instr, Forms, longOnly, Judged, refused, passed, judgeAt, Parsed, bad, good, prepend, enter, walk, parse}
-use Rattle.paper.specs.Jump.{targetsOf, targetsLand, firstAstray, astray, withJumps}
+use Rattle.paper.specs.Jump.{targetsOf, targetsLand, firstAstray, astray, withJumps, fetch}
 use Rattle.paper.specs.Calls.{sized, judgedKernel, accepted}
+use Rattle.laws.specs.Places.{here, there, at, fetch-there}
 use Rattle.laws.specs.Judged.{Passed, asLong, asShort, judge-passed}
 use Rattle.answers.specs.Judging.{Modest, modest-number, modest-above, judged-modest}
 use Rattle.laws.specs.Truth.{both-true}
@@ -104,6 +105,19 @@ near-astray end n k (i ∷ rest) h g = go (targetsLand k (targetsOf i)) (near-as
 pub near-inside : (end n : ℕ) (k : List Instr) → Near end n (good k) → Inside end k
 unfolding Near
 near-inside end n k h = h .1
+
+-- An instruction of such a kernel starts before the end.
+fetched-inside : (end : ℕ) (k : List Instr) (p : ℕ) (i : Instr) → Inside end k → fetch k p ≡ some i → 8 * p < end
+unfolding Inside fetch
+fetched-inside end [] p i g e = absurd (Option·none-ne-some i e)
+fetched-inside end (j ∷ k) p i g e =
+    elim (at j p) [
+      | here h ↦ omega (arith, g .0)
+      | there h ↦ fetched-inside end k p i (g .1) (sym (fetch-there j k p h) ∙ e)
+    ]
+
+pub near-fetched : (end n : ℕ) (k : List Instr) (p : ℕ) (i : Instr) → Near end n (good k) → fetch k p ≡ some i → 8 * p < end
+near-fetched end n k p i h e = fetched-inside end k p i (near-inside end n k h) e
 
 -- So a kernel with its jumps judged is as near.
 near-jumps : (end n : ℕ) (q : Parsed) → Near end n q → Near end n (withJumps q)

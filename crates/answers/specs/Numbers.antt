@@ -1,4 +1,5 @@
--- Which numbers of the paper's list each call answers: 0, 20 and 21 are verdicts, the others refusals. Assumes nothing.
+-- Which numbers of the paper's list each call answers: 0, 20 and 21 are verdicts; 22, an address that is broken, is a verdict of a run and refuses a step; the others
+-- are refusals. Assumes nothing.
 use mathlib.Core.Bool.{Bool, _&&_, _||_}
 use Prim.Native.Nat.{ℕ}
 use lib.Dec.{eqb, leb}
@@ -43,13 +44,13 @@ decodeNumbers n = oneTo 11 n || eqb n 0
 abbrev pub startNumbers : ℕ → Bool
 startNumbers n = eqb n 0 || eqb n 1
 
--- Step: 0, 20, or 1 to 12, 15 or 17.
+-- Step: 0, 20, 22, or 1 to 12, 15 or 17.
 abbrev pub stepNumbers : ℕ → Bool
-stepNumbers n = oneTo 12 n || (eqb n 0 || (eqb n 15 || (eqb n 17 || eqb n 20)))
+stepNumbers n = oneTo 12 n || (eqb n 0 || (eqb n 15 || (eqb n 17 || (eqb n 20 || eqb n 22))))
 
--- Run: 20, 21, or 1 to 12, 15, 16 or 17.
+-- Run: 20, 21, 22, or 1 to 12, 15, 16 or 17.
 abbrev pub runNumbers : ℕ → Bool
-runNumbers n = oneTo 12 n || (eqb n 15 || (eqb n 16 || (eqb n 17 || (eqb n 20 || eqb n 21))))
+runNumbers n = oneTo 12 n || (eqb n 15 || (eqb n 16 || (eqb n 17 || (eqb n 20 || (eqb n 21 || eqb n 22)))))
 
 -- Reading a log: 0, 1 or 32.
 abbrev pub logReadNumbers : ℕ → Bool

@@ -12,7 +12,7 @@ put-near lo hi v h = omega arith
 
 module _ (lo hi : ℕ) (h : lo < 2 ^ 64) where
   -- The bits below 64 + n are the low half, and the n lowest of the high half above it.
-  below : (n : ℕ) → (lo + hi * 2 ^ 64) % 2 ^ (64 + n) ≡ lo + hi % 2 ^ n * 2 ^ 64
+  pub below : (n : ℕ) → (lo + hi * 2 ^ 64) % 2 ^ (64 + n) ≡ lo + hi % 2 ^ n * 2 ^ 64
   below n =
       let low : bits (lo + hi * 2 ^ 64) 0 64 ≡ lo = bits-mod (lo + hi * 2 ^ 64) 64 ∙ low-of 64 hi h in
       let high : bits (lo + hi * 2 ^ 64) 64 n ≡ hi % 2 ^ n = bits-high 64 0 n hi h ∙ bits-mod hi n in

@@ -10,19 +10,20 @@ use lib.Dec.{eqb}
 use lib.ListN.{getD}
 use lib.Pow.{pow-mono}
 use Rattle.paper.specs.Bits.{bit}
-use Rattle.paper.specs.Word.{src0, src1, condModifier, saturate, dstType, qtrCtrl}
+use Rattle.paper.specs.Word.{src0, src1, condModifier, saturate, dstType, srcIsA0, qtrCtrl}
 use Rattle.paper.specs.Operation.{Plain}
 use Rattle.paper.specs.Value.{width, IsType, modZ, stored}
 use Rattle.paper.specs.Element.{oneIf, result, made, meets}
 use Rattle.paper.specs.Region.{channels}
 use Rattle.paper.specs.Store.{Store}
 use Rattle.paper.specs.Enable.{digit, ofBits, channelOf}
-use Rattle.paper.specs.Effect.{operand, finds}
+use Rattle.paper.specs.Effect.{operand, fileIn, sourceAt, finds}
 use Rattle.laws.specs.Bits.{bits-mod, bits-below}
 use Rattle.laws.specs.Values.{by-type}
 use Rattle.laws.specs.Masks.{digit-bit, ofBits-less, bit-ofBits}
 use Rattle.lanes.specs.Masks.{raisedMask}
 use Rattle.lanes.specs.MaskLaws.{bit-raised}
+use Rattle.execute.specs.Readable.{Acting, one-file}
 use Rattle.execute.specs.Results.{channelMakes, Makes}
 
 -- The lowest bits of the n first values: bit k is value k's.
@@ -64,11 +65,12 @@ bit-low kind v is = by-type (λ size bits. bit v 0 ≡ bit (v % 2 ^ bits) 0) (sa
     same q = ap (λ (x : ℕ). eqb x 1) (sym (bits-below 0 1 q v))
 
 -- By channel number, the mask says what the paper's cmp finds.
-pub bit-finds : (w predicate : ℕ) (st : Store) (made : List ℕ) → IsType (dstType w) → saturate w ≡ 0 → Makes Plain.cmp w predicate (st .registers) made
+pub bit-finds : (w predicate : ℕ) (st : Store) (made : List ℕ) → Acting Plain.cmp w → IsType (dstType w) → saturate w ≡ 0
+    → Makes Plain.cmp w predicate (fileIn (srcIsA0 src0 w) st) made
     → (m : ℕ) → channelOf w 0 ≤ m → m < channelOf w 0 + channels w
     → bit (raisedMask (lowestBits made (channels w)) (qtrCtrl w)) m ≡ finds w st m
 unfolding lowestBits finds Makes
-bit-finds w predicate st made is e makes m from before =
+bit-finds w predicate st made acting is e makes m from before =
     let n : ℕ = m - channelOf w 0 in
     let own : n < channels w = omega arith in
     let mask : ℕ = ofBits (λ k. bit (getD made k 0) 0) (channels w) in
@@ -77,4 +79,5 @@ bit-finds w predicate st made is e makes m from before =
     ∙ bit-ofBits (λ k. bit (getD made k 0) 0) (channels w) n own
     ∙ bit-low (dstType w) (getD made n 0) is
     ∙ ap (λ (v : ℕ). bit v 0) (makes n own)
-    ∙ makes-outcome w predicate (st .registers) n is e
+    ∙ makes-outcome w predicate (fileIn (srcIsA0 src0 w) st) n is e
+    ∙ ap (λ (f : Bool). meets (condModifier w) (sourceAt w st src0 n) (operand w (fileIn f st) src1 n)) (sym (one-file Plain.cmp w acting refl))

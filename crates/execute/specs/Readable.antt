@@ -1,34 +1,54 @@
--- What a legal word gives: sources that can be read, a destination that can be written. Assumes nothing.
-use mathlib.Core.Path.{_≡_, refl, sym}
-use mathlib.Core.Bool.{Bool, true, false, not, cond, _&&_, _||_, true≢false}
-use mathlib.Core.List.{List·Memᴰ}
+-- What a legal word gives whose operands are named directly: sources that can be read, a destination that can be written. Assumes nothing.
+use mathlib.Core.Path.{_≡_, refl, sym, ap, _∙_}
+use mathlib.Core.Bool.{Bool, true, false, not, cond, _&&_, _||_, true≢false, false≢true}
+use mathlib.Core.List.{List, List·Memᴰ}
 use Prim.Native.Nat.{ℕ, _+_, _≤_, _<_}
 use native.Mathlib.Omega.{arith}
 use lib.Dec.{eqb, ltb, leb}
 use lib.Pow.{pow-mono}
-use borrow.Author.Tests.{leb-true, ltb-false, eqb-true, not-false}
-use Rattle.paper.specs.Limits.{registerBytes}
+use borrow.Author.Tests.{leb-true, ltb-false, eqb-true, not-true, not-false}
 use Rattle.paper.specs.Word.{Source, src0, src1, accessMode, accWrCtrl, execSize, saturate, condModifier, isImmediate}
 use Rattle.paper.specs.Word.{grf, dstFile, dstType, dstAddrMode, srcFile, srcType, srcAddrMode}
-use Rattle.paper.specs.Operation.{Plain, traits, sources}
+use Rattle.paper.specs.Operation.{Plain, Operation, plain, nop, branch, unlisted, operation, isMov, traits, sources}
+use Rattle.paper.specs.Store.{Store}
+use Rattle.paper.specs.Address.{settled}
+use Rattle.paper.specs.Effect.{plainEffect, effect}
+use Rattle.laws.specs.Settled.{settled-none}
 use Rattle.paper.specs.Value.{IsType}
 use Rattle.paper.specs.Region.{channels, dstSize, dstElement}
-use Rattle.paper.specs.Word.{isNull}
-use Rattle.paper.specs.Legal.{anyOf, misplaced, unequalHalves, badModifier, quarterServed, predicateServed, conditionServed, controlServed, dstServed, srcServed, plainServed, operandRuleBroken}
+use Rattle.paper.specs.Word.{isNull, dstIsA0, srcIsA0}
+use Rattle.paper.specs.Legal.{anyOf, misplaced, unequalHalves, badModifier, quarterServed, predicateServed, conditionServed, controlServed, dstServed, srcServed, usesA0, movesWords, plainServed, operandRuleBroken, bytesIn}
 use Rattle.paper.specs.Enable.{channelOf}
 use Rattle.laws.specs.Truth.{both-true}
 use Rattle.laws.specs.Values.{listed-type}
-use Rattle.laws.specs.Regions.{LegalPlain, none-of, source-inside, destination-inside}
+use Rattle.laws.specs.Sources.{readsTwo, sources-told, one-source, first-source, second-source}
+use Rattle.laws.specs.Regions.{LegalPlain, Named, or-false, none-of, source-inside, destination-inside}
 use Rattle.lanes.specs.Served.{plain-control, plain-channels}
 use Rattle.operands.specs.Sources.{Readable}
 
+-- Word w of operation p can be executed: it is legal, and every operand is named directly.
+pub record Acting (p : Plain) (w : ℕ) : Type 0 where
+  pub legal : LegalPlain p w
+  pub named : Named p w
+
+-- A word can be executed if it is of an operation with operands.
+abbrev pub Actable : ℕ → Type 0
+Actable w = (p : Plain) → operation w ≡ plain p → Acting p w
+
+-- Its effect is then that of its operation as the word stands.
+pub effect-acting : (p : Plain) (w : ℕ) (awake : List Bool) (st : Store) → operation w ≡ plain p → Acting p w → effect w awake st ≡ plainEffect p w awake st
+unfolding effect
+effect-acting p w awake st o acting =
+    ap {B = Store} (λ (q : Operation). elim q [ plain p ↦ plainEffect p (settled p (st .addresses) w) awake st | nop ↦ st | branch b ↦ st | unlisted ↦ st ]) o
+    ∙ ap (λ (v : ℕ). plainEffect p v awake st) (settled-none (st .addresses) p w (acting .named))
+
 -- ---- channels
 
--- A word's destination can be written: its type is one, and what is not null lies inside the registers.
+-- A word's destination can be written: its type is one, and what is not null lies inside its file.
 pub record Writable (w : ℕ) : Type 0 where
   pub count : execSize w ≤ 4
   pub type : IsType (dstType w)
-  pub inside : isNull w ≡ false → (n : ℕ) → n < channels w → dstElement w n + dstSize w ≤ registerBytes
+  pub inside : isNull w ≡ false → (n : ℕ) → n < channels w → dstElement w n + dstSize w ≤ bytesIn (dstIsA0 w)
 
 -- A served ExecSize code is at most 4.
 control-count : (compares saturates : Bool) (w : ℕ) → controlServed compares saturates w ≡ true → execSize w ≤ 4
@@ -38,77 +58,145 @@ control-count compares saturates w e =
     let b = both-true (eqb (accWrCtrl w) 0) _ (a .1) in
     leb-true (execSize w) 4 (both-true (leb (execSize w) 4) _ (b .1) .0)
 
-pub legal-count : (p : Plain) (w : ℕ) → LegalPlain p w → execSize w ≤ 4
-legal-count p w l = control-count (traits p .compares) (traits p .saturates) w (plain-control p w (l .served))
+pub legal-count : (p : Plain) (w : ℕ) → Acting p w → execSize w ≤ 4
+legal-count p w l = control-count (traits p .compares) (traits p .saturates) w (plain-control p w (l .legal .served))
 
 -- Its channels end before channel 16.
-pub legal-channels : (p : Plain) (w : ℕ) → LegalPlain p w → channelOf w 0 + channels w ≤ 16
-legal-channels p w l = plain-channels p w (l .served)
+pub legal-channels : (p : Plain) (w : ℕ) → Acting p w → channelOf w 0 + channels w ≤ 16
+legal-channels p w l = plain-channels p w (l .legal .served)
 
 -- ---- types
 
 served-destination : (w : ℕ) → dstServed w ≡ true → dstType w ≤ 5
 unfolding dstServed
-served-destination w e =
-    let a = both-true (eqb (dstFile w) grf || isNull w) _ e in
-    leb-true (dstType w) 5 (both-true (eqb (dstAddrMode w) 0) _ (a .1) .1)
+served-destination w e = leb-true (dstType w) 5 (both-true (eqb (dstFile w) grf || ((isNull w || dstIsA0 w) && eqb (dstAddrMode w) 0)) _ e .1)
 
 served-source : (w : ℕ) (x : Source) → srcServed w x ≡ true → srcType x w ≤ 5
 unfolding srcServed
 served-source w x = go (isImmediate x w)
   where
-    go : (b : Bool) → cond b (leb (srcType x w) 3) (eqb (srcFile x w) grf && (eqb (srcAddrMode x w) 0 && leb (srcType x w) 5)) ≡ true → srcType x w ≤ 5
+    go : (b : Bool) → cond b (leb (srcType x w) 3) ((eqb (srcFile x w) grf || (srcIsA0 x w && eqb (srcAddrMode x w) 0)) && leb (srcType x w) 5) ≡ true → srcType x w ≤ 5
     go true e = let h = leb-true (srcType x w) 3 e in omega arith
-    go false e =
-        let a = both-true (eqb (srcFile x w) grf) _ e in
-        leb-true (srcType x w) 5 (both-true (eqb (srcAddrMode x w) 0) _ (a .1) .1)
+    go false e = leb-true (srcType x w) 5 (both-true (eqb (srcFile x w) grf || (srcIsA0 x w && eqb (srcAddrMode x w) 0)) _ e .1)
 
-not-true : (b : Bool) → not b ≡ true → b ≡ false
-not-true true e = sym e
-not-true false e = refl
+-- 7 of the parts of a legal word.
+record Served (p : Plain) (w : ℕ) : Type 0 where
+  destination : dstServed w ≡ true
+  sources-not : anyOf (λ x. not (srcServed w x)) (sources p) ≡ false
+  a0 : (not (usesA0 p w) || movesWords p w) ≡ true
+
+served-parts : (p : Plain) (w : ℕ) → LegalPlain p w → Served p w
+unfolding plainServed
+served-parts p w l =
+    let a = both-true (controlServed (traits p .compares) (traits p .saturates) w) _ (l .served) in
+    let b = both-true (dstServed w) _ (a .1) in
+    let c = both-true (not (anyOf (λ x. not (srcServed w x)) (sources p))) _ (b .1) in
+    record { destination = b .0; sources-not = not-true (anyOf (λ x. not (srcServed w x)) (sources p)) (c .0); a0 = c .1 }
 
 -- A legal word's destination has a type,
-pub legal-type : (p : Plain) (w : ℕ) → LegalPlain p w → IsType (dstType w)
-unfolding plainServed
-legal-type p w l =
-    let a = both-true (controlServed (traits p .compares) (traits p .saturates) w) _ (l .served) in
-    listed-type (dstType w) (served-destination w (both-true (dstServed w) _ (a .1) .0))
+pub legal-type : (p : Plain) (w : ℕ) → Acting p w → IsType (dstType w)
+legal-type p w l = listed-type (dstType w) (served-destination w (served-parts p w (l .legal) .destination))
 
 -- and so has every source that its operation reads.
 source-type : (p : Plain) (w : ℕ) → LegalPlain p w → (x : Source) → List·Memᴰ x (sources p) → IsType (srcType x w)
-unfolding plainServed
 source-type p w l x m =
-    let a = both-true (controlServed (traits p .compares) (traits p .saturates) w) _ (l .served) in
-    let b = both-true (dstServed w) _ (a .1) in
-    let none = not-true (anyOf (λ y. not (srcServed w y)) (sources p)) (b .1) in
-    listed-type (srcType x w) (served-source w x (not-false (srcServed w x) (none-of (λ y. not (srcServed w y)) none m)))
+    listed-type (srcType x w)
+    (served-source w x (not-false (srcServed w x) (none-of (λ y. not (srcServed w y)) (served-parts p w l .sources-not) m)))
+
+-- ---- a0
+
+-- Only mov is mov.
+only-mov : (p : Plain) → isMov p ≡ true → p ≡ Plain.mov
+only-mov Plain.mov e = refl
+only-mov Plain.sel e = absurd (false≢true e)
+only-mov Plain.not e = absurd (false≢true e)
+only-mov Plain.and e = absurd (false≢true e)
+only-mov Plain.or e = absurd (false≢true e)
+only-mov Plain.xor e = absurd (false≢true e)
+only-mov Plain.shr e = absurd (false≢true e)
+only-mov Plain.shl e = absurd (false≢true e)
+only-mov Plain.asr e = absurd (false≢true e)
+only-mov Plain.cmp e = absurd (false≢true e)
+only-mov Plain.add e = absurd (false≢true e)
+only-mov Plain.mul e = absurd (false≢true e)
+only-mov Plain.avg e = absurd (false≢true e)
+
+-- An operation that is not mov has no operand in a0.
+pub moved-only : (p : Plain) (w : ℕ) → Acting p w → isMov p ≡ false → usesA0 p w ≡ false
+unfolding movesWords
+moved-only p w l e = go (usesA0 p w) (rw e at (served-parts p w (l .legal) .a0))
+  where
+    go : (t : Bool) → (not t || false) ≡ true → t ≡ false
+    go true f = absurd (false≢true f)
+    go false f = refl
+
+-- Where no operand is a0, the destination is not, nor is a source that is read.
+pub not-destination : (p : Plain) (w : ℕ) → usesA0 p w ≡ false → dstIsA0 w ≡ false
+unfolding usesA0
+not-destination p w e = or-false (dstIsA0 w) _ e .0
+
+pub not-source : (p : Plain) (w : ℕ) → usesA0 p w ≡ false → (x : Source) → List·Memᴰ x (sources p) → srcIsA0 x w ≡ false
+unfolding usesA0
+not-source p w e x m = none-of (λ y. srcIsA0 y w) (or-false (dstIsA0 w) _ e .1) m
+
+-- Two sources stand in one file.
+pub one-file : (p : Plain) (w : ℕ) → Acting p w → readsTwo p ≡ true → srcIsA0 src1 w ≡ srcIsA0 src0 w
+one-file p w l two = go (isMov p) refl
+  where
+    go : (t : Bool) → isMov p ≡ t → srcIsA0 src1 w ≡ srcIsA0 src0 w
+    go true e = absurd (true≢false (sym two ∙ ap readsTwo (only-mov p e)))
+    go false e =
+        let none = moved-only p w l e in
+        not-source p w none src1 (second-source p two) ∙ sym (not-source p w none src0 (first-source p))
+
+-- What has an operand in a0 is a mov,
+pub a0-moves : (p : Plain) (w : ℕ) → Acting p w → usesA0 p w ≡ true → p ≡ Plain.mov
+a0-moves p w l e = only-mov p (go (isMov p) refl)
+  where
+    go : (t : Bool) → isMov p ≡ t → isMov p ≡ true
+    go true m = m
+    go false m = absurd (true≢false (sym e ∙ moved-only p w l m))
+
+-- and its destination or its first source is a0.
+pub a0-told : (p : Plain) (w : ℕ) → Acting p w → usesA0 p w ≡ (dstIsA0 w || srcIsA0 src0 w)
+unfolding usesA0
+a0-told p w l = ap (λ (b : Bool). dstIsA0 w || b) (go (readsTwo p) refl)
+  where
+    same : (b : Bool) → (b || (b || false)) ≡ b
+    same true = refl
+    same false = refl
+
+    alone : (b : Bool) → (b || false) ≡ b
+    alone true = refl
+    alone false = refl
+
+    go : (t : Bool) → readsTwo p ≡ t → anyOf (λ x. srcIsA0 x w) (sources p) ≡ srcIsA0 src0 w
+    go true e = rw (sources-told p, e, one-file p w l e) (same (srcIsA0 src0 w))
+    go false e = rw (one-source p e) (alone (srcIsA0 src0 w))
 
 -- ---- operands
 
 -- Every source that an operation reads can be read if the word is legal,
-pub legal-readable : (p : Plain) (w : ℕ) → LegalPlain p w → (x : Source) → List·Memᴰ x (sources p) → Readable x w
+pub legal-readable : (p : Plain) (w : ℕ) → Acting p w → (x : Source) → List·Memᴰ x (sources p) → Readable x w
 legal-readable p w l x m =
     record {
       count = legal-count p w l;
-      type = source-type p w l x m;
-      inside = source-inside p w (l .shape) (l .reach) x m;
+      type = source-type p w (l .legal) x m;
+      inside = λ i. source-inside p w (l .legal .shape) (l .legal .reach) x m i (l .named .source x m);
     }
 
 -- and its destination can be written.
-pub legal-writable : (p : Plain) (w : ℕ) → LegalPlain p w → Writable w
-legal-writable p w l = record { count = legal-count p w l; type = legal-type p w l; inside = destination-inside p w (l .reach) }
+pub legal-writable : (p : Plain) (w : ℕ) → Acting p w → Writable w
+legal-writable p w l =
+    record { count = legal-count p w l; type = legal-type p w l; inside = λ d. destination-inside p w (l .legal .reach) d (l .named .destination) }
 
 -- ---- single operations
 
-or-false : (a b : Bool) → (a || b) ≡ false → (a ≡ false) × (b ≡ false)
-or-false true b e = absurd (true≢false e)
-or-false false b e = (refl, e)
-
 -- mul's sources are no dwords.
-pub legal-factors : (w : ℕ) → LegalPlain Plain.mul w → (2 ≤ srcType src0 w) × (2 ≤ srcType src1 w)
+pub legal-factors : (w : ℕ) → Acting Plain.mul w → (2 ≤ srcType src0 w) × (2 ≤ srcType src1 w)
 unfolding operandRuleBroken
 legal-factors w l =
-    let a = or-false (misplaced Plain.mul w) _ (l .operands) in
+    let a = or-false (misplaced Plain.mul w) _ (l .legal .operands) in
     let b = or-false (anyOf (unequalHalves w) (sources Plain.mul)) _ (a .1) in
     let c = or-false (anyOf (badModifier Plain.mul w) (sources Plain.mul)) _ (b .1) in
     let d = or-false (ltb (srcType src0 w) 2) (ltb (srcType src1 w) 2) (c .1) in
@@ -131,5 +219,5 @@ control-saturate compares w e =
     left false e = e
 
 -- So cmp never saturates.
-pub legal-compared : (w : ℕ) → LegalPlain Plain.cmp w → saturate w ≡ 0
-legal-compared w l = control-saturate true w (plain-control Plain.cmp w (l .served))
+pub legal-compared : (w : ℕ) → Acting Plain.cmp w → saturate w ≡ 0
+legal-compared w l = control-saturate true w (plain-control Plain.cmp w (l .legal .served))

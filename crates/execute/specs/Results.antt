@@ -8,17 +8,16 @@ use lib.Dec.{eqb, lit<}
 use lib.IntN.{ℤ}
 use lib.ListN.{length, getD, replicate, getD-replicate}
 use Rattle.paper.specs.Bits.{bit}
-use Rattle.paper.specs.Word.{src0, src1, condModifier, saturate, dstType, srcType, qtrCtrl}
+use Rattle.paper.specs.Word.{src0, src1, condModifier, saturate, dstType, srcType, srcIsA0, qtrCtrl}
 use Rattle.paper.specs.Operation as paper
 use Rattle.paper.specs.Value.{width, modZ, clampTo, stored}
-use Rattle.paper.specs.Element.{meaning, result, made}
+use Rattle.paper.specs.Element.{Element, meaning, result, made}
 use Rattle.paper.specs.Region.{channels}
 use Rattle.paper.specs.Store.{Store}
-use Rattle.paper.specs.Enable.{channelOf}
-use Rattle.paper.specs.Effect.{operand, channelStores}
-use Rattle.laws.specs.Regions.{LegalPlain}
+use Rattle.paper.specs.Enable.{channelOf, holds}
+use Rattle.paper.specs.Effect.{operand, fileIn, sourceAt, channelStores}
 use Rattle.words.specs.Operations.{plainIs}
-use Rattle.words.specs.Traits.{readsTwo, one-source}
+use Rattle.laws.specs.Sources.{readsTwo, one-source}
 use Rattle.words.specs.declared.operation.Plain.{Plain}
 use Rattle.element.specs.Biased.{ex, Near, near-mono}
 use Rattle.element.specs.Base.{ex-mod}
@@ -27,7 +26,7 @@ use Rattle.lanes.specs.Mapped.{Mapped}
 use Rattle.lanes.specs.Masks.{quarterMask}
 use Rattle.lanes.specs.MaskLaws.{predicateOf, bit-quarter, bit-predicate}
 use Rattle.operands.specs.Sources.{OperandRead}
-use Rattle.execute.specs.Readable.{legal-factors}
+use Rattle.execute.specs.Readable.{Acting, one-file, legal-factors}
 
 -- ---- the second source, where there is one
 
@@ -110,16 +109,16 @@ operands-near p kind0 kind1 a b f na nb =
     }
 
 -- mul's types are not of dwords.
-factors : (p : paper.Plain) (w : ℕ) → LegalPlain p w → p ≡ paper.mul → (2 ≤ srcType src0 w) × (2 ≤ secondType p w)
+factors : (p : paper.Plain) (w : ℕ) → Acting p w → p ≡ paper.mul → (2 ≤ srcType src0 w) × (2 ≤ secondType p w)
 factors p w legal e =
-    subst (λ q. (2 ≤ srcType src0 w) × (2 ≤ secondType q w)) (sym e) (legal-factors w (subst (λ q. LegalPlain q w) e legal))
+    subst (λ q. (2 ≤ srcType src0 w) × (2 ≤ secondType q w)) (sym e) (legal-factors w (subst (λ q. Acting q w) e legal))
 
 -- ---- all channels
 
 module _ (p : Plain) (w : ℕ) (registers : List ℕ) (n : ℕ) (old first second : List ℕ)
     (a : OperandRead w registers src0 n old first) (b : SecondRead (plainIs p) w registers n second) where
   -- What was read is as the operation asks.
-  pub read-operands : LegalPlain (plainIs p) w → (k : ℕ) → k < n → Operands p (getD first k 0) (getD second k 0)
+  pub read-operands : Acting (plainIs p) w → (k : ℕ) → k < n → Operands p (getD first k 0) (getD second k 0)
   unfolding OperandRead
   read-operands legal k h =
       operands-near p (srcType src0 w) (secondType (plainIs p) w) _ _ (factors (plainIs p) w legal) (a .done k h .1) (b .near k h)
@@ -148,9 +147,22 @@ module _ (p : Plain) (w : ℕ) (registers : List ℕ) (n : ℕ) (old first secon
 
 -- ---- the paper's channels
 
--- What the channels make, by the mask of the predicate as the instruction numbers its channels, is what the paper says that they store.
-pub makes-stores : (p : paper.Plain) (w : ℕ) (st : Store) → channelOf w 0 + channels w ≤ 16 → (k : ℕ) → k < channels w
-    → channelMakes p w (quarterMask (predicateOf w st) (qtrCtrl w)) (st .registers) k ≡ channelStores p w st k
+-- What is made of one source does not depend on the second.
+made-one : (p : paper.Plain) (c : ℕ) (h t : Bool) (kind : ℕ) (a b b′ : Element) → readsTwo p ≡ false → made p c h t kind a b ≡ made p c h t kind a b′
+unfolding made
+made-one p c h t kind a b b′ e = ap (stored t kind) (result-one p c h _ _ _ (one-source p e))
+
+-- What the channels make of the file that src0 stands in, by the mask of the predicate as the instruction numbers its channels, is what the paper says that they
+-- store.
+pub makes-stores : (p : paper.Plain) (w : ℕ) (st : Store) → Acting p w → channelOf w 0 + channels w ≤ 16 → (k : ℕ) → k < channels w
+    → channelMakes p w (quarterMask (predicateOf w st) (qtrCtrl w)) (fileIn (srcIsA0 src0 w) st) k ≡ channelStores p w st k
 unfolding channelMakes channelStores
-makes-stores p w st count k h =
-    rw (bit-quarter (predicateOf w st) (qtrCtrl w) k, bit-predicate w st (channelOf w k) (omega arith))
+makes-stores p w st acting count k h =
+    rw (bit-quarter (predicateOf w st) (qtrCtrl w) k, bit-predicate w st (channelOf w k) (omega arith)) (go (readsTwo p) refl)
+  where
+    makes : Element → ℕ
+    makes b = made p (condModifier w) (holds w st (channelOf w k)) (eqb (saturate w) 1) (dstType w) (sourceAt w st src0 k) b
+
+    go : (t : Bool) → readsTwo p ≡ t → makes (operand w (fileIn (srcIsA0 src0 w) st) src1 k) ≡ makes (sourceAt w st src1 k)
+    go true e = ap (λ (f : Bool). makes (operand w (fileIn f st) src1 k)) (sym (one-file p w acting e))
+    go false e = made-one p _ _ _ _ _ _ _ e

@@ -6,9 +6,9 @@ use Prim.Native.Nat.{ℕ, zero, suc, _+_, _*_, _%_, _^_, _≤_, _<_}
 use native.Mathlib.Omega.{arith}
 use lib.Dec.{eqb, lit<}
 use lib.ListN.{getD}
-use Rattle.paper.specs.Limits.{registerBytes}
+use Rattle.paper.specs.Legal.{bytesIn}
 use Rattle.paper.specs.Bits.{bit, putAt}
-use Rattle.paper.specs.Word.{src0, condModifier, saturate, dstType, isNull}
+use Rattle.paper.specs.Word.{src0, condModifier, saturate, dstType, isNull, dstIsA0}
 use Rattle.paper.specs.Value.{width, stored}
 use Rattle.paper.specs.Element.{result}
 use Rattle.paper.specs.Region.{Region, channels, dstOrigin, dstSize, dstElement}
@@ -59,11 +59,11 @@ module _ (w : ℕ) (one : channels w ≡ 1) (r : Region) (is : r ≡ dstRegion w
   first-byte : dstElement w 0 ≡ r .origin
   first-byte = rw is (omega arith)
 
-  -- It lies inside the registers.
-  pub store-inside : Writable w → (bytes : ℕ) → bytes ≡ registerBytes → r .origin + r .size ≤ bytes
+  -- It lies inside its file.
+  pub store-inside : Writable w → (bytes : ℕ) → bytes ≡ bytesIn (dstIsA0 w) → r .origin + r .size ≤ bytes
   store-inside writable bytes e =
       let h = writable .inside kept 0 (omega (arith, one)) in
-      rw (e, ap (λ (s : Region). s .size) is) (subst (λ (at : ℕ). at + dstSize w ≤ registerBytes) first-byte h)
+      rw (e, ap (λ (s : Region). s .size) is) (subst (λ (at : ℕ). at + dstSize w ≤ bytesIn (dstIsA0 w)) first-byte h)
 
   -- One channel's store is what is written.
   pub written-alone : (enable v : ℕ) (registers after : List ℕ) → after ≡ cond (bit enable 0) (putAt registers (r .origin) (r .size) v) registers

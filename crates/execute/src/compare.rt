@@ -5,10 +5,10 @@ ghost use Prim.Native.Nat.{ℕ, _+_, _≤_, _<_};
 ghost use Rattle.paper.specs.Word.{execSize};
 ghost use Rattle.paper.specs.Region.{channels};
 ghost use Rattle.paper.specs.Enable.{chosenFlag, channelOf};
-ghost use Rattle.laws.specs.Regions.{LegalPlain};
 ghost use Rattle.words.specs.Words.{toWord};
 ghost use Rattle.words.specs.Operations.{plainIs};
 ghost use Rattle.operands.specs.Single.{alone};
+ghost use Rattle.execute.specs.Readable.{Acting};
 ghost use Rattle.execute.specs.Stores.{storeOf, FlagsOf};
 ghost use Rattle.execute.specs.Compared.{lowestBits};
 ghost use Rattle.execute.specs.Effects.{flagFrom, flagMade};
@@ -42,7 +42,7 @@ fn lowest_bits(results: &[u64; 16], n: usize) -> u64
 fn compared(w: Word, flags: Flags, enable: u64, lowest: u64) -> Flags
     requires { ⌜ (execSize (toWord w) ≤ 4) × (channelOf (toWord w) 0 + channels (toWord w) ≤ 16) × (lowest < 65536) ⌝ }
     ensures { λ r. ⌜ ((results : List ℕ) → lowest ≡ lowestBits results (channels (toWord w))
-        → FlagsOf r (toWord w) (storeOf [] flags) (flagFrom (toWord w) (chosenFlag (toWord w) (storeOf [] flags)) enable results)) ⌝ }
+        → FlagsOf r (toWord w) (storeOf [] flags []) (flagFrom (toWord w) (chosenFlag (toWord w) (storeOf [] flags [])) enable results)) ⌝ }
 {
     let quarter = qtr_ctrl(w);
     let n = channels(w);
@@ -59,8 +59,8 @@ pub(crate) fn flags_after(
     enable: u64,
     results: &[u64; 16],
 ) -> Flags
-    requires { ⌜ LegalPlain (plainIs p) (toWord w) ⌝ }
-    ensures { λ r. ⌜ FlagsOf r (toWord w) (storeOf [] flags) (flagMade (plainIs p) (toWord w) (chosenFlag (toWord w) (storeOf [] flags)) enable (now (results .entry))) ⌝ }
+    requires { ⌜ Acting (plainIs p) (toWord w) ⌝ }
+    ensures { λ r. ⌜ FlagsOf r (toWord w) (storeOf [] flags []) (flagMade (plainIs p) (toWord w) (chosenFlag (toWord w) (storeOf [] flags [])) enable (now (results .entry))) ⌝ }
 {
     if compares(p) {
         return compared(w, flags, enable, lowest_bits(results, channels(w)));
@@ -70,8 +70,8 @@ pub(crate) fn flags_after(
 
 // The same of one channel's result.
 pub(crate) fn flags_of_one(p: Plain, w: Word, flags: Flags, enable: u64, v: u64) -> Flags
-    requires { ⌜ LegalPlain (plainIs p) (toWord w) × (channels (toWord w) ≡ 1) ⌝ }
-    ensures { λ r. ⌜ FlagsOf r (toWord w) (storeOf [] flags) (flagMade (plainIs p) (toWord w) (chosenFlag (toWord w) (storeOf [] flags)) enable (alone v)) ⌝ }
+    requires { ⌜ Acting (plainIs p) (toWord w) × (channels (toWord w) ≡ 1) ⌝ }
+    ensures { λ r. ⌜ FlagsOf r (toWord w) (storeOf [] flags []) (flagMade (plainIs p) (toWord w) (chosenFlag (toWord w) (storeOf [] flags [])) enable (alone v)) ⌝ }
 {
     if compares(p) {
         return compared(w, flags, enable, v % 2);

@@ -1,7 +1,8 @@
 // What an instruction stores.
 ghost use mathlib.Core.Path.{_≡_};
 ghost use lib.ListN.{length};
-ghost use Rattle.paper.specs.Limits.{registerBytes};
+ghost use Rattle.paper.specs.Word.{dstIsA0};
+ghost use Rattle.paper.specs.Legal.{bytesIn};
 ghost use Rattle.words.specs.Words.{toWord};
 ghost use Rattle.execute.specs.Readable.{Writable};
 ghost use Rattle.execute.specs.Effects.{written};
@@ -11,9 +12,9 @@ use words::bytes::Word;
 use words::fields::is_null;
 use words::region::dst_region;
 
-// Results stored where the mask of the instruction's own channels says; a null destination stores nothing.
+// Results stored in the destination's file, which is lent, where the mask of the instruction's own channels says; a null destination stores nothing.
 pub(crate) fn write(w: Word, enable: u64, registers: &mut [u8], results: &[u64; 16])
-    requires { ⌜ Writable (toWord w) × (length (now registers) ≡ registerBytes) ⌝ }
+    requires { ⌜ Writable (toWord w) × (length (now registers) ≡ bytesIn (dstIsA0 (toWord w))) ⌝ }
     ensures { λ r. ⌜ now (registers .exit) ≡ written (toWord w) enable (now (registers .entry)) (now (results .entry)) ⌝ }
 {
     if is_null(w) {

@@ -21,7 +21,7 @@ use words::traits::masks;
 
 // The channels whose predicate holds.
 pub fn voted(w: Word, flags: Flags) -> u64
-    ensures { λ r. ⌜ r ≡ predicateOf (toWord w) (storeOf [] flags) ⌝ }
+    ensures { λ r. ⌜ r ≡ predicateOf (toWord w) (storeOf [] flags []) ⌝ }
 {
     predicate_mask(chosen(w, flags), pred_ctrl(w), pred_inv(w))
 }
@@ -29,7 +29,7 @@ pub fn voted(w: Word, flags: Flags) -> u64
 // The channels whose predicate holds, told at once where there is no predicate. It asks for the mask itself: with two callers `predicate_mask`, which is large, stays a function of its own,
 // and what is handed to it are numbers.
 pub fn predicate_of(w: Word, flags: Flags) -> u64
-    ensures { λ r. ⌜ r ≡ predicateOf (toWord w) (storeOf [] flags) ⌝ }
+    ensures { λ r. ⌜ r ≡ predicateOf (toWord w) (storeOf [] flags []) ⌝ }
 {
     if pred_ctrl(w) == 0 {
         return 65535;

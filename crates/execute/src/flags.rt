@@ -10,7 +10,7 @@ use words::fields::flag_choice;
 
 // The flag that a word chooses.
 pub fn chosen(w: Word, f: Flags) -> u64
-    ensures { λ r. ⌜ r ≡ chosenFlag (toWord w) (storeOf [] f) ⌝ }
+    ensures { λ r. ⌜ r ≡ chosenFlag (toWord w) (storeOf [] f []) ⌝ }
 {
     if flag_choice(w) == 0 {
         return f.flag0;
@@ -20,7 +20,7 @@ pub fn chosen(w: Word, f: Flags) -> u64
 
 // The flags with another number in the one that a word chooses.
 pub fn with_chosen(w: Word, f: Flags, flag: u64) -> Flags
-    ensures { λ r. ⌜ FlagsOf r (toWord w) (storeOf [] f) flag ⌝ }
+    ensures { λ r. ⌜ FlagsOf r (toWord w) (storeOf [] f []) flag ⌝ }
 {
     if flag_choice(w) == 0 {
         return Flags {

@@ -13,3 +13,4 @@ pub mod many;
 pub mod one;
 pub mod operations;
 pub mod results;
+pub mod transfer;

@@ -20,27 +20,28 @@ use words::fields::saturate;
 use words::operation::Plain;
 use words::region::dst_region;
 use words::traits::reads_two;
+ghost use mathlib.Core.Bool.{false};
+ghost use mathlib.Core.List.{List};
 ghost use mathlib.Core.Path.{_≡_};
-ghost use Prim.Native.Nat.{_<_};
+ghost use Prim.Native.Nat.{ℕ, _<_};
 ghost use lib.ListN.{length};
 ghost use Rattle.paper.specs.Limits.{registerBytes};
-ghost use Rattle.paper.specs.Operation.{plain, operation};
-ghost use Rattle.paper.specs.Legal.{refusalOf};
+ghost use Rattle.paper.specs.Word.{src0, dstIsA0, srcIsA0};
+ghost use Rattle.paper.specs.Legal.{usesA0, bytesIn};
 ghost use Rattle.paper.specs.Region.{channels};
-ghost use Rattle.paper.specs.Effect.{effect};
-ghost use Rattle.laws.specs.Regions.{LegalPlain};
+ghost use Rattle.paper.specs.Effect.{plainEffect};
 ghost use Rattle.words.specs.Words.{toWord};
 ghost use Rattle.words.specs.Operations.{plainIs};
 ghost use Rattle.lanes.specs.Masks.{awakeList};
 ghost use Rattle.operands.specs.Single.{alone};
 ghost use Rattle.execute.specs.Stores.{storeOf};
-ghost use Rattle.execute.specs.Readable.{Writable};
+ghost use Rattle.execute.specs.Readable.{Acting, Writable};
 ghost use Rattle.execute.specs.Results.{SecondRead, Makes};
 ghost use Rattle.execute.specs.Effects.{written};
 
 // The second operand, where the operation reads one; else what stands for 0.
 fn second_of(p: Plain, w: Word, registers: &[u8]) -> u64
-    requires { ⌜ LegalPlain (plainIs p) (toWord w) × (length (now registers) ≡ registerBytes) ⌝ }
+    requires { ⌜ Acting (plainIs p) (toWord w) × (length (now registers) ≡ bytesIn (srcIsA0 src0 (toWord w))) ⌝ }
     ensures { λ r. ⌜ SecondRead (plainIs p) (toWord w) (now (registers .entry)) 1 (alone r) ⌝ }
 {
     if reads_two(p) {
@@ -51,7 +52,7 @@ fn second_of(p: Plain, w: Word, registers: &[u8]) -> u64
 
 // What the channel makes: all sources are read first. The number's low bits, as many as the destination's type has, are the pattern that is stored.
 fn result_of(p: Plain, w: Word, predicate: u64, registers: &[u8]) -> u64
-    requires { ⌜ LegalPlain (plainIs p) (toWord w) × (length (now registers) ≡ registerBytes) × (channels (toWord w) ≡ 1) ⌝ }
+    requires { ⌜ Acting (plainIs p) (toWord w) × (length (now registers) ≡ bytesIn (srcIsA0 src0 (toWord w))) × (channels (toWord w) ≡ 1) ⌝ }
     ensures { λ r. ⌜ Makes (plainIs p) (toWord w) predicate (now (registers .entry)) (alone r) ⌝ }
 {
     let a = first_number(w, registers);
@@ -65,7 +66,7 @@ fn result_of(p: Plain, w: Word, predicate: u64, registers: &[u8]) -> u64
 
 // The result stored where the mask enables the channel; a null destination stores nothing.
 fn store(w: Word, enable: u64, registers: &mut [u8], v: u64)
-    requires { ⌜ Writable (toWord w) × (length (now registers) ≡ registerBytes) × (channels (toWord w) ≡ 1) ⌝ }
+    requires { ⌜ Writable (toWord w) × (length (now registers) ≡ bytesIn (dstIsA0 (toWord w))) × (channels (toWord w) ≡ 1) ⌝ }
     ensures { λ r. ⌜ now (registers .exit) ≡ written (toWord w) enable (now (registers .entry)) (alone v) ⌝ }
 {
     if is_null(w) {
@@ -83,11 +84,11 @@ pub(crate) fn execute_one(
     flags: Flags,
     registers: &mut [u8],
 ) -> Flags
-    requires { ⌜ (operation (toWord w) ≡ plain (plainIs p)) × (refusalOf (toWord w) ≡ 0) × (channels (toWord w) ≡ 1) ⌝ }
+    requires { ⌜ Acting (plainIs p) (toWord w) × (usesA0 (plainIs p) (toWord w) ≡ false) × (channels (toWord w) ≡ 1) ⌝ }
     requires { ⌜ (length (now registers) ≡ registerBytes) × (awake < 65536) × (flags .flag0 < 65536) × (flags .flag1 < 65536) ⌝ }
-    ensures { λ r. ⌜ now (registers .exit) ≡ effect (toWord w) (awakeList awake) (storeOf (now (registers .entry)) flags) .registers ⌝ }
-    ensures { λ r. ⌜ (r .flag0 ≡ effect (toWord w) (awakeList awake) (storeOf (now (registers .entry)) flags) .flag0)
-        × (r .flag1 ≡ effect (toWord w) (awakeList awake) (storeOf (now (registers .entry)) flags) .flag1) ⌝ }
+    ensures { λ r. ⌜ ((addresses : List ℕ) → now (registers .exit) ≡ plainEffect (plainIs p) (toWord w) (awakeList awake) (storeOf (now (registers .entry)) flags addresses) .registers) ⌝ }
+    ensures { λ r. ⌜ ((addresses : List ℕ) → (r .flag0 ≡ plainEffect (plainIs p) (toWord w) (awakeList awake) (storeOf (now (registers .entry)) flags addresses) .flag0)
+        × (r .flag1 ≡ plainEffect (plainIs p) (toWord w) (awakeList awake) (storeOf (now (registers .entry)) flags addresses) .flag1)) ⌝ }
     ensures { λ r. ⌜ (r .flag0 < 65536) × (r .flag1 < 65536) ⌝ }
 {
     let quarter = qtr_ctrl(w);

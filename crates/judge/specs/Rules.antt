@@ -4,26 +4,43 @@ use mathlib.Core.Path.{_≡_, ap, ap₂}
 use Prim.Native.Nat.{ℕ}
 use lib.Dec.{eqb}
 use Rattle.paper.specs.Bits.{bit}
-use Rattle.paper.specs.Word.{Source, src0, src1, execSize, dstSubregister, dstStride, srcField, srcSubregister, isNull, isImmediate}
-use Rattle.paper.specs.Operation.{Plain, Branch, Operation, plain, branch, operation, traits}
+use Rattle.paper.specs.Word.{Source, src0, src1, execSize, dstType, dstSubregister, dstStride, srcField, srcType, srcSubregister}
+use Rattle.paper.specs.Word.{isNull, dstIsA0, srcIsA0, isImmediate, dstByAddress, srcByAddress}
+use Rattle.paper.specs.Operation.{Plain, Branch, Operation, plain, branch, operation, isMov, traits}
 use Rattle.paper.specs.Region.{srcRegion, dstSize, dstOrigin, dstElement}
-use Rattle.paper.specs.Legal.{controlServed, dstServed, srcServed, plainServed}
+use Rattle.paper.specs.Legal.{controlServed, dstServed, srcServed, usesA0, movesWords, plainServed}
 use Rattle.paper.specs.Legal.{unequalHalves, badModifier, ownRuleBroken, operandRuleBroken}
-use Rattle.paper.specs.Legal.{someOperand, srcShapeBroken, shapeBroken, unaligned, alignmentBroken, tooFar, regionTooFar, lastChannel, reachBroken}
+use Rattle.paper.specs.Legal.{someOperand, srcShapeBroken, shapeBroken, unaligned, alignmentBroken}
+use Rattle.paper.specs.Legal.{bytesIn, tooFar, regionTooFar, lastChannel, reachBroken}
 use Rattle.paper.specs.Legal.{reservedSet, branchServed, later, refusalOf}
 use Rattle.laws.specs.Regions.{dstRegion, destination-element}
-use Rattle.words.specs.Traits.{readsTwo, two-counted}
+use Rattle.laws.specs.Sources.{readsTwo, two-counted}
 use Rattle.table.specs.Entries.{entryOf}
 use Rattle.judge.specs.Sources.{anySource, any-source}
 
 -- 7
+
+-- No operand is a0, or words are moved.
+abbrev pub a0Served : Plain → ℕ → Bool
+a0Served p w = not (usesA0 p w) || movesWords p w
+
+pub uses-a0 : (p : Plain) (w : ℕ) → usesA0 p w ≡ (dstIsA0 w || anySource p (srcIsA0 src0 w) (srcIsA0 src1 w))
+unfolding usesA0
+uses-a0 p w = ap (λ (b : Bool). dstIsA0 w || b) (any-source p (λ x. srcIsA0 x w))
+
+pub moves-words : (p : Plain) (w : ℕ)
+    → movesWords p w ≡ (isMov p && (eqb (dstType w) 2 && not (anySource p (not (eqb (srcType src0 w) 2)) (not (eqb (srcType src1 w) 2)))))
+unfolding movesWords
+moves-words p w = ap (λ (b : Bool). isMov p && (eqb (dstType w) 2 && not b)) (any-source p (λ x. not (eqb (srcType x w) 2)))
+
 pub plain-served : (p : Plain) (w : ℕ)
     → plainServed p w
     ≡ (controlServed (traits p .compares) (traits p .saturates) w
-    && (dstServed w && not (anySource p (not (srcServed w src0)) (not (srcServed w src1)))))
+    && (dstServed w && (not (anySource p (not (srcServed w src0)) (not (srcServed w src1))) && a0Served p w)))
 unfolding plainServed
 plain-served p w =
-    ap (λ (b : Bool). controlServed (traits p .compares) (traits p .saturates) w && (dstServed w && not b)) (any-source p (λ x. not (srcServed w x)))
+    ap (λ (b : Bool). controlServed (traits p .compares) (traits p .saturates) w && (dstServed w && (not b && a0Served p w)))
+    (any-source p (λ x. not (srcServed w x)))
 
 -- 8
 pub operand-rule : (p : Plain) (w : ℕ)
@@ -56,23 +73,29 @@ abbrev pub lookRefuses : Source → ℕ → Bool
 lookRefuses x w = not (bit (entryOf (srcField x w)) (execSize w))
 
 -- 10
-pub alignment-rule : (p : Plain) (w : ℕ)
-    → alignmentBroken p w
-    ≡ operandTest p w (unaligned (dstSubregister w) (dstSize w)) (unaligned (srcSubregister src0 w) (srcRegion src0 w .size)) (unaligned (srcSubregister src1 w) (srcRegion src1 w .size))
+
+abbrev pub srcUnaligned : Source → ℕ → Bool
+srcUnaligned x w = not (srcByAddress x w) && unaligned (srcSubregister x w) (srcRegion x w .size)
+
+abbrev pub dstUnaligned : ℕ → Bool
+dstUnaligned w = not (dstByAddress w) && unaligned (dstSubregister w) (dstSize w)
+
+pub alignment-rule : (p : Plain) (w : ℕ) → alignmentBroken p w ≡ operandTest p w (dstUnaligned w) (srcUnaligned src0 w) (srcUnaligned src1 w)
 unfolding alignmentBroken
-alignment-rule p w = some-operand p w (unaligned (dstSubregister w) (dstSize w)) (λ x. unaligned (srcSubregister x w) (srcRegion x w .size))
+alignment-rule p w = some-operand p w (dstUnaligned w) (λ x. srcUnaligned x w)
 
 -- 11
 
 abbrev pub srcFar : Source → ℕ → Bool
-srcFar x w = regionTooFar (srcRegion x w) (lastChannel w)
+srcFar x w = not (srcByAddress x w) && regionTooFar (bytesIn (srcIsA0 x w)) (srcRegion x w) (lastChannel w)
 
 abbrev pub dstFar : ℕ → Bool
-dstFar w = tooFar (dstOrigin w) (dstElement w (lastChannel w)) (dstSize w)
+dstFar w = not (dstByAddress w) && tooFar (bytesIn (dstIsA0 w)) (dstOrigin w) (dstElement w (lastChannel w)) (dstSize w)
 
 -- The destination's rule over its region.
-pub dst-far : (w : ℕ) → regionTooFar (dstRegion w) (lastChannel w) ≡ dstFar w
-dst-far w = ap (λ (e : ℕ). tooFar (dstOrigin w) e (dstSize w)) (destination-element w (lastChannel w))
+pub dst-far : (w : ℕ) → (not (dstByAddress w) && regionTooFar (bytesIn (dstIsA0 w)) (dstRegion w) (lastChannel w)) ≡ dstFar w
+dst-far w =
+    ap (λ (e : ℕ). not (dstByAddress w) && tooFar (bytesIn (dstIsA0 w)) (dstOrigin w) e (dstSize w)) (destination-element w (lastChannel w))
 
 pub reach-rule : (p : Plain) (w : ℕ) → reachBroken p w ≡ operandTest p w (dstFar w) (srcFar src0 w) (srcFar src1 w)
 unfolding reachBroken

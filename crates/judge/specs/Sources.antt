@@ -4,7 +4,7 @@ use mathlib.Core.Path.{_≡_, refl, ap, _∙_}
 use Rattle.paper.specs.Word.{Source, src0, src1}
 use Rattle.paper.specs.Operation.{Plain, sources}
 use Rattle.paper.specs.Legal.{anyOf}
-use Rattle.words.specs.Traits.{readsTwo, oneOrTwo, sources-told}
+use Rattle.laws.specs.Sources.{readsTwo, oneOrTwo, sources-told}
 
 -- The first source's test, or the second's where it is read.
 abbrev pub anySource : Plain → Bool → Bool → Bool

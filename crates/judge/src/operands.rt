@@ -21,7 +21,7 @@ ghost use Rattle.paper.specs.Operation.{mul, shr, sel};
 ghost use Rattle.paper.specs.Legal.{unequalHalves, badModifier, ownRuleBroken, operandRuleBroken};
 ghost use Rattle.judge.specs.Sources.{anySource};
 ghost use Rattle.words.specs.Operations.{plainIs};
-ghost use Rattle.words.specs.Traits.{readsTwo};
+ghost use Rattle.laws.specs.Sources.{readsTwo};
 ghost use Rattle.words.specs.Words.{toWord, sourceIs};
 
 // A word immediate's two halves differ.

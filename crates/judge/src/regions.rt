@@ -5,6 +5,10 @@ use crate::logic::negated;
 use crate::sources::any_source;
 use table::regions::FIELDS;
 use table::regions::field_passes;
+use words::addresses::dst_by_address;
+use words::addresses::dst_is_a0;
+use words::addresses::src_by_address;
+use words::addresses::src_is_a0;
 use words::bytes::Word;
 use words::fields::Source;
 use words::fields::dst_stride;
@@ -16,6 +20,7 @@ use words::fields::is_null;
 use words::fields::src_field;
 use words::fields::src_subregister;
 use words::fields::src_type;
+use words::limits::ADDRESS_BYTES;
 use words::limits::REGISTER_BYTES;
 use words::operation::Plain;
 use words::region::Region;
@@ -27,14 +32,12 @@ use words::types::size_of;
 ghost use mathlib.Core.Bool.{true};
 ghost use mathlib.Core.Path.{_≡_};
 ghost use Prim.Native.Nat.{_-_, _<_, _≤_};
-ghost use Rattle.paper.specs.Word.{dstSubregister, srcSubregister};
-ghost use Rattle.paper.specs.Region.{dstSize, srcRegion};
-ghost use Rattle.paper.specs.Legal.{plainServed, shapeBroken, unaligned, alignmentBroken, tooFar, regionTooFar, lastChannel, reachBroken};
+ghost use Rattle.paper.specs.Legal.{plainServed, shapeBroken, unaligned, alignmentBroken, bytesIn, tooFar, regionTooFar, lastChannel, reachBroken};
 ghost use Rattle.words.specs.Operations.{plainIs};
 ghost use Rattle.words.specs.Words.{toWord, sourceIs};
 ghost use Rattle.words.specs.Regions.{regionIs, Small};
 ghost use Rattle.table.specs.Entries.{regionTable};
-ghost use Rattle.judge.specs.Rules.{operandTest, lookRefuses, srcFar, dstFar};
+ghost use Rattle.judge.specs.Rules.{operandTest, lookRefuses, dstUnaligned, srcUnaligned, srcFar, dstFar};
 
 // The destination is not null and breaks a rule; or a source does that is read from registers.
 pub fn some_operand(p: Plain, w: Word, dst: bool, first: bool, second: bool) -> bool
@@ -47,7 +50,7 @@ pub fn some_operand(p: Plain, w: Word, dst: bool, first: bool, second: bool) -> 
 
 // ---- 9
 
-// A source's twelve bits do not pass at this size, by one look in the table. Where 7 has passed, they are addressed directly, and so 9 refuses them.
+// A source's region does not pass at this size, by one look in the table. Where 7 has passed, the size has a meaning, and so 9 refuses it.
 fn look_refuses(regions: &[u8; FIELDS], x: Source, w: Word) -> bool
     requires { ⌜ now regions ≡ regionTable ⌝ }
     ensures { λ r. ⌜ r ≡ lookRefuses (sourceIs x) (toWord w) ⌝ }
@@ -77,18 +80,20 @@ pub fn is_unaligned(subregister: u64, size: u64) -> bool
     negated(subregister % size == 0)
 }
 
-// The destination's is none.
+// The destination's is none, and it is named directly.
 pub fn dst_unaligned(w: Word) -> bool
-    ensures { λ r. ⌜ r ≡ unaligned (dstSubregister (toWord w)) (dstSize (toWord w)) ⌝ }
+    ensures { λ r. ⌜ r ≡ dstUnaligned (toWord w) ⌝ }
 {
-    is_unaligned(dst_subregister(w), size_of(dst_type(w)))
+    let broken = is_unaligned(dst_subregister(w), size_of(dst_type(w)));
+    both(negated(dst_by_address(w)), broken)
 }
 
-// A source's is none.
+// A source's is none, and it is named directly.
 pub fn src_unaligned(x: Source, w: Word) -> bool
-    ensures { λ r. ⌜ r ≡ unaligned (srcSubregister (sourceIs x) (toWord w)) (srcRegion (sourceIs x) (toWord w) .size) ⌝ }
+    ensures { λ r. ⌜ r ≡ srcUnaligned (sourceIs x) (toWord w) ⌝ }
 {
-    is_unaligned(src_subregister(x, w), size_of(src_type(x, w)))
+    let broken = is_unaligned(src_subregister(x, w), size_of(src_type(x, w)));
+    both(negated(src_by_address(x, w)), broken)
 }
 
 pub fn alignment_broken(p: Plain, w: Word) -> bool
@@ -118,35 +123,46 @@ fn byte_before(end: usize) -> usize
     end - 1
 }
 
-// The first and the last byte lie in registers more than one apart, or past r127.
-pub(crate) fn too_far(origin: usize, element: usize, size: usize) -> bool
+// How many bytes the file of an operand has: a0, or r0 to r127.
+fn bytes_in(a0: bool) -> usize
+    ensures { λ r. ⌜ r ≡ bytesIn a0 ⌝ }
+{
+    if a0 { ADDRESS_BYTES } else { REGISTER_BYTES }
+}
+
+// The first and the last byte lie in registers more than one apart, or past the file's bytes.
+pub(crate) fn too_far(bytes: usize, origin: usize, element: usize, size: usize) -> bool
     requires { ⌜ (origin < 16384) × (element < 134217728) × (size ≤ 4) ⌝ }
-    ensures { λ r. ⌜ r ≡ tooFar origin element size ⌝ }
+    ensures { λ r. ⌜ r ≡ tooFar bytes origin element size ⌝ }
 {
     let last = byte_before(element + size);
-    either(origin / 32 + 1 < last / 32, REGISTER_BYTES <= last)
+    either(origin / 32 + 1 < last / 32, bytes <= last)
 }
 
 // A region does so from its first byte to the element of its last channel.
-pub(crate) fn region_too_far(r: Region, last: usize) -> bool
+pub(crate) fn region_too_far(bytes: usize, r: Region, last: usize) -> bool
     requires { ⌜ Small r × (last < 128) ⌝ }
-    ensures { λ b. ⌜ b ≡ regionTooFar (regionIs r) last ⌝ }
+    ensures { λ b. ⌜ b ≡ regionTooFar bytes (regionIs r) last ⌝ }
 {
-    too_far(r.origin, element_at(r, last), r.size)
+    too_far(bytes, r.origin, element_at(r, last), r.size)
 }
 
-// A source reaches too far.
+// A source reaches too far, and is named directly.
 pub fn src_far(x: Source, w: Word) -> bool
     ensures { λ r. ⌜ r ≡ srcFar (sourceIs x) (toWord w) ⌝ }
 {
-    region_too_far(src_region(x, w), last_channel(w))
+    let bytes = bytes_in(src_is_a0(x, w));
+    let far = region_too_far(bytes, src_region(x, w), last_channel(w));
+    both(negated(src_by_address(x, w)), far)
 }
 
-// The destination does.
+// The destination does, and is named directly.
 pub fn dst_far(w: Word) -> bool
     ensures { λ r. ⌜ r ≡ dstFar (toWord w) ⌝ }
 {
-    region_too_far(dst_region(w), last_channel(w))
+    let bytes = bytes_in(dst_is_a0(w));
+    let far = region_too_far(bytes, dst_region(w), last_channel(w));
+    both(negated(dst_by_address(w)), far)
 }
 
 pub fn reach_broken(p: Plain, w: Word) -> bool

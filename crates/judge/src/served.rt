@@ -4,6 +4,8 @@ use crate::logic::chosen;
 use crate::logic::either;
 use crate::logic::negated;
 use crate::sources::any_source;
+use words::addresses::dst_is_a0;
+use words::addresses::src_is_a0;
 use words::bytes::Word;
 use words::fields::Source;
 use words::fields::acc_wr_ctrl;
@@ -35,11 +37,12 @@ use words::region::count_of;
 use words::traits::compares;
 use words::traits::saturates;
 ghost use mathlib.Core.Path.{_≡_};
-ghost use Rattle.paper.specs.Operation.{jmpi};
+ghost use Rattle.paper.specs.Operation.{jmpi, isMov};
 ghost use Rattle.paper.specs.Enable.{groupOf};
-ghost use Rattle.paper.specs.Legal.{reservedSet, quarterServed, predicateServed, conditionServed, controlServed, dstServed, srcServed, plainServed, structured, ownNeeds, branchServed};
+ghost use Rattle.paper.specs.Legal.{reservedSet, quarterServed, predicateServed, conditionServed, controlServed, dstServed, srcServed, usesA0, movesWords, plainServed, structured, ownNeeds, branchServed};
 ghost use Rattle.words.specs.Operations.{plainIs, branchIs};
 ghost use Rattle.words.specs.Words.{toWord, sourceIs};
+ghost use Rattle.judge.specs.Rules.{a0Served};
 
 // 6: bit 7; for all but branches 47 or 95:90, or 127:121 outside immediate form.
 pub fn reserved_set(w: Word) -> bool
@@ -114,24 +117,73 @@ pub fn control_served(comparing: bool, saturating: bool, w: Word) -> bool
 
 // ---- 7: operands
 
-// Registers or null, addressed directly, of a listed type.
+// Registers, named directly or by address; or null or a0, named directly; of a listed type.
 pub fn dst_served(w: Word) -> bool
     ensures { λ r. ⌜ r ≡ dstServed (toWord w) ⌝ }
 {
-    let direct = both(dst_addr_mode(w) == 0, dst_type(w) <= 5);
-    both(either(dst_file(w) == 1, is_null(w)), direct)
+    let direct = dst_addr_mode(w) == 0;
+    let named = both(either(is_null(w), dst_is_a0(w)), direct);
+    both(either(dst_file(w) == 1, named), dst_type(w) <= 5)
 }
 
-// An immediate of type 0 to 3; or a register, addressed directly, of type 0 to 5.
+// An immediate of type 0 to 3; or, of type 0 to 5, a register, named directly or by address, or a0, named directly.
 pub fn src_served(x: Source, w: Word) -> bool
     ensures { λ r. ⌜ r ≡ srcServed (toWord w) (sourceIs x) ⌝ }
 {
     let kind = src_type(x, w);
-    let direct = both(
-        src_file(x, w) == 1,
-        both(src_addr_mode(x, w) == 0, kind <= 5),
-    );
-    chosen(is_immediate(x, w), kind <= 3, direct)
+    let named = both(src_is_a0(x, w), src_addr_mode(x, w) == 0);
+    let register = both(either(src_file(x, w) == 1, named), kind <= 5);
+    chosen(is_immediate(x, w), kind <= 3, register)
+}
+
+// Some operand is a0.
+fn uses_a0(p: Plain, w: Word) -> bool
+    ensures { λ r. ⌜ r ≡ usesA0 (plainIs p) (toWord w) ⌝ }
+{
+    let first = src_is_a0(Source::First, w);
+    let second = src_is_a0(Source::Second, w);
+    either(dst_is_a0(w), any_source(p, first, second))
+}
+
+// The operation is mov.
+fn is_mov(p: Plain) -> bool
+    ensures { λ r. ⌜ r ≡ isMov (plainIs p) ⌝ }
+{
+    match p {
+        Plain::Mov => true,
+        Plain::Sel => false,
+        Plain::Not => false,
+        Plain::And => false,
+        Plain::Or => false,
+        Plain::Xor => false,
+        Plain::Shr => false,
+        Plain::Shl => false,
+        Plain::Asr => false,
+        Plain::Cmp => false,
+        Plain::Add => false,
+        Plain::Mul => false,
+        Plain::Avg => false,
+    }
+}
+
+// The operation is mov, and its operands are all of type uw.
+fn moves_words(p: Plain, w: Word) -> bool
+    ensures { λ r. ⌜ r ≡ movesWords (plainIs p) (toWord w) ⌝ }
+{
+    let first = negated(src_type(Source::First, w) == 2);
+    let second = negated(src_type(Source::Second, w) == 2);
+    let words = both(dst_type(w) == 2, negated(any_source(p, first, second)));
+    both(is_mov(p), words)
+}
+
+// No operand is a0, or words are moved.
+fn a0_served(p: Plain, w: Word) -> bool
+    ensures { λ r. ⌜ r ≡ a0Served (plainIs p) (toWord w) ⌝ }
+{
+    if uses_a0(p, w) {
+        return moves_words(p, w);
+    }
+    true
 }
 
 // Every field that an operation with operands is judged by.
@@ -140,7 +192,8 @@ pub fn plain_served(p: Plain, w: Word) -> bool
 {
     let first = negated(src_served(Source::First, w));
     let second = negated(src_served(Source::Second, w));
-    let operands = both(dst_served(w), negated(any_source(p, first, second)));
+    let sources = negated(any_source(p, first, second));
+    let operands = both(dst_served(w), both(sources, a0_served(p, w)));
     both(control_served(compares(p), saturates(p), w), operands)
 }
 

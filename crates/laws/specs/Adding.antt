@@ -263,8 +263,8 @@ module _ (judge : Judgement) (act : ℕ → ℕ → Ways → State → State) (d
       stepped : (registers bytes : List ℕ) (t : Bool) → sized dictionary kernel ≡ t → stepCall dictionary kernel registers bytes ≡ stepCallBy judge act dictionary kernel registers bytes
       stepped registers bytes false e = rw e
       stepped registers bytes true e =
-          rw (done-same registers bytes (λ k s. steppedAs (stops k s) registers bytes (step k s)) (λ k s. steppedAs (stops k s) registers bytes (stepBy judge act k s))
-          (λ k q s. ap (steppedAs (stops k s) registers bytes) (q s)) e)
+          rw (done-same registers bytes (λ k s. steppedAs (stops k s) registers bytes s (step k s)) (λ k s. steppedAs (stops k s) registers bytes s (stepBy judge act k s))
+          (λ k q s. ap (steppedAs (stops k s) registers bytes s) (q s)) e)
 
       ran : (budget : ℕ) (registers bytes : List ℕ) (t : Bool) → sized dictionary kernel ≡ t → runCall dictionary kernel budget registers bytes ≡ runCallBy judge act dictionary kernel budget registers bytes
       ran budget registers bytes false e = rw e

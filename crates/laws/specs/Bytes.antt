@@ -8,7 +8,7 @@ use native.Mathlib.Numerals.{add-one}
 use native.Mathlib.Omega.{arith}
 use lib.Dec.{ltb}
 use lib.ListN.{length, getD, take, drop, length-drop}
-use lib.Seq.{drop-drop}
+use lib.Seq.{drop-drop, drop-append-le}
 use lib.Pow.{areBytes}
 use lib.Arith.{mod-mul}
 use borrow.Author.Tests.{ltb-true, lt-ltb}
@@ -36,6 +36,11 @@ bytes-cons b bs h t = rw (lt-ltb b 256 h, t)
 pub bytes-append : (xs ys : List ℕ) → areBytes xs ≡ true → areBytes ys ≡ true → areBytes (xs ++ ys) ≡ true
 bytes-append [] ys h t = t
 bytes-append (x ∷ xs) ys h t = bytes-cons x (xs ++ ys) (bytes-head x xs h) (bytes-append xs ys (bytes-tail x xs h) t)
+
+pub bytes-take : (n : ℕ) (l : List ℕ) → areBytes l ≡ true → areBytes (take n l) ≡ true
+bytes-take zero l h = refl
+bytes-take (suc n) [] h = h
+bytes-take (suc n) (b ∷ l) h = bytes-cons b (take n l) (bytes-head b l h) (bytes-take n l (bytes-tail b l h))
 
 pub bytes-drop : (n : ℕ) (l : List ℕ) → areBytes l ≡ true → areBytes (drop n l) ≡ true
 bytes-drop zero l h = h
@@ -126,6 +131,18 @@ numberAt-suc (b ∷ l) (suc from) n =
   where
     later : (from : ℕ) → suc from + 1 ≡ suc (from + 1)
     later from = omega arith
+
+-- Bytes that follow do not count in a number that ends before them.
+number-append : (n : ℕ) (xs ys : List ℕ) → n ≤ length xs → number n (xs ++ ys) ≡ number n xs
+unfolding number
+number-append zero xs ys h = refl
+number-append (suc n) [] ys h = absurd (omega arith)
+number-append (suc n) (x ∷ xs) ys h = ap (λ (v : ℕ). x + 256 * v) (number-append n xs ys (omega arith))
+
+pub numberAt-append : (n : ℕ) (xs ys : List ℕ) (from : ℕ) → from + n ≤ length xs → numberAt (xs ++ ys) from n ≡ numberAt xs from n
+unfolding numberAt
+numberAt-append n xs ys from h =
+    ap (number n) (drop-append-le from xs ys (omega arith)) ∙ number-append n (drop from xs) ys (rw (length-drop from xs) (omega arith))
 
 -- A long word's two halves.
 pub numberAt-halves : (l : List ℕ) (from : ℕ) → from + 8 ≤ length l → numberAt l from 16 ≡ numberAt l from 8 + numberAt l (from + 8) 8 * 2 ^ 64

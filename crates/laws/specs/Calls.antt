@@ -4,7 +4,6 @@ use mathlib.Core.Path.{_≡_, refl, ap, _∙_, sym}
 use mathlib.Core.Bool.{Bool, true, false, not, cond, _&&_, _||_}
 use mathlib.Core.List.{List, [], _++_}
 use mathlib.Core.Option.{Option, none, some}
-use mathlib.Core.Logic.{_⊎_, inl, inr, ⊎-elim}
 use Prim.Native.Nat.{ℕ, zero, suc, _*_, _≤_}
 use native.Mathlib.Omega.{arith}
 use lib.Dec.{ltb, eqb}
@@ -18,14 +17,14 @@ use Rattle.paper.specs.Expand.{isShort, expand}
 use Rattle.paper.specs.Shorten.{shorten}
 use Rattle.paper.specs.Operation.{operation, isListed, isBranch}
 use Rattle.paper.specs.Kernel.{Instr, longAndShort, longOnly, Parsed, bad, good}
-use Rattle.paper.specs.Jump.{fetch}
-use Rattle.paper.specs.Machine.{State, step, stops, stopsOn, runWith, run, startFrom, start}
+use Rattle.paper.specs.Machine.{State, step, stops, run, startFrom, start}
 use Rattle.paper.specs.State.{stateOf, stateLegal, stateBytes}
 use Rattle.paper.specs.Packing.{Form, relay}
-use Rattle.paper.specs.Calls.{Answer, verdict, refusal, numberOf, countOf, Written, kept, deliver, judgedKernel, accepted, relaid, packCall, unpackCall, oneWord}
+use Rattle.paper.specs.Calls.{Answer, verdict, refusal, refusalWith, numberOf, countOf, Written, kept, deliver, judgedKernel, accepted, relaid, packCall, unpackCall, oneWord}
 use Rattle.paper.specs.Calls.{shortened, shortenCall, expandCall}
-use Rattle.paper.specs.Calls.{Decoded, undecoded, decoded, decodeAt, decodedAs, decodeCall, partOf, decodePart, startCall}
-use Rattle.paper.specs.Calls.{Changed, unchanged, allSized, onState, steppedAs, stepCall, ranAs, runCall}
+use Rattle.paper.specs.Calls.{Decoded, undecoded, decoded, decodeAt, decodedAs, decodeCall, partOf, decodePart, freshStore, startCall}
+use Rattle.paper.specs.Calls.{Changed, unchanged, allSized, onState, stoppedAs, steppedAs, stepCall, ranAs, runCall}
+use Rattle.laws.specs.Runs.{Verdict, ended, spent, astray, verdict-says}
 use Rattle.paper.specs.Listing.{listing, listedAs, listCall, Listing, faulty, listed, readListing, kernelOf, readAs, readCall}
 use Rattle.laws.specs.StateBytes.{length-stateBytes}
 
@@ -166,14 +165,14 @@ unfolding startCall
 start-confined mask flag0 flag1 bytes = pick (eqb (length bytes) stateLength) refl
   where
     begun : State
-    begun = start (record { registers = []; flag0 = flag0; flag1 = flag1 }) mask
+    begun = start (freshStore [] flag0 flag1) mask
 
     pick : (b : Bool) → eqb (length bytes) stateLength ≡ b
         → StartConfined bytes (cond b (record { answer = verdict 0 0; output = stateBytes begun }) (kept (refusal 1 0) bytes))
     pick true e =
         record {
           refused = λ n. absurd (n refl);
-          same = length-stateBytes begun (sixteen mask 0 16) ∙ sym (eqb-true (length bytes) stateLength e);
+          same = length-stateBytes begun (sixteen mask 0 16) refl ∙ sym (eqb-true (length bytes) stateLength e);
         }
     pick false e = record { refused = λ _. refl; same = refl }
 
@@ -201,67 +200,62 @@ on-state Q registers bytes go h g (good k) =
 same : (registers bytes : List ℕ) (a : Answer) → Unchanged registers bytes (unchanged a registers bytes)
 same registers bytes a = record { sameRegisters = refl; sameState = refl }
 
--- A step that does not answer 0 changes nothing: a refusal does not, nor does 20, the end.
+-- A step that does not answer 0 changes nothing: a refusal does not, 22 neither, nor does 20, the end.
 pub step-unchanged : (dictionary kernel registers bytes : List ℕ)
     → (numberOf (stepCall dictionary kernel registers bytes .answer) ≡ 0 → ⊥)
     → Unchanged registers bytes (stepCall dictionary kernel registers bytes)
 unfolding stepCall
 step-unchanged dictionary kernel registers bytes =
     by-cond Q (allSized dictionary kernel registers bytes) _ _
-    (on-state Q registers bytes (λ k s. steppedAs (stops k s) registers bytes (step k s)) (λ a n. same registers bytes a)
-    (λ k s. stepped (stops k s) (step k s)) (judgedKernel longAndShort dictionary kernel))
+    (on-state Q registers bytes (λ k s. steppedAs (stops k s) registers bytes s (step k s)) (λ a n. same registers bytes a)
+    (λ k s. stepped (stops k s) s (step k s)) (judgedKernel longAndShort dictionary kernel))
     (λ n. same registers bytes (refusal 1 0))
   where
     Q : Changed → Type 0
     Q r = (numberOf (r .answer) ≡ 0 → ⊥) → Unchanged registers bytes r
 
-    stepped : (o : Option ℕ) (after : State) → Q (steppedAs o registers bytes after)
-    stepped none after n = absurd (n refl)
-    stepped (some number) after n = same registers bytes (verdict number 0)
+    stepped : (o : Option ℕ) (before after : State) → Q (steppedAs o registers bytes before after)
+    stepped none before after n = absurd (n refl)
+    stepped (some number) before after n = same registers bytes (stoppedAs number (before .place) 0)
 
-module _ (stop : State → Option ℕ) (next : State → State) where
-  -- At a state that stops it with v, a run says v.
-  stopped : (n v : ℕ) (s : State) → stop s ≡ some v → runWith stop next n s .verdict ≡ v
-  unfolding runWith
-  stopped zero v s e = rw e
-  stopped (suc n) v s e = rw (e, runWith)
-
-  -- At a state that does not stop it, a run with no budget says 21,
-  spent : (s : State) → stop s ≡ none → runWith stop next zero s .verdict ≡ 21
-  unfolding runWith
-  spent s e = rw e
-
-  -- and one with a budget says what it says after a step.
-  goes-on : (n : ℕ) (s : State) → stop s ≡ none → runWith stop next (suc n) s .verdict ≡ runWith stop next n (next s) .verdict
-  unfolding runWith
-  goes-on n s e = rw (e, runWith)
-
--- A run's verdict is 20 or 21.
-pub run-verdict : (k : List Instr) (n : ℕ) (s : State) → (run k n s .verdict ≡ 20) ⊎ (run k n s .verdict ≡ 21)
-run-verdict k zero s = go (fetch k (s .place)) refl
+-- The number of what a run answers is its verdict.
+pub stopped-number : (number place steps : ℕ) → numberOf (stoppedAs number place steps) ≡ number
+stopped-number number place steps = go (eqb number 22) refl
   where
-    go : (o : Option Instr) → fetch k (s .place) ≡ o → (run k zero s .verdict ≡ 20) ⊎ (run k zero s .verdict ≡ 21)
-    go none e = inl (stopped (stops k) (step k) zero 20 s (ap stopsOn e))
-    go (some i) e = inr (spent (stops k) (step k) s (ap stopsOn e))
-run-verdict k (suc n) s = go (run-verdict k n (step k s)) (fetch k (s .place)) refl
-  where
-    go : (run k n (step k s) .verdict ≡ 20) ⊎ (run k n (step k s) .verdict ≡ 21)
-        → (o : Option Instr) → fetch k (s .place) ≡ o → (run k (suc n) s .verdict ≡ 20) ⊎ (run k (suc n) s .verdict ≡ 21)
-    go later none e = inl (stopped (stops k) (step k) (suc n) 20 s (ap stopsOn e))
-    go (inl v) (some i) e = inl (goes-on (stops k) (step k) n s (ap stopsOn e) ∙ v)
-    go (inr v) (some i) e = inr (goes-on (stops k) (step k) n s (ap stopsOn e) ∙ v)
+    go : (t : Bool) → eqb number 22 ≡ t → numberOf (cond t (refusalWith 22 (8 * place) steps) (verdict number steps)) ≡ number
+    go true e = sym (eqb-true number 22 e)
+    go false e = refl
 
--- A run that answers neither 20 nor 21 changes nothing.
+-- Its count is the steps.
+pub stopped-count : (number place steps : ℕ) → countOf (stoppedAs number place steps) ≡ steps
+stopped-count number place steps = go (eqb number 22)
+  where
+    go : (t : Bool) → countOf (cond t (refusalWith 22 (8 * place) steps) (verdict number steps)) ≡ steps
+    go true = refl
+    go false = refl
+
+-- A run that answers none of 20, 21 and 22 changes nothing.
 pub run-unchanged : (dictionary kernel : List ℕ) (budget : ℕ) (registers bytes : List ℕ)
     → (numberOf (runCall dictionary kernel budget registers bytes .answer) ≡ 20 → ⊥)
     → (numberOf (runCall dictionary kernel budget registers bytes .answer) ≡ 21 → ⊥)
+    → (numberOf (runCall dictionary kernel budget registers bytes .answer) ≡ 22 → ⊥)
     → Unchanged registers bytes (runCall dictionary kernel budget registers bytes)
 unfolding runCall
 run-unchanged dictionary kernel budget registers bytes =
-    by-cond Q (not (allSized dictionary kernel registers bytes)) _ _ (λ e t. same registers bytes (refusal 1 0))
-    (by-cond Q (ltb budgetLimit budget) _ _ (λ e t. same registers bytes (refusal 16 0))
-    (on-state Q registers bytes (λ k s. ranAs (run k budget s)) (λ a e t. same registers bytes a)
-    (λ k s e t. absurd (⊎-elim e t (run-verdict k budget s))) (judgedKernel longAndShort dictionary kernel)))
+    by-cond Q (not (allSized dictionary kernel registers bytes)) _ _ (λ e t a. same registers bytes (refusal 1 0))
+    (by-cond Q (ltb budgetLimit budget) _ _ (λ e t a. same registers bytes (refusal 16 0))
+    (on-state Q registers bytes (λ k s. ranAs (run k budget s)) (λ c e t a. same registers bytes c)
+    (λ k s e t a. absurd (told k s (verdict-says k budget s) e t a)) (judgedKernel longAndShort dictionary kernel)))
   where
     Q : Changed → Type 0
-    Q r = (numberOf (r .answer) ≡ 20 → ⊥) → (numberOf (r .answer) ≡ 21 → ⊥) → Unchanged registers bytes r
+    Q r = (numberOf (r .answer) ≡ 20 → ⊥) → (numberOf (r .answer) ≡ 21 → ⊥) → (numberOf (r .answer) ≡ 22 → ⊥) → Unchanged registers bytes r
+
+    number : (k : List Instr) (s : State) → numberOf (ranAs (run k budget s) .answer) ≡ run k budget s .verdict
+    number k s = stopped-number (run k budget s .verdict) (run k budget s .state .place) (run k budget s .steps)
+
+    told : (k : List Instr) (s : State) → Verdict k budget (run k budget s)
+        → (numberOf (ranAs (run k budget s) .answer) ≡ 20 → ⊥) → (numberOf (ranAs (run k budget s) .answer) ≡ 21 → ⊥)
+        → (numberOf (ranAs (run k budget s) .answer) ≡ 22 → ⊥) → ⊥
+    told k s (ended v f) e t a = e (number k s ∙ v)
+    told k s (spent v n i f) e t a = t (number k s ∙ v)
+    told k s (astray v n i f b) e t a = a (number k s ∙ v)

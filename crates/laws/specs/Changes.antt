@@ -1,45 +1,55 @@
 -- What an instruction may change: register bytes in the destination elements of its enabled channels; flags, if it is cmp, in the bits of those channels (02
--- §14). Assumes nothing.
-use mathlib.Core.Bool.{Bool, true, false, cond, _&&_, _||_, false≢true}
+-- §14). Operands by address are those that a0 names (`settled`). Assumes nothing.
+use mathlib.Core.Bool.{Bool, true, false, not, cond, _&&_, _||_, false≢true}
 use mathlib.Core.List.{List, [], _∷_, map}
 use mathlib.Core.Logic.{_⊎_, inl, inr}
 use mathlib.Core.Option.{some}
-use mathlib.Core.Path.{_≡_, refl, ap, sym, _∙_}
-use Prim.Native.Nat.{ℕ, zero, suc, _+_, _-_, _<_, _≤_}
+use mathlib.Core.Path.{_≡_, refl, ap, sym, _∙_, subst}
+use Prim.Native.Nat.{ℕ, zero, suc, _+_, _-_, _*_, _<_, _≤_}
 use native.Mathlib.Omega.{arith}
 use lib.Dec.{eqb, ltb, leb}
 use lib.ListN.{length, getD}
-use borrow.Author.Tests.{eqb-true, eqb-false, leb-true, ltb-true}
+use borrow.Author.Tests.{eqb-true, eqb-false, leb-true, ltb-true, not-true}
 use Rattle.paper.specs.Bits.{bit}
-use Rattle.paper.specs.Word.{weCtrl, flagChoice, isNull}
+use Rattle.paper.specs.Word.{weCtrl, flagChoice, isNull, dstIsA0}
+use Rattle.paper.specs.Value.{sizeOf}
 use Rattle.paper.specs.Operation.{Plain, Operation, plain, nop, branch, unlisted, operation, traits}
 use Rattle.paper.specs.Region.{channels, dstSize, dstElement}
 use Rattle.paper.specs.Store.{Store}
 use Rattle.paper.specs.Enable.{chosenFlag, channelOf, enabled, flagBit, flagAfter}
+use Rattle.paper.specs.Address.{settled}
 use Rattle.paper.specs.Effect.{isOn, finds, comparedFlag, plainEffect, effect}
 use Rattle.paper.specs.Kernel.{Instr}
 use Rattle.paper.specs.Jump.{fetch}
-use Rattle.paper.specs.Legal.{refusalOf}
 use Rattle.paper.specs.Machine.{Channel, off, awake, waiting, wake, isAwake}
 use Rattle.laws.specs.Masks.{bit-ofBits}
 use Rattle.laws.specs.Places.{of-fetched}
-use Rattle.laws.specs.Regions.{legal-plain}
+use Rattle.laws.specs.Regions.{LegalPlain, or-false}
+use Rattle.laws.specs.Settled.{field-stays, channels-settled, enabled-settled}
 use Rattle.laws.specs.Relay.{Sane, AllSane}
-use Rattle.laws.specs.Scatter.{registers-length, registers-changed, element-kept}
+use Rattle.laws.specs.Scatter.{registers-length, registers-changed, addresses-kept, element-kept}
 use Rattle.laws.specs.Truth.{both-true}
 
 -- ---- registers
+
+-- The first byte that channel n of word w writes, by address as a0 stands.
+abbrev pub writtenFrom : Plain → ℕ → Store → ℕ → ℕ
+writtenFrom p w st n = dstElement (settled p (st .addresses) w) n
+
+-- Word w of operation p stores into registers: its destination is neither null nor a0.
+abbrev pub storesBytes : Plain → ℕ → Store → Bool
+storesBytes p w st = let v = settled p (st .addresses) w in not (isNull v || dstIsA0 v)
 
 -- An enabled channel of word w, which stores into registers, has byte b in its destination element.
 pub record Writes (w : ℕ) (woken : List Bool) (st : Store) (b : ℕ) : Type 0 where
   pub operator : Plain
   pub is : operation w ≡ plain operator
-  pub stores : isNull w ≡ false
+  pub stores : storesBytes operator w st ≡ true
   pub channel : ℕ
   pub counted : channel < channels w
   pub on : isOn operator w woken st channel ≡ true
-  pub from : dstElement w channel ≤ b
-  pub to : b < dstElement w channel + dstSize w
+  pub from : writtenFrom operator w st channel ≤ b
+  pub to : b < writtenFrom operator w st channel + dstSize w
 
 -- Only cmp compares.
 pub only-cmp : (p : Plain) → traits p .compares ≡ true → p ≡ Plain.cmp
@@ -57,10 +67,81 @@ only-cmp Plain.add e = absurd (false≢true e)
 only-cmp Plain.mul e = absurd (false≢true e)
 only-cmp Plain.avg e = absurd (false≢true e)
 
+-- ---- flags, of a word whose operands are named directly
+
+module _ (v : ℕ) (woken : List Bool) (st : Store) where
+  -- Channel number m is one of the enabled channels that a cmp works on.
+  record Compares (m : ℕ) : Type 0 where
+    channel : ℕ
+    counted : channel < channels v
+    number : m ≡ channelOf v channel
+    on : isOn Plain.cmp v woken st channel ≡ true
+
+  -- A bit of the chosen flag that cmp does not leave as it was is such a channel's.
+  compared-sets : (m : ℕ) → m < 16 → (bit (comparedFlag v woken st) m ≡ bit (chosenFlag v st) m → ⊥) → Compares m
+  unfolding comparedFlag flagAfter flagBit
+  compared-sets m h differs =
+      go ((leb (channelOf v 0) m && ltb m (channelOf v 0 + channels v)) && enabled Plain.cmp v woken st m) refl
+      (λ e. differs (bit-ofBits (flagBit (chosenFlag v st) (channelOf v 0) (channels v) (enabled Plain.cmp v woken st) (finds v st)) 16 m h ∙ e))
+    where
+      go : (t : Bool) → ((leb (channelOf v 0) m && ltb m (channelOf v 0 + channels v)) && enabled Plain.cmp v woken st m) ≡ t
+          → (cond t (finds v st m) (bit (chosenFlag v st) m) ≡ bit (chosenFlag v st) m → ⊥) → Compares m
+      go false e moves = absurd (moves refl)
+      go true e moves =
+          let a = both-true (leb (channelOf v 0) m && ltb m (channelOf v 0 + channels v)) (enabled Plain.cmp v woken st m) e in
+          let b = both-true (leb (channelOf v 0) m) (ltb m (channelOf v 0 + channels v)) (a .0) in
+          let low : channelOf v 0 ≤ m = leb-true _ _ (b .0) in
+          let high : m < channelOf v 0 + channels v = ltb-true _ _ (b .1) in
+          let number : m ≡ channelOf v (m - channelOf v 0) = omega arith in
+          record {
+            channel = m - channelOf v 0;
+            counted = omega arith;
+            number = number;
+            on = ap (enabled Plain.cmp v woken st) (sym number) ∙ a .1;
+          }
+
+  -- The flag that an instruction leaves as the chosen one.
+  abbrev flagLeft : Plain → ℕ
+  flagLeft p = cond (traits p .compares) (comparedFlag v woken st) (chosenFlag v st)
+
+  left-sets : (p : Plain) (m : ℕ) → m < 16 → (bit (flagLeft p) m ≡ bit (chosenFlag v st) m → ⊥) → (p ≡ Plain.cmp) × Compares m
+  left-sets p m h = go (traits p .compares) refl
+    where
+      go : (t : Bool) → traits p .compares ≡ t
+          → (bit (cond t (comparedFlag v woken st) (chosenFlag v st)) m ≡ bit (chosenFlag v st) m → ⊥) → (p ≡ Plain.cmp) × Compares m
+      go true c moves = (only-cmp p c, compared-sets m h moves)
+      go false c moves = absurd (moves refl)
+
+  -- A bit of f0.0 that is not as it was is such a channel's, of a cmp that chooses f0.0.
+  plain0-sets : (p : Plain) (m : ℕ) → m < 16 → (bit (plainEffect p v woken st .flag0) m ≡ bit (st .flag0) m → ⊥)
+      → (flagChoice v ≡ 0) × (p ≡ Plain.cmp) × Compares m
+  unfolding plainEffect
+  plain0-sets p m h = chosen (eqb (flagChoice v) 0) refl
+    where
+      chosen : (t : Bool) → eqb (flagChoice v) 0 ≡ t → (bit (cond t (flagLeft p) (st .flag0)) m ≡ bit (st .flag0) m → ⊥)
+          → (flagChoice v ≡ 0) × (p ≡ Plain.cmp) × Compares m
+      chosen true c moves =
+          let l = left-sets p m h (λ x. moves (x ∙ ap (λ (t : Bool). bit (cond t (st .flag0) (st .flag1)) m) c)) in (eqb-true _ 0 c, l .0, l .1)
+      chosen false c moves = absurd (moves refl)
+
+  -- The same of f0.1.
+  plain1-sets : (p : Plain) (m : ℕ) → m < 16 → (bit (plainEffect p v woken st .flag1) m ≡ bit (st .flag1) m → ⊥)
+      → (flagChoice v ≡ 0 → ⊥) × (p ≡ Plain.cmp) × Compares m
+  unfolding plainEffect
+  plain1-sets p m h = chosen (eqb (flagChoice v) 0) refl
+    where
+      chosen : (t : Bool) → eqb (flagChoice v) 0 ≡ t → (bit (cond t (st .flag1) (flagLeft p)) m ≡ bit (st .flag1) m → ⊥)
+          → (flagChoice v ≡ 0 → ⊥) × (p ≡ Plain.cmp) × Compares m
+      chosen true c moves = absurd (moves refl)
+      chosen false c moves =
+          let l = left-sets p m h (λ x. moves (x ∙ ap (λ (t : Bool). bit (cond t (st .flag0) (st .flag1)) m) c)) in (eqb-false _ 0 c, l .0, l .1)
+
+-- ---- a word as a0 settles it
+
 module _ (w : ℕ) (woken : List Bool) (st : Store) where
   -- The effect of w as that of an operation.
   abbrev effectOf : Operation → Store
-  effectOf o = elim o [ plain p ↦ plainEffect p w woken st | nop ↦ st | branch b ↦ st | unlisted ↦ st ]
+  effectOf o = elim o [ plain p ↦ plainEffect p (settled p (st .addresses) w) woken st | nop ↦ st | branch b ↦ st | unlisted ↦ st ]
 
   -- A register byte that is not as it was lies there.
   pub effect-writes : (b : ℕ) → (getD (effect w woken st .registers) b 0 ≡ getD (st .registers) b 0 → ⊥) → Writes w woken st b
@@ -71,8 +152,19 @@ module _ (w : ℕ) (woken : List Bool) (st : Store) where
           → (getD (effectOf o .registers) b 0 ≡ getD (st .registers) b 0 → ⊥)
           → Writes w woken st b
       go (plain p) e h =
-          let r = registers-changed p w woken st b h in
-          record { operator = p; is = e; stores = r .0; channel = r .1 .0; counted = r .1 .1; on = r .1 .2; from = r .1 .3; to = r .1 .4 }
+          let v = settled p (st .addresses) w in
+          let r = registers-changed p v woken st b h in
+          let size : dstSize v ≡ dstSize w = ap sizeOf (field-stays (st .addresses) p w 34 3 refl refl refl) in
+          record {
+            operator = p;
+            is = e;
+            stores = ap not (r .0);
+            channel = r .1 .0;
+            counted = subst (λ (c : ℕ). r .1 .0 < c) (channels-settled (st .addresses) p w) (r .1 .1);
+            on = ap (λ (f : ℕ → Bool). f (r .1 .0)) (sym (enabled-settled (st .addresses) p w p woken st)) ∙ r .1 .2;
+            from = r .1 .3;
+            to = subst (λ (c : ℕ). b < dstElement v (r .1 .0) + c) size (r .1 .4);
+          }
       go nop e h = absurd (h refl)
       go (branch c) e h = absurd (h refl)
       go unlisted e h = absurd (h refl)
@@ -83,19 +175,23 @@ module _ (w : ℕ) (woken : List Bool) (st : Store) where
   effect-length = go (operation w)
     where
       go : (o : Operation) → length (effectOf o .registers) ≡ length (st .registers)
-      go (plain p) = registers-length p w woken st
+      go (plain p) = registers-length p (settled p (st .addresses) w) woken st
       go nop = refl
       go (branch b) = refl
       go unlisted = refl
 
-  -- The element of a channel that is not enabled stays as it was.
-  pub effect-keeps : refusalOf w ≡ 0 → (p : Plain) → operation w ≡ plain p → isNull w ≡ false → (n : ℕ) → isOn p w woken st n ≡ false
-      → (b : ℕ) → dstElement w n ≤ b → b < dstElement w n + dstSize w → getD (effect w woken st .registers) b 0 ≡ getD (st .registers) b 0
+  -- The element of a channel that is not enabled stays as it was, if the word with its operands named directly is legal.
+  pub effect-keeps : (p : Plain) → operation w ≡ plain p → LegalPlain p (settled p (st .addresses) w) → storesBytes p w st ≡ true
+      → (n : ℕ) → isOn p w woken st n ≡ false → (b : ℕ) → writtenFrom p w st n ≤ b → b < writtenFrom p w st n + dstSize w
+      → getD (effect w woken st .registers) b 0 ≡ getD (st .registers) b 0
   unfolding effect plainEffect
-  effect-keeps legal p e stores n idle b low high =
-      ap (λ (o : Operation). getD (effectOf o .registers) b 0) e ∙ element-kept p w woken st (legal-plain p w e legal) stores n idle b low high
-
-  -- ---- flags
+  effect-keeps p e legal stores n idle b low high =
+      let v = settled p (st .addresses) w in
+      let size : dstSize w ≡ dstSize v = ap sizeOf (sym (field-stays (st .addresses) p w 34 3 refl refl refl)) in
+      ap (λ (o : Operation). getD (effectOf o .registers) b 0) e
+      ∙ element-kept p v woken st legal (or-false (isNull v) (dstIsA0 v) (not-true (isNull v || dstIsA0 v) stores) .0) n
+      (ap (λ (f : ℕ → Bool). f n) (enabled-settled (st .addresses) p w p woken st) ∙ idle) b low
+      (subst (λ (c : ℕ). b < dstElement v n + c) size high)
 
   -- Word w is a cmp, and channel m is one of its enabled channels.
   pub record Sets (m : ℕ) : Type 0 where
@@ -105,76 +201,38 @@ module _ (w : ℕ) (woken : List Bool) (st : Store) where
     pub number : m ≡ channelOf w channel
     pub on : isOn Plain.cmp w woken st channel ≡ true
 
-  -- A bit of the chosen flag that cmp does not leave as it was is such a channel's.
-  compared-sets : operation w ≡ plain Plain.cmp → (m : ℕ) → m < 16 → (bit (comparedFlag w woken st) m ≡ bit (chosenFlag w st) m → ⊥) → Sets m
-  unfolding comparedFlag flagAfter flagBit
-  compared-sets cmp m h differs =
-      go ((leb (channelOf w 0) m && ltb m (channelOf w 0 + channels w)) && enabled Plain.cmp w woken st m) refl
-      (λ e. differs (bit-ofBits (flagBit (chosenFlag w st) (channelOf w 0) (channels w) (enabled Plain.cmp w woken st) (finds w st)) 16 m h ∙ e))
-    where
-      go : (t : Bool) → ((leb (channelOf w 0) m && ltb m (channelOf w 0 + channels w)) && enabled Plain.cmp w woken st m) ≡ t
-          → (cond t (finds w st m) (bit (chosenFlag w st) m) ≡ bit (chosenFlag w st) m → ⊥) → Sets m
-      go false e moves = absurd (moves refl)
-      go true e moves =
-          let a = both-true (leb (channelOf w 0) m && ltb m (channelOf w 0 + channels w)) (enabled Plain.cmp w woken st m) e in
-          let b = both-true (leb (channelOf w 0) m) (ltb m (channelOf w 0 + channels w)) (a .0) in
-          let low : channelOf w 0 ≤ m = leb-true _ _ (b .0) in
-          let high : m < channelOf w 0 + channels w = ltb-true _ _ (b .1) in
-          let number : m ≡ channelOf w (m - channelOf w 0) = omega arith in
-          record {
-            is = cmp;
-            channel = m - channelOf w 0;
-            counted = omega arith;
-            number = number;
-            on = ap (enabled Plain.cmp w woken st) (sym number) ∙ a .1;
-          }
-
-  -- The flag that an instruction leaves as the chosen one.
-  abbrev flagLeft : Plain → ℕ
-  flagLeft p = cond (traits p .compares) (comparedFlag w woken st) (chosenFlag w st)
-
-  left-sets : (p : Plain) → operation w ≡ plain p → (m : ℕ) → m < 16 → (bit (flagLeft p) m ≡ bit (chosenFlag w st) m → ⊥) → Sets m
-  left-sets p e m h = go (traits p .compares) refl
-    where
-      go : (t : Bool) → traits p .compares ≡ t
-          → (bit (cond t (comparedFlag w woken st) (chosenFlag w st)) m ≡ bit (chosenFlag w st) m → ⊥) → Sets m
-      go true c moves = compared-sets (e ∙ ap plain (only-cmp p c)) m h moves
-      go false c moves = absurd (moves refl)
+  -- What is so of the settled word is so of the word.
+  lifted : (p : Plain) → operation w ≡ plain p → (m : ℕ) → p ≡ Plain.cmp → Compares (settled p (st .addresses) w) woken st m → Sets m
+  lifted p e m q c = record {
+    is = e ∙ ap plain q;
+    channel = c .channel;
+    counted = subst (λ (n : ℕ). c .channel < n) (channels-settled (st .addresses) p w) (c .counted);
+    number = c .number ∙ ap (λ (k : ℕ). 8 * k + c .channel) (field-stays (st .addresses) p w 12 2 refl refl refl);
+    on = ap (λ (f : ℕ → Bool). f (c .channel)) (sym (enabled-settled (st .addresses) p w Plain.cmp woken st)) ∙ c .on;
+  }
 
   -- A bit of f0.0 that is not as it was is such a channel's, of a cmp that chooses f0.0.
   pub flag0-sets : (m : ℕ) → m < 16 → (bit (effect w woken st .flag0) m ≡ bit (st .flag0) m → ⊥) → (flagChoice w ≡ 0) × Sets m
-  unfolding effect plainEffect
+  unfolding effect
   flag0-sets m h = go (operation w) refl
     where
-      chosen : (p : Plain) → operation w ≡ plain p → (t : Bool) → eqb (flagChoice w) 0 ≡ t
-          → (bit (cond t (flagLeft p) (st .flag0)) m ≡ bit (st .flag0) m → ⊥) → (flagChoice w ≡ 0) × Sets m
-      chosen p e true c moves =
-          (eqb-true _ 0 c, left-sets p e m h (λ x. moves (x ∙ ap (λ (t : Bool). bit (cond t (st .flag0) (st .flag1)) m) c)))
-      chosen p e false c moves = absurd (moves refl)
-
-      go : (o : Operation) → operation w ≡ o
-          → (bit (effectOf o .flag0) m ≡ bit (st .flag0) m → ⊥)
-          → (flagChoice w ≡ 0) × Sets m
-      go (plain p) e moves = chosen p e (eqb (flagChoice w) 0) refl moves
+      go : (o : Operation) → operation w ≡ o → (bit (effectOf o .flag0) m ≡ bit (st .flag0) m → ⊥) → (flagChoice w ≡ 0) × Sets m
+      go (plain p) e moves =
+          let r = plain0-sets (settled p (st .addresses) w) woken st p m h moves in
+          (sym (field-stays (st .addresses) p w 89 1 refl refl refl) ∙ r .0, lifted p e m (r .1) (r .2))
       go nop e moves = absurd (moves refl)
       go (branch b) e moves = absurd (moves refl)
       go unlisted e moves = absurd (moves refl)
 
   -- The same of f0.1.
   pub flag1-sets : (m : ℕ) → m < 16 → (bit (effect w woken st .flag1) m ≡ bit (st .flag1) m → ⊥) → (flagChoice w ≡ 0 → ⊥) × Sets m
-  unfolding effect plainEffect
+  unfolding effect
   flag1-sets m h = go (operation w) refl
     where
-      chosen : (p : Plain) → operation w ≡ plain p → (t : Bool) → eqb (flagChoice w) 0 ≡ t
-          → (bit (cond t (st .flag1) (flagLeft p)) m ≡ bit (st .flag1) m → ⊥) → (flagChoice w ≡ 0 → ⊥) × Sets m
-      chosen p e true c moves = absurd (moves refl)
-      chosen p e false c moves =
-          (eqb-false _ 0 c, left-sets p e m h (λ x. moves (x ∙ ap (λ (t : Bool). bit (cond t (st .flag0) (st .flag1)) m) c)))
-
-      go : (o : Operation) → operation w ≡ o
-          → (bit (effectOf o .flag1) m ≡ bit (st .flag1) m → ⊥)
-          → (flagChoice w ≡ 0 → ⊥) × Sets m
-      go (plain p) e moves = chosen p e (eqb (flagChoice w) 0) refl moves
+      go : (o : Operation) → operation w ≡ o → (bit (effectOf o .flag1) m ≡ bit (st .flag1) m → ⊥) → (flagChoice w ≡ 0 → ⊥) × Sets m
+      go (plain p) e moves =
+          let r = plain1-sets (settled p (st .addresses) w) woken st p m h moves in
+          (λ z. r .0 (field-stays (st .addresses) p w 89 1 refl refl refl ∙ z), lifted p e m (r .1) (r .2))
       go nop e moves = absurd (moves refl)
       go (branch b) e moves = absurd (moves refl)
       go unlisted e moves = absurd (moves refl)

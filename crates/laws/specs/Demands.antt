@@ -21,7 +21,7 @@ use Rattle.paper.specs.Jump.{endOf, fetch}
 use Rattle.paper.specs.Machine.{Channel, off, awake, waiting, State, step, stops, Outcome, run, runWith, startFrom, start}
 use Rattle.paper.specs.State.{stateOf, stateLegal, stateLands, allThree, stateBytes}
 use Rattle.paper.specs.Packing.{packed, unpacked, relay}
-use Rattle.paper.specs.Calls.{Answer, verdict, numberOf, countOf, Written, Changed, deliver, judgedKernel, sized, accepted, relaid, packCall, unpackCall, startCall, allSized, changedTo, onState, steppedAs, stepCall, ranAs, runCall}
+use Rattle.paper.specs.Calls.{Answer, verdict, refusal, refusalWith, numberOf, countOf, Written, Changed, deliver, judgedKernel, sized, accepted, relaid, packCall, unpackCall, freshStore, startCall, allSized, changedTo, onState, stoppedAs, steppedAs, stepCall, ranAs, runCall}
 use Rattle.laws.specs.Names.{Sound, named, namedOutcome, newEnd, relaidBy}
 use Rattle.laws.specs.Runs.{run-on}
 use Rattle.laws.specs.Same.{start-lands, state-names, demand-3}
@@ -47,7 +47,7 @@ unfolding runCall
 run-ready dictionary kernel registers bytes k r budget le =
     rw (r .sizes, le-ltb budgetLimit budget le, r .judged, r .legal)
 
--- And so is a step's, away from the end.
+-- And so is a step's, where nothing stops it.
 pub step-ready : (dictionary kernel registers bytes : List ℕ) (k : List Instr) → Ready dictionary kernel registers bytes k
     → stops k (stateOf registers bytes) ≡ none
     → stepCall dictionary kernel registers bytes ≡ changedTo (verdict 0 0) (step k (stateOf registers bytes))
@@ -58,6 +58,19 @@ step-ready dictionary kernel registers bytes k r e = rw (r .sizes, r .judged, r 
 
 true-and-true : (a b : Bool) → a ≡ true → b ≡ true → (a && b) ≡ true
 true-and-true a b p q = rw (p, q)
+
+-- An answer with one step more.
+abbrev pub stepMore : Answer → Answer
+stepMore (verdict number count) = verdict number (suc count)
+stepMore (refusal number offset) = refusal number offset
+stepMore (refusalWith number offset count) = refusalWith number offset (suc count)
+
+more-stopped : (number place steps : ℕ) → stepMore (stoppedAs number place steps) ≡ stoppedAs number place (suc steps)
+more-stopped number place steps = go (eqb number 22)
+  where
+    go : (t : Bool) → stepMore (cond t (refusalWith 22 (8 * place) steps) (verdict number steps)) ≡ cond t (refusalWith 22 (8 * place) (suc steps)) (verdict number (suc steps))
+    go true = refl
+    go false = refl
 
 -- What a sound kernel's lasting state leaves in the lent bytes is legal again, and is that state.
 module _ (dictionary kernel : List ℕ) (k : List Instr) (sound : Sound k) (near : endOf k < 2 ^ 16)
@@ -70,7 +83,7 @@ module _ (dictionary kernel : List ℕ) (k : List Instr) (sound : Sound k) (near
   stored-ready s l =
       let st = lasting-storable k (sound .laid) near registerBytes s l in
       record {
-        sizes = rw (sizes, eq-eqb (length (s .store .registers)) registerBytes (l .holding .store .bytes), eq-eqb (length (stateBytes s)) stateLength (length-stateBytes s (st .sixteen)));
+        sizes = rw (sizes, eq-eqb (length (s .store .registers)) registerBytes (l .holding .store .bytes), eq-eqb (length (stateBytes s)) stateLength (length-stateBytes s (st .sixteen) (st .addresses)));
         judged = judged;
         legal = true-and-true (allThree (stateBytes s) 16) (stateLands k (stateOf (s .store .registers) (stateBytes s))) (state-three s st)
             (ap (stateLands k) (stored-back s l) ∙ state-lands k s (l .naming));
@@ -81,7 +94,7 @@ module _ (dictionary kernel : List ℕ) (k : List Instr) (sound : Sound k) (near
       → let one = stepCall dictionary kernel (s .store .registers) (stateBytes s) in
       let rest = runCall dictionary kernel n (one .registers) (one .state) in
       runCall dictionary kernel (suc n) (s .store .registers) (stateBytes s)
-      ≡ record { answer = verdict (numberOf (rest .answer)) (suc (countOf (rest .answer))); registers = rest .registers; state = rest .state }
+      ≡ record { answer = stepMore (rest .answer); registers = rest .registers; state = rest .state }
   run-steps s l e n le =
       let r = stored-ready s l in
       let b = stored-back s l in
@@ -93,13 +106,15 @@ module _ (dictionary kernel : List ℕ) (k : List Instr) (sound : Sound k) (near
       ∙ ap (λ (x : State). ranAs (run k n x)) (stored-back (step k s) l′) in
       let whole : runCall dictionary kernel (suc n) (s .store .registers) (stateBytes s) ≡ ranAs (run k (suc n) s) =
       run-ready dictionary kernel (s .store .registers) (stateBytes s) k r (suc n) le ∙ ap (λ (x : State). ranAs (run k (suc n) x)) b in
-      whole ∙ ap ranAs (run-on (stops k) (step k) n s e) ∙ rw (one, rest)
+      let o = run k n (step k s) in
+      whole ∙ ap ranAs (run-on (stops k) (step k) n s e)
+      ∙ (λ i. changedTo (sym (more-stopped (o .verdict) (o .state .place) (o .steps)) i) (o .state)) ∙ rw (one, rest)
 
 -- ---- the start
 
 -- A start's state.
 abbrev pub begun : List ℕ → ℕ → ℕ → ℕ → State
-begun registers flag0 flag1 mask = start (record { registers = registers; flag0 = flag0; flag1 = flag1 }) mask
+begun registers flag0 flag1 mask = start (freshStore registers flag0 flag1) mask
 
 start-length : (mask n c : ℕ) → length (startFrom mask n c) ≡ c
 unfolding startFrom
@@ -109,9 +124,9 @@ start-length mask n (suc c) = ap suc (start-length mask (suc n) c)
 pub start-lasting : (k : List Instr) → Sound k → (registers : List ℕ) (flag0 flag1 mask : ℕ) → length registers ≡ registerBytes
     → flag0 < 2 ^ 16 → flag1 < 2 ^ 16 → Lasting k registerBytes (begun registers flag0 flag1 mask)
 start-lasting k sound registers flag0 flag1 mask l a b =
-    let st : Store = record { registers = registers; flag0 = flag0; flag1 = flag1 } in
+    let st : Store = freshStore registers flag0 flag1 in
     record {
-      holding = record { store = record { bytes = l; flag0 = a; flag1 = b }; count = start-length mask 0 16 };
+      holding = record { store = record { bytes = l; flag0 = a; flag1 = b; addresses = refl }; count = start-length mask 0 16 };
       naming = state-names k sound (start st mask) (start-lands k sound st mask);
     }
 
@@ -139,50 +154,3 @@ module _ (dictionary kernel : List ℕ) (bytes : areBytes kernel ≡ true) (k : 
   unfolding unpackCall deliver
   unpack-delivers out h =
       rw (packed-accepted dictionary kernel bytes k e, unpack-pack dictionary kernel bytes k e, le-ltb (length out) (length kernel) h)
-
-  -- ---- demand 3, over calls
-
-  -- From any start with right sizes, every budget: the same answer, that is verdict and steps; the same registers; and the state's flags are the
-  -- same, its place and its channels' waiting places name the same instructions.
-  pub alike : (registers : List ℕ) (flag0 flag1 mask : ℕ) → length registers ≡ registerBytes → flag0 < 2 ^ 16 → flag1 < 2 ^ 16
-      → (budget : ℕ) → budget ≤ budgetLimit
-      → let begin = stateBytes (begun registers flag0 flag1 mask) in
-      let long = runCall dictionary kernel budget registers begin in
-      let short = runCall dictionary (packed D k) budget registers begin in
-      (long .answer ≡ short .answer)
-      × (long .registers ≡ short .registers)
-      × (named k (stateOf (long .registers) (long .state)) ≡ named (relaidBy (shorten D) k) (stateOf (short .registers) (short .state)))
-  alike registers flag0 flag1 mask l a b budget le =
-      let h = kernel-of longOnly dictionary kernel bytes k e in
-      let k′ = relaidBy (shorten D) k in
-      let s = begun registers flag0 flag1 mask in
-      let sound′ = packed-sound dictionary kernel bytes k e in
-      let near : endOf k < 2 ^ 16 = near-of h in
-      let near′ : endOf k′ < 2 ^ 16 = near-packed h in
-      let one = accepted-parts dictionary kernel k (long-accepted dictionary kernel k h) in
-      let two = accepted-parts dictionary (packed D k) k′ (packed-accepted dictionary kernel bytes k e) in
-      let s1 = start-lasting k (h .sound) registers flag0 flag1 mask l a b in
-      let s2 = start-lasting k′ sound′ registers flag0 flag1 mask l a b in
-      let long : runCall dictionary kernel budget registers (stateBytes s) ≡ ranAs (run k budget s) =
-      run-ready dictionary kernel registers (stateBytes s) k (stored-ready dictionary kernel k (h .sound) near (one .0) (one .1) s s1) budget le
-      ∙ ap (λ (x : State). ranAs (run k budget x)) (stored-back dictionary kernel k (h .sound) near (one .0) (one .1) s s1) in
-      let short : runCall dictionary (packed D k) budget registers (stateBytes s) ≡ ranAs (run k′ budget s) =
-      run-ready dictionary (packed D k) registers (stateBytes s) k′ (stored-ready dictionary (packed D k) k′ sound′ near′ (two .0) (two .1) s s2) budget le
-      ∙ ap (λ (x : State). ranAs (run k′ budget x)) (stored-back dictionary (packed D k) k′ sound′ near′ (two .0) (two .1) s s2) in
-      let same = demand-3 (shorten D) k (h .sound) (bound h) (record { registers = registers; flag0 = flag0; flag1 = flag1 }) mask budget in
-      let end1 = stored-back dictionary kernel k (h .sound) near (one .0) (one .1) (run k budget s .state) (run-lasting k (h .sound) registerBytes budget s s1) in
-      let end2 = stored-back dictionary (packed D k) k′ sound′ near′ (two .0) (two .1) (run k′ budget s .state) (run-lasting k′ sound′ registerBytes budget s s2) in
-      rw (long, short, end1, end2) (
-        ap (λ (o : Outcome). verdict (o .verdict) (o .steps)) same,
-        ap (λ (o : Outcome). o .state .store .registers) same,
-        ap (λ (o : Outcome). o .state) same,
-      )
-    where
-      bound : Kernel longOnly dictionary kernel k → newEnd (shorten D) k < 2 ^ 15
-      bound h = let n = newEnd-near (shorten D) k (h .few) in omega arith
-
-      near-of : Kernel longOnly dictionary kernel k → endOf k < 2 ^ 16
-      near-of h = let n = kernel-near longOnly dictionary kernel k h in omega arith
-
-      near-packed : Kernel longOnly dictionary kernel k → endOf (relaidBy (shorten D) k) < 2 ^ 16
-      near-packed h = let n = newEnd-near (shorten D) k (h .few) in let q = relaid-end (shorten D) k in omega arith

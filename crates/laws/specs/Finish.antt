@@ -1,7 +1,8 @@
 -- When a kernel must finish (02 §14): where every jump goes forward, each step leads to an instruction of a higher number, or to the end; and what a step does to
 -- registers and flags. Assumes nothing.
-use mathlib.Core.Bool.{Bool, true, _&&_, _||_, false≢true}
+use mathlib.Core.Bool.{Bool, true, false, cond, _&&_, _||_, false≢true}
 use mathlib.Core.List.{List, [], _∷_, map}
+use mathlib.Core.Logic.{_⊎_, inl, inr}
 use mathlib.Core.Option.{Option, none, some}
 use mathlib.Core.Path.{_≡_, refl, ap, sym, _∙_, subst}
 use Prim.Native.Nat.{ℕ, zero, suc, _+_, _<_, _≤_}
@@ -13,6 +14,7 @@ use borrow.Author.Tests.{ltb-true}
 use Rattle.paper.specs.Operation.{Branch, jmpi, if, else, endif, while, break, cont, Operation, plain, nop, branch, unlisted, operation}
 use Rattle.paper.specs.Store.{Store}
 use Rattle.paper.specs.Enable.{holds}
+use Rattle.paper.specs.Address.{settled, addressStops}
 use Rattle.paper.specs.Effect.{plainEffect, effect}
 use Rattle.paper.specs.Kernel.{Instr}
 use Rattle.paper.specs.Jump.{nextOf, distancesOf, distances, reached, targetsOf, placeOf, fetch}
@@ -61,7 +63,7 @@ module _ (P : ℕ → Type 0) (i : Instr) (next : P (nextOf i)) (st : Store) (cs
   branch-idle : (b : Branch) → operation (i .word) ≡ branch b → st ≡ effect (i .word) (map isAwake cs) st
   unfolding effect
   branch-idle b e =
-      sym (ap {B = Store} (λ (o : Operation). elim o [ plain p ↦ plainEffect p (i .word) (map isAwake cs) st | nop ↦ st | branch c ↦ st | unlisted ↦ st ]) e)
+      sym (ap {B = Store} (λ (o : Operation). elim o [ plain p ↦ plainEffect p (settled p (st .addresses) (i .word)) (map isAwake cs) st | nop ↦ st | branch c ↦ st | unlisted ↦ st ]) e)
 
   -- Every instruction goes to the next place or to a target, and leaves the store of its effect.
   operation-leads : (o : Operation) → operation (i .word) ≡ o → AtPlaces P (map placeOf (reached (distances o) i))
@@ -117,22 +119,30 @@ module _ (k : List Instr) (laid : Laid 0 k) where
         let after : lieAfter (s .place) (targetsOf i) ≡ true = subst (λ (p : ℕ). lieAfter p (targetsOf i) ≡ true) (f .starts) (forward-at k (s .place) i ahead e) in
         step-leads (λ q. index k (s .place) < index k q) k s i e (omega (arith, f .next)) (numbers-after (s .place) (f .inside) (targetsOf i) after) .place
 
-    -- What a run that ends says: 20, and no more steps than there are instructions from its place on.
+    -- What a run that ends says: 20, or 22 where an address is broken, and no more steps than there are instructions from its place on.
     abbrev Ends : State → Outcome → Type 0
-    Ends s o = (o .verdict ≡ 20) × (o .steps + index k (s .place) ≤ length k)
+    Ends s o = ((o .verdict ≡ 20) ⊎ (o .verdict ≡ 22)) × (o .steps + index k (s .place) ≤ length k)
 
     -- So from any state, wherever it stands and whatever it holds, a run with a budget of that many steps ends.
     pub ends-within : (n : ℕ) (s : State) → length k ≤ n + index k (s .place) → Ends s (run k n s)
     ends-within zero s h = go (fetch k (s .place)) refl
       where
         go : (o : Option Instr) → fetch k (s .place) ≡ o → Ends s (run k zero s)
-        go none e = rw (run-zero (stops k) (step k) s, e) (refl, omega (arith, index-le k (s .place)))
+        go none e = rw (run-zero (stops k) (step k) s, e) (inl refl, omega (arith, index-le k (s .place)))
         go (some i) e = absurd (omega (arith, found 0 k (s .place) i laid e .inside))
     ends-within (suc n) s h = go (fetch k (s .place)) refl (ends-within n (step k s))
       where
         go : (o : Option Instr) → fetch k (s .place) ≡ o → (length k ≤ n + index k (step k s .place) → Ends (step k s) (run k n (step k s))) → Ends s (run k (suc n) s)
-        go none e ih = rw (run-stop (stops k) (step k) n s 20 (ap stopsOn e)) (refl, omega (arith, index-le k (s .place)))
-        go (some i) e ih =
-            let rises = step-rises s i e in
-            let r = ih (omega arith) in
-            rw (run-on (stops k) (step k) n s (ap stopsOn e)) (r .0, omega (arith, r .1))
+        go none e ih =
+            rw (run-stop (stops k) (step k) n s 20 (ap (λ (t : Option Instr). stopsOn t (s .store .addresses)) e)) (inl refl, omega (arith, index-le k (s .place)))
+        go (some i) e ih = by (addressStops (s .store .addresses) (i .word)) refl
+          where
+            stops-by : (t : Bool) → addressStops (s .store .addresses) (i .word) ≡ t → stops k s ≡ cond t (some 22) none
+            stops-by t a = ap (λ (q : Option Instr). stopsOn q (s .store .addresses)) e ∙ ap (λ (b : Bool). cond b (some 22) none) a
+
+            by : (t : Bool) → addressStops (s .store .addresses) (i .word) ≡ t → Ends s (run k (suc n) s)
+            by true a = rw (run-stop (stops k) (step k) n s 22 (stops-by true a)) (inr refl, omega (arith, index-le k (s .place)))
+            by false a =
+                let rises = step-rises s i e in
+                let r = ih (omega arith) in
+                rw (run-on (stops k) (step k) n s (stops-by false a)) (r .0, omega (arith, r .1))

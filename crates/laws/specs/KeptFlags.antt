@@ -11,7 +11,10 @@ use Rattle.paper.specs.Operation.{Plain, Operation, plain, nop, branch, unliste
 use Rattle.paper.specs.Region.{channels}
 use Rattle.paper.specs.Store.{Store}
 use Rattle.paper.specs.Enable.{chosenFlag, channelOf, enabled, ofBits, flagBit, flagAfter}
-use Rattle.paper.specs.Effect.{registersAfter, finds, comparedFlag, withFlag, plainEffect, effect}
+use Rattle.paper.specs.Effect.{registersAfter, addressesAfter, finds, comparedFlag, withFlag, plainEffect, effect}
+use Rattle.paper.specs.Address.{settled}
+use Rattle.laws.specs.Regions.{Named}
+use Rattle.laws.specs.Settled.{settled-none}
 use Rattle.laws.specs.Masks.{bit-ofBits, bit-ofBits-above, ofBits-same}
 
 -- ---- the clause as it stood
@@ -29,10 +32,27 @@ comparedBefore w awake st =
 unfoldable pub plainBefore : Plain → ℕ → List Bool → Store → Store
 plainBefore p w awake st =
     let flag = comparedBefore w awake st in
-    withFlag w st (registersAfter p w awake st) (cond (traits p .compares) flag (chosenFlag w st))
+    withFlag w st (registersAfter p w awake st) (cond (traits p .compares) flag (chosenFlag w st)) (addressesAfter p w awake st)
 
 unfoldable pub effectBefore : ℕ → List Bool → Store → Store
 effectBefore w awake st = elim (operation w) [ plain p ↦ plainBefore p w awake st | nop ↦ st | branch b ↦ st | unlisted ↦ st ]
+
+-- The effect now of a word whose operands are named directly. (One by address has that of its settled word: `named-now`.)
+unfoldable pub effectNow : ℕ → List Bool → Store → Store
+effectNow w awake st = elim (operation w) [ plain p ↦ plainEffect p w awake st | nop ↦ st | branch b ↦ st | unlisted ↦ st ]
+
+pub named-now : (w : ℕ) (awake : List Bool) (st : Store) → ((p : Plain) → operation w ≡ plain p → Named p w) → effectNow w awake st ≡ effect w awake st
+unfolding effectNow effect
+named-now w awake st named = go (operation w) refl
+  where
+    go : (o : Operation) → operation w ≡ o
+        → _≡_ {A = Store}
+        (elim o [ plain p ↦ plainEffect p w awake st | nop ↦ st | branch b ↦ st | unlisted ↦ st ])
+        (elim o [ plain p ↦ plainEffect p (settled p (st .addresses) w) awake st | nop ↦ st | branch b ↦ st | unlisted ↦ st ])
+    go (plain p) e = ap (λ (v : ℕ). plainEffect p v awake st) (sym (settled-none (st .addresses) p w (named p e)))
+    go nop e = refl
+    go (branch b) e = refl
+    go unlisted e = refl
 
 -- ---- where the two differ
 
@@ -93,8 +113,8 @@ module _ (w : ℕ) (awake : List Bool) (st : Store) where
       (bit-ofBits _ 16 m h ∙ k .0, bit-ofBits _ 16 m h ∙ k .1)
 
   -- What does not compare has the effect that it had.
-  pub others-same : comparing (operation w) ≡ false → effect w awake st ≡ effectBefore w awake st
-  unfolding effect effectBefore plainEffect plainBefore comparing
+  pub others-same : comparing (operation w) ≡ false → effectNow w awake st ≡ effectBefore w awake st
+  unfolding effectNow effectBefore plainEffect plainBefore comparing
   others-same = go (operation w)
     where
       go : (o : Operation) → comparing o ≡ false
@@ -108,22 +128,22 @@ module _ (w : ℕ) (awake : List Bool) (st : Store) where
 
   -- After cmp the registers are as before, and so is the other flag. The chosen flag is but for the bits of cmp's disabled channels: they stay, and were cleared.
   pub record CmpDiffers : Type 0 where
-    pub registers : effect w awake st .registers ≡ effectBefore w awake st .registers
-    pub other : otherFlag w (effect w awake st) ≡ otherFlag w (effectBefore w awake st)
-    pub elsewhere : (m : ℕ) → disabled w awake st m ≡ false → bit (chosenFlag w (effect w awake st)) m ≡ bit (chosenFlag w (effectBefore w awake st)) m
+    pub registers : effectNow w awake st .registers ≡ effectBefore w awake st .registers
+    pub other : otherFlag w (effectNow w awake st) ≡ otherFlag w (effectBefore w awake st)
+    pub elsewhere : (m : ℕ) → disabled w awake st m ≡ false → bit (chosenFlag w (effectNow w awake st)) m ≡ bit (chosenFlag w (effectBefore w awake st)) m
     pub there : (m : ℕ) → m < 16 → disabled w awake st m ≡ true
-        → (bit (chosenFlag w (effect w awake st)) m ≡ bit (chosenFlag w st) m) × (bit (chosenFlag w (effectBefore w awake st)) m ≡ false)
+        → (bit (chosenFlag w (effectNow w awake st)) m ≡ bit (chosenFlag w st) m) × (bit (chosenFlag w (effectBefore w awake st)) m ≡ false)
 
   module _ (cmp : operation w ≡ plain Plain.cmp) where
-    now-is : effect w awake st ≡ withFlag w st (registersAfter Plain.cmp w awake st) (comparedFlag w awake st)
-    unfolding effect plainEffect
+    now-is : effectNow w awake st ≡ withFlag w st (registersAfter Plain.cmp w awake st) (comparedFlag w awake st) (addressesAfter Plain.cmp w awake st)
+    unfolding effectNow plainEffect
     now-is = ap (λ (o : Operation). elim o [ plain p ↦ plainEffect p w awake st | nop ↦ st | branch b ↦ st | unlisted ↦ st ]) cmp
 
-    before-is : effectBefore w awake st ≡ withFlag w st (registersAfter Plain.cmp w awake st) (comparedBefore w awake st)
+    before-is : effectBefore w awake st ≡ withFlag w st (registersAfter Plain.cmp w awake st) (comparedBefore w awake st) (addressesAfter Plain.cmp w awake st)
     unfolding effectBefore plainBefore
     before-is = ap (λ (o : Operation). elim o [ plain p ↦ plainBefore p w awake st | nop ↦ st | branch b ↦ st | unlisted ↦ st ]) cmp
 
-    chosen-now : chosenFlag w (effect w awake st) ≡ comparedFlag w awake st
+    chosen-now : chosenFlag w (effectNow w awake st) ≡ comparedFlag w awake st
     chosen-now = ap (chosenFlag w) now-is ∙ chosen-new (eqb (flagChoice w) 0) (comparedFlag w awake st) (st .flag0) (st .flag1)
 
     chosen-before : chosenFlag w (effectBefore w awake st) ≡ comparedBefore w awake st
@@ -142,9 +162,9 @@ module _ (w : ℕ) (awake : List Bool) (st : Store) where
     }
 
     -- With no disabled channel nothing differs.
-    pub all-enabled-same : ((m : ℕ) → disabled w awake st m ≡ false) → effect w awake st ≡ effectBefore w awake st
+    pub all-enabled-same : ((m : ℕ) → disabled w awake st m ≡ false) → effectNow w awake st ≡ effectBefore w awake st
     unfolding comparedFlag comparedBefore flagAfter
     all-enabled-same h =
         now-is
-        ∙ ap (withFlag w st (registersAfter Plain.cmp w awake st)) (ofBits-same _ _ 16 (λ m q. compared-same m (h m)))
+        ∙ ap (λ (flag : ℕ). withFlag w st (registersAfter Plain.cmp w awake st) flag (addressesAfter Plain.cmp w awake st)) (ofBits-same _ _ 16 (λ m q. compared-same m (h m)))
         ∙ sym before-is

@@ -1,5 +1,5 @@
--- What every step keeps: sixteen channels, flags of 16 bits, as many register bytes, and places that name an instruction or the end. So a state
--- that can be stored in 42 bytes stays one. Assumes nothing.
+-- What every step keeps: sixteen channels, flags of 16 bits, as many register bytes and bytes of a0, and places that name an instruction or the end. So a state
+-- that can be stored in the lent bytes stays one. Assumes nothing.
 use mathlib.Core.Bool.{Bool, true, false, not, cond, _&&_, _||_, or-true}
 use mathlib.Core.List.{List, [], _∷_, map}
 use mathlib.Core.Option.{Option, none, some, Option·none-ne-some, Option·some-injective}
@@ -9,17 +9,19 @@ use native.Mathlib.Omega.{arith}
 use lib.Dec.{eqb}
 use lib.ListN.{length, getD, length-map}
 use borrow.Author.Tests.{eq-eqb, eqb-true}
+use Rattle.paper.specs.Limits.{addressBytes}
 use Rattle.paper.specs.Word.{flagChoice}
 use Rattle.paper.specs.Operation.{Plain, Branch, jmpi, if, else, endif, while, break, cont, Operation, plain, nop, branch, unlisted, operation, traits}
 use Rattle.paper.specs.Store.{Store}
 use Rattle.paper.specs.Enable.{chosenFlag, holds, ofBits, flagAfter}
+use Rattle.paper.specs.Address.{settled}
 use Rattle.paper.specs.Effect.{registersAfter, comparedFlag, plainEffect, effect}
 use Rattle.paper.specs.Kernel.{Instr}
 use Rattle.paper.specs.Jump.{nextOf, fetch, found, endFrom, endOf, lands}
 use Rattle.paper.specs.Machine.{Channel, off, awake, waiting, State, Ways, wake, park, isAwake, each, someone, onward, fork, act, perform, stepOn, step, stops, Outcome, runWith, run, startFrom, start}
 use Rattle.paper.specs.State.{placeIn, waitsLand, stateLands}
 use Rattle.laws.specs.Masks.{ofBits-less}
-use Rattle.laws.specs.Scatter.{registers-length}
+use Rattle.laws.specs.Scatter.{registers-length, addresses-length}
 use Rattle.laws.specs.Names.{Laid, Sound}
 use Rattle.laws.specs.Rename.{cond-at, AtChannel, AtChannels, AtState}
 use Rattle.laws.specs.Places.{At, here, there, at, fetch-here, fetch-there, Names, none-length, lands-names, end-after}
@@ -68,11 +70,12 @@ lands-before k l p e = go (fetch k p) refl
 
 -- ---- flags and registers
 
--- Flags of 16 bits, and n register bytes.
+-- Flags of 16 bits, n register bytes, and the sixteen bytes of a0.
 pub record Fit (n : ℕ) (st : Store) : Type 0 where
   pub bytes : length (st .registers) ≡ n
   pub flag0 : st .flag0 < 2 ^ 16
   pub flag1 : st .flag1 < 2 ^ 16
+  pub addresses : length (st .addresses) ≡ addressBytes
 
 chosen-less : (w n : ℕ) (st : Store) → Fit n st → chosenFlag w st < 2 ^ 16
 chosen-less w n st h = cond-at (λ (x : ℕ). x < 2 ^ 16) (eqb (flagChoice w) 0) (st .flag0) (st .flag1) (h .flag0) (h .flag1)
@@ -81,7 +84,7 @@ compared-less : (w : ℕ) (woken : List Bool) (st : Store) → comparedFlag w wo
 unfolding comparedFlag flagAfter
 compared-less w woken st = ofBits-less _ 16
 
-plain-fits : (p : Plain) (w n : ℕ) (woken : List Bool) (st : Store) → Fit n st → Fit n (plainEffect p w woken st)
+pub plain-fits : (p : Plain) (w n : ℕ) (woken : List Bool) (st : Store) → Fit n st → Fit n (plainEffect p w woken st)
 unfolding plainEffect
 plain-fits p w n woken st h =
     let flag : ℕ = cond (traits p .compares) (comparedFlag w woken st) (chosenFlag w st) in
@@ -90,14 +93,15 @@ plain-fits p w n woken st h =
       bytes = registers-length p w woken st ∙ h .bytes;
       flag0 = cond-at (λ (x : ℕ). x < 2 ^ 16) (eqb (flagChoice w) 0) flag (st .flag0) less (h .flag0);
       flag1 = cond-at (λ (x : ℕ). x < 2 ^ 16) (eqb (flagChoice w) 0) (st .flag1) flag (h .flag1) less;
+      addresses = addresses-length p w woken st ∙ h .addresses;
     }
 
 pub effect-fits : (w n : ℕ) (woken : List Bool) (st : Store) → Fit n st → Fit n (effect w woken st)
 unfolding effect
 effect-fits w n woken st h = go (operation w)
   where
-    go : (o : Operation) → Fit n (elim o [ plain p ↦ plainEffect p w woken st | nop ↦ st | branch b ↦ st | unlisted ↦ st ])
-    go (plain p) = plain-fits p w n woken st h
+    go : (o : Operation) → Fit n (elim o [ plain p ↦ plainEffect p (settled p (st .addresses) w) woken st | nop ↦ st | branch b ↦ st | unlisted ↦ st ])
+    go (plain p) = plain-fits p (settled p (st .addresses) w) n woken st h
     go nop = h
     go (branch b) = h
     go unlisted = h
@@ -173,6 +177,7 @@ waits-less k l e (waiting p ∷ cs) v (suc n) = waits-less k l e cs (v .1) n
 pub lasting-storable : (k : List Instr) → Laid 0 k → endOf k < 2 ^ 16 → (n : ℕ) (s : State) → Lasting k n s → Storable s
 lasting-storable k l e n s h = record {
   sixteen = h .holding .count;
+  addresses = h .holding .store .addresses;
   flag0 = h .holding .store .flag0;
   flag1 = h .holding .store .flag1;
   place = (let b = lands-before k l (s .place) (names-lands k (s .place) (h .naming .current)) in omega arith);

@@ -29,13 +29,17 @@ pub mod Packing
 pub mod Differences
 pub mod Values
 pub mod Masks
+pub mod Sources
 pub mod Regions
+pub mod Settled
+pub mod SettledLegal
 pub mod Stricter
 pub mod Scatter
 pub mod Halfwords
 pub mod StateBytes
 pub mod Calls
 pub mod Lasting
+pub mod AddressBytes
 pub mod Changes
 pub mod KeptFlags
 pub mod Longer
@@ -47,3 +51,9 @@ pub mod VotesBefore
 pub mod Votes
 pub mod LeavingBefore
 pub mod Leaving
+pub mod AddressesBefore
+pub mod DirectWords
+pub mod DirectActs
+pub mod Addresses
+pub mod AddressWrites
+pub mod AddressesStay

@@ -68,7 +68,7 @@ module _ (bytes instructions : ℕ) where
   abbrev pub stepWithin : List ℕ → List ℕ → List ℕ → List ℕ → Changed
   stepWithin dictionary kernel registers state =
       cond (sizedWithin bytes dictionary kernel && (eqb (length registers) registerBytes && eqb (length state) stateLength))
-      (onState registers state (λ k s. steppedAs (stops k s) registers state (step k s)) (judgedWithin instructions longAndShort dictionary kernel))
+      (onState registers state (λ k s. steppedAs (stops k s) registers state s (step k s)) (judgedWithin instructions longAndShort dictionary kernel))
       (unchanged (refusal 1 0) registers state)
 
   -- A run.

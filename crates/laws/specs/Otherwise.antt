@@ -86,7 +86,7 @@ module _ (judge : Judgement) where
     stepCallBy dictionary kernel registers bytes =
         let judged = judgedKernelBy longAndShort dictionary kernel in
         cond (allSized dictionary kernel registers bytes)
-        (onState registers bytes (λ k s. steppedAs (stops k s) registers bytes (stepBy k s)) judged)
+        (onState registers bytes (λ k s. steppedAs (stops k s) registers bytes s (stepBy k s)) judged)
         (unchanged (refusal 1 0) registers bytes)
 
     unfoldable pub runCallBy : List ℕ → List ℕ → ℕ → List ℕ → List ℕ → Changed

@@ -1,4 +1,5 @@
--- What a word that passes the rules gives: every rule by itself, and every channel's elements inside the registers. Assumes nothing.
+-- What a word that passes the rules gives: every rule by itself, and, where its operands are named directly, every channel's elements inside their file. Assumes
+-- nothing.
 use mathlib.Core.Path.{_≡_, refl, ap, _∙_, subst}
 use mathlib.Core.Bool.{Bool, true, false, not, cond, _&&_, _||_, true≢false, false≢true}
 use mathlib.Core.List.{List, List·Memᴰ, List·Memᴰ·head, List·Memᴰ·tail}
@@ -8,13 +9,12 @@ use native.Mathlib.Nat.{mul-le-mul-right, mod-lt, sub-add-cancel, suc-mul, add-m
 use lib.Dec.{ltb}
 use lib.Pow.{pow-pos, shr-mono, ones-split, low, ones-lt}
 use borrow.Author.Tests.{ltb-false, leb-false, eqb-false, not-false}
-use Rattle.paper.specs.Limits.{registerBytes}
 use Rattle.paper.specs.Bits.{bits}
-use Rattle.paper.specs.Word.{Source, shiftOf, execSize, srcField, srcWidth, dstStride, isNull, isImmediate}
+use Rattle.paper.specs.Word.{Source, shiftOf, execSize, srcField, srcWidth, dstStride, isNull, dstIsA0, srcIsA0, isImmediate, dstByAddress, srcByAddress}
 use Rattle.paper.specs.Operation.{Plain, plain, operation, sources}
 use Rattle.paper.specs.Region.{Region, strideOf, channels, elementAt, srcRegion, dstOrigin, dstSize, dstElement}
 use Rattle.paper.specs.Legal.{anyOf, someOperand, reservedSet, plainServed, operandRuleBroken, shapeRefused, shapeBroken, srcShapeBroken, alignmentBroken}
-use Rattle.paper.specs.Legal.{tooFar, regionTooFar, lastChannel, reachBroken, later, refusalOf}
+use Rattle.paper.specs.Legal.{bytesIn, tooFar, regionTooFar, lastChannel, reachBroken, later, refusalOf}
 use Rattle.laws.specs.Bits.{bits-inner}
 
 -- ---- the rules one by one
@@ -56,7 +56,7 @@ legal-plain p w o e =
 -- ---- one rule over all operands
 
 -- Of a false disjunction both parts are false.
-or-false : (a b : Bool) → (a || b) ≡ false → (a ≡ false) × (b ≡ false)
+pub or-false : (a b : Bool) → (a || b) ≡ false → (a ≡ false) × (b ≡ false)
 or-false true b e = absurd (true≢false e)
 or-false false b e = (refl, e)
 
@@ -115,7 +115,12 @@ field-width x w =
     let e : 77 + shiftOf x + 5 ≡ 82 + shiftOf x = omega arith in
     bits-inner w (77 + shiftOf x) 5 3 4 ∙ ap (λ (k : ℕ). bits w k 3) e
 
--- ---- elements inside the registers
+-- ---- elements inside their file
+
+-- Every operand of operation p that is not an immediate is named directly in word w.
+pub record Named (p : Plain) (w : ℕ) : Type 0 where
+  pub destination : dstByAddress w ≡ false
+  pub source : (x : Source) → List·Memᴰ x (sources p) → srcByAddress x w ≡ false
 
 -- The last of 2^x channels stands last in its row of 2^k.
 last-column : (x k : ℕ) → k ≤ x → (2 ^ x - 1) % 2 ^ k ≡ 2 ^ k - 1
@@ -134,35 +139,38 @@ region-last r x k n e hk hn =
     mul-le-mul-right (r .size) (omega arith) in
     omega arith
 
--- An element that does not reach too far ends inside the registers.
-near : (origin element size : ℕ) → tooFar origin element size ≡ false → element + size ≤ registerBytes
+-- An element that does not reach too far ends inside its file.
+near : (bytes origin element size : ℕ) → tooFar bytes origin element size ≡ false → element + size ≤ bytes
 unfolding tooFar
-near origin element size e =
-    let inside : element + size - 1 < registerBytes =
-    leb-false registerBytes (element + size - 1) (or-false (ltb (origin / 32 + 1) ((element + size - 1) / 32)) _ e .1) in
+near bytes origin element size e =
+    let inside : element + size - 1 < bytes =
+    leb-false bytes (element + size - 1) (or-false (ltb (origin / 32 + 1) ((element + size - 1) / 32)) _ e .1) in
     omega arith
 
 -- An element that starts no later than another of its size ends no later.
 ends-before : (a b size end : ℕ) → a ≤ b → b + size ≤ end → a + size ≤ end
 ends-before a b size end h k = omega arith
 
--- The elements of the first `count` channels of a region lie inside the registers.
-abbrev pub Inside : Region → ℕ → Type 0
-Inside r count = (n : ℕ) → n < count → elementAt r n + r .size ≤ registerBytes
+-- The elements of the first `count` channels of a region lie inside a file of so many bytes.
+abbrev pub Inside : ℕ → Region → ℕ → Type 0
+Inside bytes r count = (n : ℕ) → n < count → elementAt r n + r .size ≤ bytes
 
 -- They do where rows are whole and the last one is not too far.
-pub region-inside : (r : Region) (x k : ℕ) → r .wide ≡ 2 ^ k → k ≤ x → regionTooFar r (2 ^ x - 1) ≡ false → Inside r (2 ^ x)
-region-inside r x k e hk far n h =
-    ends-before _ _ _ _ (region-last r x k n e hk h) (near (r .origin) (elementAt r (2 ^ x - 1)) (r .size) far)
+pub region-inside : (bytes : ℕ) (r : Region) (x k : ℕ) → r .wide ≡ 2 ^ k → k ≤ x → regionTooFar bytes r (2 ^ x - 1) ≡ false → Inside bytes r (2 ^ x)
+region-inside bytes r x k e hk far n h =
+    ends-before _ _ _ _ (region-last r x k n e hk h) (near bytes (r .origin) (elementAt r (2 ^ x - 1)) (r .size) far)
 
--- Every channel of a legal word reads its register sources inside the registers.
+-- Every channel of a legal word reads a source that is named directly inside its file.
 pub source-inside : (p : Plain) (w : ℕ) → shapeBroken p w ≡ false → reachBroken p w ≡ false
-    → (x : Source) → List·Memᴰ x (sources p) → isImmediate x w ≡ false → Inside (srcRegion x w) (channels w)
+    → (x : Source) → List·Memᴰ x (sources p) → isImmediate x w ≡ false → srcByAddress x w ≡ false
+    → Inside (bytesIn (srcIsA0 x w)) (srcRegion x w) (channels w)
 unfolding reachBroken
-source-inside p w s r x m i =
+source-inside p w s r x m i d =
     let wide : srcWidth x w ≤ execSize w = rw (field-width x w) at (source-shape p w s x m i .wide) in
-    region-inside (srcRegion x w) (execSize w) (srcWidth x w) refl wide
-    (by-source p w _ (λ y. regionTooFar (srcRegion y w) (lastChannel w)) r x m i)
+    region-inside (bytesIn (srcIsA0 x w)) (srcRegion x w) (execSize w) (srcWidth x w) refl wide
+    (and-false (not (srcByAddress x w)) _
+    (by-source p w _ (λ y. not (srcByAddress y w) && regionTooFar (bytesIn (srcIsA0 y w)) (srcRegion y w) (lastChannel w)) r x m i)
+    (ap not d))
 
 -- ---- the destination
 
@@ -174,14 +182,15 @@ pub destination-element : (w n : ℕ) → elementAt (dstRegion w) n ≡ dstEleme
 unfolding elementAt
 destination-element w n = rw (div-one n, mod-one n) (ap (λ (e : ℕ). dstOrigin w + e * dstSize w) (add-zero (n * strideOf (dstStride w))))
 
--- Every channel of a legal word that has a destination writes inside the registers.
-pub destination-inside : (p : Plain) (w : ℕ) → reachBroken p w ≡ false → isNull w ≡ false
-    → (n : ℕ) → n < channels w → dstElement w n + dstSize w ≤ registerBytes
+-- Every channel of a legal word that has a destination, which is named directly, writes inside its file.
+pub destination-inside : (p : Plain) (w : ℕ) → reachBroken p w ≡ false → isNull w ≡ false → dstByAddress w ≡ false
+    → (n : ℕ) → n < channels w → dstElement w n + dstSize w ≤ bytesIn (dstIsA0 w)
 unfolding reachBroken
-destination-inside p w r d n h =
+destination-inside p w r d a n h =
     rw (destination-element w n) at
-    (region-inside (dstRegion w) (execSize w) 0 refl (omega arith)
-    (ap (λ (e : ℕ). tooFar (dstOrigin w) e (dstSize w)) (destination-element w (lastChannel w)) ∙ by-destination p w _ _ r d) n h)
+    (region-inside (bytesIn (dstIsA0 w)) (dstRegion w) (execSize w) 0 refl (omega arith)
+    (ap (λ (e : ℕ). tooFar (bytesIn (dstIsA0 w)) (dstOrigin w) e (dstSize w)) (destination-element w (lastChannel w))
+    ∙ and-false (not (dstByAddress w)) _ (by-destination p w _ _ r d) (ap not a)) n h)
 
 -- ---- elements apart
 

@@ -1,13 +1,16 @@
 -- Runs: a run is that many single steps; and a run carried over to another machine. Assumes nothing.
 use mathlib.Core.Path.{_≡_, refl, ap, sym, _∙_}
-use mathlib.Core.Logic.{_↔_}
+use mathlib.Core.Bool.{Bool, true, false, cond}
+use mathlib.Core.Logic.{_⊎_, inl, inr}
 use mathlib.Core.List.{List}
-use mathlib.Core.Option.{Option, none, some, Option·some-ne-none}
+use mathlib.Core.Option.{Option, none, some, Option·none-ne-some, Option·some-injective}
 use Prim.Native.Nat.{ℕ, zero, suc, _<_, _≤_}
 use native.Mathlib.Omega.{arith}
+use native.Mathlib.Nat.{eq-or-lt-of-le}
 use Rattle.paper.specs.Kernel.{Instr}
 use Rattle.paper.specs.Jump.{fetch}
-use Rattle.paper.specs.Machine.{State, Outcome, stopsOn, stops, step, runWith, run}
+use Rattle.paper.specs.Address.{addressStops}
+use Rattle.paper.specs.Machine.{State, Outcome, stopsOn, stops, orSpent, step, runWith, run}
 
 -- An outcome after one step more.
 abbrev pub more : Outcome → Outcome
@@ -17,18 +20,13 @@ more o = record { verdict = o .verdict; steps = suc (o .steps); state = o .state
 abbrev pub still : ℕ → State → Outcome
 still v s = record { verdict = v; steps = 0; state = s }
 
--- The verdict with which a state stops a run, else 21: budget spent.
-abbrev pub orSpent : Option ℕ → ℕ
-orSpent (some v) = v
-orSpent none = 21
-
 -- The state after n single steps.
 unfoldable pub iterate : (State → State) → ℕ → State → State
 iterate f zero s = s
 iterate f (suc n) s = iterate f n (f s)
 
 module _ (stop : State → Option ℕ) (next : State → State) where
-  -- With no budget a run says whether the state stops it.
+  -- With no budget a run says whether it stands at the end.
   pub run-zero : (s : State) → runWith stop next zero s ≡ still (orSpent (stop s)) s
   unfolding runWith
   run-zero s = refl
@@ -66,25 +64,25 @@ module _ (f : State → State) (stop stop′ : State → Option ℕ) (next next�
           ∙ ap more (h ∙ ap (runWith stop′ next′ n) (commutes s g))
           ∙ sym (run-on stop′ next′ n (f s) (same-stop s g ∙ e))
 
--- What a run's outcome says: its state is that many single steps, no more than the budget, none of them from a state that stops; the verdict is
--- the one with which the state stops, else 21, and then the whole budget is spent.
+-- What a run's outcome says: its state is that many single steps, no more than the budget, none of them from a state that stops; where budget is left, the
+-- verdict is the one with which the state stops; where it is spent, 20 at the end and 21 short of it.
 pub record Ran (stop : State → Option ℕ) (next : State → State) (n : ℕ) (s : State) (o : Outcome) : Type 0 where
   pub reached : o .state ≡ iterate next (o .steps) s
   pub within : o .steps ≤ n
   pub before : (m : ℕ) → m < o .steps → stop (iterate next m s) ≡ none
-  pub judged : o .verdict ≡ orSpent (stop (o .state))
-  pub spent : stop (o .state) ≡ none → o .steps ≡ n
+  pub stopped : o .steps < n → stop (o .state) ≡ some (o .verdict)
+  pub spent : o .steps ≡ n → o .verdict ≡ orSpent (stop (o .state))
 
 module _ (stop : State → Option ℕ) (next : State → State) where
   -- A run that stops at once.
-  ran-still : (n : ℕ) (s : State) (v : ℕ) → stop s ≡ some v → Ran stop next n s (still v s)
+  ran-still : (n : ℕ) (s : State) (v : ℕ) → stop s ≡ some v → Ran stop next (suc n) s (still v s)
   unfolding iterate
   ran-still n s v e = record {
     reached = refl;
     within = omega arith;
     before = λ m h. absurd (omega arith);
-    judged = rw e;
-    spent = λ f. absurd (Option·some-ne-none v (sym e ∙ f));
+    stopped = λ _. e;
+    spent = λ f. absurd (omega arith);
   }
 
   -- A run that goes on.
@@ -94,8 +92,8 @@ module _ (stop : State → Option ℕ) (next : State → State) where
     reached = r .reached;
     within = omega (arith, r .within);
     before = bef;
-    judged = r .judged;
-    spent = λ f. ap suc (r .spent f);
+    stopped = λ h. r .stopped (omega arith);
+    spent = λ f. r .spent (omega arith);
   }
     where
       bef : (m : ℕ) → m < suc (o .steps) → stop (iterate next m s) ≡ none
@@ -105,21 +103,45 @@ module _ (stop : State → Option ℕ) (next : State → State) where
   -- Every run is so.
   pub ran : (n : ℕ) (s : State) → Ran stop next n s (runWith stop next n s)
   unfolding iterate runWith
-  ran zero s = record { reached = refl; within = omega arith; before = λ m h. absurd (omega arith); judged = refl; spent = λ _. refl }
+  ran zero s = record { reached = refl; within = omega arith; before = λ m h. absurd (omega arith); stopped = λ h. absurd (omega arith); spent = λ _. refl }
   ran (suc n) s = go (stop s) refl (ran n (next s))
     where
       go : (o : Option ℕ) → stop s ≡ o → Ran stop next n (next s) (runWith stop next n (next s))
           → Ran stop next (suc n) s (runWith stop next (suc n) s)
-      go (some v) e r = rw (run-stop stop next n s v e) (ran-still (suc n) s v e)
+      go (some v) e r = rw (run-stop stop next n s v e) (ran-still n s v e)
       go none e r = rw (run-on stop next n s e) (ran-more n s (runWith stop next n (next s)) e r)
 
--- A run's verdict is 20 exactly where its state stands where no instruction starts.
-pub run-ends : (k : List Instr) (n : ℕ) (s : State) → (run k n s .verdict ≡ 20) ↔ (fetch k (run k n s .state .place) ≡ none)
-run-ends k n s = (go (fetch k (run k n s .state .place)) judged, λ e. judged ∙ ap (λ (o : Option Instr). orSpent (stopsOn o)) e)
-  where
-    judged : run k n s .verdict ≡ orSpent (stops k (run k n s .state))
-    judged = ran (stops k) (step k) n s .judged
+-- ---- verdicts
 
-    go : (o : Option Instr) → run k n s .verdict ≡ orSpent (stopsOn o) → run k n s .verdict ≡ 20 → o ≡ none
-    go none e f = refl
-    go (some i) e f = absurd (omega arith)
+-- What a verdict of a run says of the state that it left: 20, it stands where no instruction starts; 21, it stands at an instruction, and the budget is spent; 22,
+-- it stands at an instruction of which an address is broken, and budget is left.
+pub data Verdict (k : List Instr) (n : ℕ) (o : Outcome) : Type 0 where
+  ended : o .verdict ≡ 20 → fetch k (o .state .place) ≡ none → Verdict k n o
+  spent : o .verdict ≡ 21 → o .steps ≡ n → (i : Instr) → fetch k (o .state .place) ≡ some i → Verdict k n o
+  astray : o .verdict ≡ 22 → o .steps < n → (i : Instr) → fetch k (o .state .place) ≡ some i
+      → addressStops (o .state .store .addresses) (i .word) ≡ true → Verdict k n o
+
+module _ (k : List Instr) (n : ℕ) (o : Outcome) where
+  -- By the instruction at which the run left the state.
+  left : (t : Option Instr) → fetch k (o .state .place) ≡ t
+      → (o .steps < n → stopsOn t (o .state .store .addresses) ≡ some (o .verdict))
+      → (o .steps ≡ n → o .verdict ≡ orSpent (stopsOn t (o .state .store .addresses)))
+      → (o .steps ≡ n) ⊎ (o .steps < n) → Verdict k n o
+  left none e h g (inl q) = ended (g q) e
+  left none e h g (inr q) = ended (sym (Option·some-injective _ _ (h q))) e
+  left (some i) e h g (inl q) = spent (g q ∙ spends (addressStops (o .state .store .addresses) (i .word))) q i e
+    where
+      spends : (t : Bool) → orSpent (cond t (some 22) none) ≡ 21
+      spends true = refl
+      spends false = refl
+  left (some i) e h g (inr q) = by (addressStops (o .state .store .addresses) (i .word)) refl (h q)
+    where
+      by : (t : Bool) → addressStops (o .state .store .addresses) (i .word) ≡ t → cond t (some 22) none ≡ some (o .verdict) → Verdict k n o
+      by true a f = astray (sym (Option·some-injective _ _ f)) q i e a
+      by false a f = absurd (Option·none-ne-some (o .verdict) f)
+
+-- Every run's verdict is one of the three, and says so.
+pub verdict-says : (k : List Instr) (n : ℕ) (s : State) → Verdict k n (run k n s)
+verdict-says k n s =
+    let r = ran (stops k) (step k) n s in
+    left k n (run k n s) (fetch k (run k n s .state .place)) refl (r .stopped) (r .spent) (eq-or-lt-of-le (r .within))

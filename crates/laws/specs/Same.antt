@@ -13,6 +13,7 @@ use Rattle.paper.specs.Bits.{bits, bit, put}
 use Rattle.paper.specs.Operation.{Branch, jmpi, if, else, endif, while, break, cont, Operation, plain, nop, branch, unlisted, operationOf, operation}
 use Rattle.paper.specs.Store.{Store}
 use Rattle.paper.specs.Enable.{predicate, holds}
+use Rattle.paper.specs.Address.{addressBroken, addressStops}
 use Rattle.paper.specs.Kernel.{Instr}
 use Rattle.paper.specs.Jump.{nextOf, Distance, distancesOf, distances, targetsOf, placeOf, fetch, lands}
 use Rattle.paper.specs.Machine.{Channel, off, awake, waiting, State, Ways, wake, park, isAwake, each, someone, fork, act, perform, stepAt}
@@ -103,13 +104,30 @@ lineOn (some l) s = stepAt (l .word) (s .place) (leads (suc (s .place)) (l .goal
 lineStep : List Line → State → State
 lineStep q s = lineOn (getElem? q (s .place)) s
 
--- A run by the program stops where there is no line.
-lineStopsOn : Option Line → Option ℕ
-lineStopsOn none = some 20
-lineStopsOn (some l) = none
+-- A run by the program stops where there is no line, and where an address of the line is broken.
+lineStopsOn : Option Line → List ℕ → Option ℕ
+lineStopsOn none addresses = some 20
+lineStopsOn (some l) addresses = cond (addressStops addresses (l .word)) (some 22) none
 
 lineStops : List Line → State → Option ℕ
-lineStops q s = lineStopsOn (getElem? q (s .place))
+lineStops q s = lineStopsOn (getElem? q (s .place)) (s .store .addresses)
+
+-- Distances are no addresses: a branch has no operand by address.
+blank-stops : (addresses : List ℕ) (w : ℕ) → addressStops addresses (blank w) ≡ addressStops addresses w
+unfolding addressStops blanked
+blank-stops addresses w = same (operation w) refl
+  where
+    told : Operation → ℕ → Bool
+    told o v = elim o [ plain p ↦ addressBroken p addresses v | nop ↦ false | branch b ↦ false | unlisted ↦ false ]
+
+    opcode : operation (blank w) ≡ operation w
+    opcode = ap operationOf (blank-alike (distances (operation w)) (clears (operation w)) w .op)
+
+    same : (o : Operation) → operation w ≡ o → told (operation (blank w)) (blank w) ≡ told (operation w) w
+    same (plain p) e = rw (opcode, e)
+    same nop e = rw (opcode, e)
+    same (branch b) e = rw (opcode, e)
+    same unlisted e = rw (opcode, e)
 
 module _ (k : List Instr) (sound : Sound k) where
   -- The ways of a sound kernel's instructions lead to what names an instruction or the end.
@@ -153,11 +171,12 @@ module _ (k : List Instr) (sound : Sound k) where
   -- Both stop at the same states, with the same verdict.
   stops-named : (s : State) → AtState (Names k) s → lineStops (program k) (named k s) ≡ stops k s
   unfolding lineStops lineStopsOn
-  stops-named s v = ap lineStopsOn (fetch-index (lineOf k) k (s .place)) ∙ go (fetch k (s .place))
+  stops-named s v =
+      ap (λ (o : Option Line). lineStopsOn o (s .store .addresses)) (fetch-index (lineOf k) k (s .place)) ∙ go (fetch k (s .place))
     where
-      go : (o : Option Instr) → lineStopsOn (Option·map (lineOf k) o) ≡ stopsOn o
+      go : (o : Option Instr) → lineStopsOn (Option·map (lineOf k) o) (s .store .addresses) ≡ stopsOn o (s .store .addresses)
       go none = refl
-      go (some i) = refl
+      go (some i) = ap (λ (t : Bool). cond t (some 22) none) (blank-stops (s .store .addresses) (i .word))
 
   -- So a run of the kernel is a run by its program.
   run-named : (n : ℕ) (s : State) → AtState (Names k) s

@@ -1,7 +1,7 @@
 -- Storing into a list of bytes: what a store keeps, what it changes, what is read back; and the same of one element for each enabled channel.
 -- Assumes nothing.
 use mathlib.Core.Path.{_≡_, refl, ap, ap₂, _∙_, sym, subst}
-use mathlib.Core.Bool.{Bool, true, false, cond, _&&_, false≢true}
+use mathlib.Core.Bool.{Bool, true, false, cond, _&&_, _||_, false≢true}
 use mathlib.Core.List.{List, [], _∷_}
 use mathlib.Core.Logic.{⊎-elim}
 use Prim.Native.Nat.{ℕ, zero, suc, _+_, _*_, _/_, _%_, _^_, _≤_, _<_}
@@ -18,10 +18,11 @@ use Rattle.paper.specs.Limits.{registerBytes}
 use Rattle.paper.specs.Word.{condModifier, dstType, dstStride, saturate}
 use Rattle.paper.specs.Operation.{Plain}
 use Rattle.paper.specs.Region.{channels, dstSize, dstElement}
-use Rattle.paper.specs.Word.{isNull}
+use Rattle.paper.specs.Word.{isNull, dstIsA0, dstByAddress}
+use Rattle.paper.specs.Legal.{bytesIn}
 use Rattle.paper.specs.Store.{Store}
 use Rattle.paper.specs.Enable.{channelOf, holds}
-use Rattle.paper.specs.Effect.{scattered, channelStores, isOn, registersAfter}
+use Rattle.paper.specs.Effect.{scattered, channelStores, isOn, writtenTo, registersAfter, addressesAfter}
 use Rattle.laws.specs.Values.{size-patterns, made-fits}
 use Rattle.laws.specs.Regions.{LegalPlain, destination-inside, destination-strides, destination-apart}
 use Rattle.laws.specs.Truth.{both-true}
@@ -191,15 +192,23 @@ module _ (l : List ℕ) (element : ℕ → ℕ) (size : ℕ) where
       y)
       (eq-or-lt-of-le (le-of-suc-le-suc h))
 
--- ---- what an instruction does to the registers
+-- ---- what an instruction does to the registers and to a0
 
 module _ (p : Plain) (w : ℕ) (awake : List Bool) (st : Store) where
-  -- It keeps their length.
+  -- What it writes to a file keeps the file's length.
+  written-length : (bytes : List ℕ) → length (writtenTo p w awake st bytes) ≡ length bytes
+  written-length bytes = length-scattered bytes (dstElement w) (dstSize w) (isOn p w awake st) (channelStores p w st) (channels w)
+
+  -- So the registers keep their length,
   pub registers-length : length (registersAfter p w awake st) ≡ length (st .registers)
   unfolding registersAfter
   registers-length =
-      chosen (isNull w) (st .registers) _ (length (st .registers)) length (λ _. refl)
-      (length-scattered (st .registers) (dstElement w) (dstSize w) (isOn p w awake st) (channelStores p w st) (channels w))
+      chosen (isNull w || dstIsA0 w) (st .registers) _ (length (st .registers)) length (λ _. refl) (written-length (st .registers))
+
+  -- and so does a0.
+  pub addresses-length : length (addressesAfter p w awake st) ≡ length (st .addresses)
+  unfolding addressesAfter
+  addresses-length = chosen (dstIsA0 w) _ (st .addresses) (length (st .addresses)) length (λ _. written-length (st .addresses)) refl
 
   -- It changes no byte but those of enabled channels' destination elements.
   pub registers-kept : (b : ℕ)
@@ -207,20 +216,20 @@ module _ (p : Plain) (w : ℕ) (awake : List Bool) (st : Store) where
       → getD (registersAfter p w awake st) b 0 ≡ getD (st .registers) b 0
   unfolding registersAfter
   registers-kept b h =
-      chosen (isNull w) (st .registers) _ (getD (st .registers) b 0) (λ l. getD l b 0) (λ _. refl)
+      chosen (isNull w || dstIsA0 w) (st .registers) _ (getD (st .registers) b 0) (λ l. getD l b 0) (λ _. refl)
       (scattered-other (st .registers) (dstElement w) (dstSize w) (isOn p w awake st) (channelStores p w st) (channels w) b h)
 
-  -- A byte that is not as it was lies in the destination element of an enabled channel, and the destination is not null.
+  -- A byte that is not as it was lies in the destination element of an enabled channel, and the destination is neither null nor a0.
   pub registers-changed : (b : ℕ) → (getD (registersAfter p w awake st) b 0 ≡ getD (st .registers) b 0 → ⊥)
-      → (isNull w ≡ false) × ((n : ℕ) × (n < channels w) × (isOn p w awake st n ≡ true) × (dstElement w n ≤ b) × (b < dstElement w n + dstSize w))
+      → ((isNull w || dstIsA0 w) ≡ false) × ((n : ℕ) × (n < channels w) × (isOn p w awake st n ≡ true) × (dstElement w n ≤ b) × (b < dstElement w n + dstSize w))
   unfolding registersAfter
-  registers-changed b = go (isNull w) refl
+  registers-changed b = go (isNull w || dstIsA0 w) refl
     where
       after : List ℕ
       after = scattered (st .registers) (dstElement w) (dstSize w) (isOn p w awake st) (channelStores p w st) (channels w)
 
-      go : (t : Bool) → isNull w ≡ t → (getD (cond t (st .registers) after) b 0 ≡ getD (st .registers) b 0 → ⊥)
-          → (isNull w ≡ false) × ((n : ℕ) × (n < channels w) × (isOn p w awake st n ≡ true) × (dstElement w n ≤ b) × (b < dstElement w n + dstSize w))
+      go : (t : Bool) → (isNull w || dstIsA0 w) ≡ t → (getD (cond t (st .registers) after) b 0 ≡ getD (st .registers) b 0 → ⊥)
+          → ((isNull w || dstIsA0 w) ≡ false) × ((n : ℕ) × (n < channels w) × (isOn p w awake st n ≡ true) × (dstElement w n ≤ b) × (b < dstElement w n + dstSize w))
       go true e h = absurd (h refl)
       go false e h = (e, scattered-changed (st .registers) (dstElement w) (dstSize w) (isOn p w awake st) (channelStores p w st) (channels w) b h)
 
@@ -247,15 +256,20 @@ module _ (p : Plain) (w : ℕ) (awake : List Bool) (st : Store) where
   unfolding registersAfter
   registers-null d = rw d
 
+  -- What is not a0 leaves a0 as it is.
+  pub addresses-kept : dstIsA0 w ≡ false → addressesAfter p w awake st ≡ st .addresses
+  unfolding addressesAfter
+  addresses-kept d = rw d
+
   -- Every enabled channel of a legal word with a destination has stored its pattern, whole.
-  pub registers-hold : LegalPlain p w → isNull w ≡ false → length (st .registers) ≡ registerBytes
+  pub registers-hold : LegalPlain p w → dstByAddress w ≡ false → isNull w ≡ false → dstIsA0 w ≡ false → length (st .registers) ≡ registerBytes
       → (n : ℕ) → n < channels w → isOn p w awake st n ≡ true
       → numberAt (registersAfter p w awake st) (dstElement w n) (dstSize w) ≡ channelStores p w st n
   unfolding registersAfter channelStores
-  registers-hold legal d long n h on =
-      rw d
-      (scattered-holds (st .registers) (dstElement w) (dstSize w) (isOn p w awake st) (channelStores p w st) (channels w) n h on
-      (λ j q. rw long (destination-inside p w (legal .reach) d j q))
+  registers-hold legal named d a long n h on =
+      ap (λ (t : Bool). numberAt (cond t (st .registers) (writtenTo p w awake st (st .registers))) (dstElement w n) (dstSize w)) (ap₂ _||_ d a)
+      ∙ (scattered-holds (st .registers) (dstElement w) (dstSize w) (isOn p w awake st) (channelStores p w st) (channels w) n h on
+      (λ j q. rw long (subst (λ (t : Bool). dstElement w j + dstSize w ≤ bytesIn t) a (destination-inside p w (legal .reach) d named j q)))
       (λ i j q r. destination-apart w i j (destination-strides p w (legal .shape) d) q)
       ∙ ap (λ (m : ℕ). channelStores p w st n % m) (size-patterns (dstType w))
       ∙ mod-eq-of-lt (made-fits p (condModifier w) (holds w st (channelOf w n)) (eqb (saturate w) 1) (dstType w) _ _))

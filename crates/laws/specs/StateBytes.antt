@@ -3,18 +3,20 @@ use mathlib.Core.Path.{_≡_, refl, ap, _∙_, sym}
 use mathlib.Core.Bool.{Bool, true, false, not, cond, false≢true}
 use mathlib.Core.List.{List, [], _∷_, _++_, map}
 use mathlib.Core.Logic.{⊎-elim}
-use Prim.Native.Nat.{ℕ, zero, suc, _+_, _*_, _%_, _^_, _<_}
+use Prim.Native.Nat.{ℕ, zero, suc, _+_, _*_, _%_, _^_, _<_, _≤_}
 use native.Mathlib.Nat.{mod-eq-of-lt, eq-or-lt-of-le, le-of-suc-le-suc, add-zero, zero-add, suc-add, add-suc}
 use native.Mathlib.Omega.{arith}
 use lib.Dec.{eqb}
-use lib.ListN.{length, getD, length-map, List·getD-map}
-use lib.Seq.{ext-getD}
+use lib.ListN.{length, getD, take, drop, length-append, length-map, List·getD-map, take-append-drop}
+use lib.Seq.{ext-getD, drop-append-seam, length-take-le}
 use lib.Pow.{areBytes}
 use borrow.Author.Tests.{eqb-true}
 use Rattle.paper.specs.Bits.{bit, bytesOf}
+use Rattle.paper.specs.Limits.{addressBytes, stateLength}
 use Rattle.paper.specs.Machine.{Channel, off, awake, waiting, isAwake, State}
-use Rattle.paper.specs.State.{half, awakeBit, waitingBit, waitingPlace, channelIn, oneOfThree, channelsIn, stateOf, allThree, isWaiting, placeIn}
+use Rattle.paper.specs.State.{half, awakeBit, waitingBit, waitingPlace, channelIn, oneOfThree, channelsIn, addressesIn, stateOf, allThree, isWaiting, placeIn}
 use Rattle.paper.specs.State.{maskOf, placesOf, stateBytes}
+use Rattle.laws.specs.Bytes.{bytes-take, numberAt-append}
 use Rattle.laws.specs.Masks.{ofBits-less, bit-ofBits, ofBits-bit, ofBits-same}
 use Rattle.laws.specs.Halfwords.{halves, length-halves, half-halves, half-less, halves-back}
 use Rattle.laws.specs.Truth.{both-true}
@@ -37,15 +39,24 @@ unfolding placesOf halves
 places-halves [] = refl
 places-halves (c ∷ cs) = ap (λ (l : List ℕ). bytesOf 2 (placeIn c) ++ l) (places-halves cs)
 
--- A state's bytes are those of its numbers.
-pub state-halves : (s : State) → stateBytes s ≡ halves (numbersOf s)
-unfolding stateBytes numbersOf halves
+-- A state's bytes are those of its numbers, and a0's.
+pub state-halves : (s : State) → stateBytes s ≡ halves (numbersOf s) ++ s .store .addresses
+unfolding stateBytes numbersOf halves bytesOf
 state-halves s = rw (places-halves (s .channels))
 
--- Of 16 channels they are 42.
-pub length-stateBytes : (s : State) → length (s .channels) ≡ 16 → length (stateBytes s) ≡ 42
+-- Of 16 channels the first are 42;
+length-numbers : (s : State) → length (s .channels) ≡ 16 → length (halves (numbersOf s)) ≡ 42
 unfolding numbersOf
-length-stateBytes s h = rw (state-halves s, length-halves (numbersOf s), length-map, h)
+length-numbers s h = rw (length-halves (numbersOf s), length-map, h)
+
+-- with a0's sixteen they are 58.
+pub length-stateBytes : (s : State) → length (s .channels) ≡ 16 → length (s .store .addresses) ≡ addressBytes → length (stateBytes s) ≡ stateLength
+length-stateBytes s h a = rw (state-halves s, length-append, length-numbers s h, a)
+
+-- What follows the 42 is a0.
+pub addresses-back : (s : State) → length (s .channels) ≡ 16 → addressesIn (stateBytes s) ≡ s .store .addresses
+addresses-back s h =
+    rw (state-halves s) (ap (λ (n : ℕ). drop n (halves (numbersOf s) ++ s .store .addresses)) (sym (length-numbers s h)) ∙ drop-append-seam (halves (numbersOf s)) (s .store .addresses))
 
 -- ---- channels in bytes
 
@@ -81,25 +92,28 @@ each-of-three bytes (suc n) h k q =
 
 -- ---- from a state to bytes and back
 
--- A state that its bytes can write: 16 channels, and every number of 16 bits.
+-- A state that its bytes can write: 16 channels, a0 of 16 bytes, and every number of 16 bits.
 pub record Storable (s : State) : Type 0 where
   pub sixteen : length (s .channels) ≡ 16
+  pub addresses : length (s .store .addresses) ≡ addressBytes
   pub flag0 : s .store .flag0 < 2 ^ 16
   pub flag1 : s .store .flag1 < 2 ^ 16
   pub place : s .place < 2 ^ 16
   pub waits : (k : ℕ) → placeIn (getD (s .channels) k off) < 2 ^ 16
 
-module _ (s : State) where
-  -- Each number is read back, modulo 2^16.
-  number-back : (k : ℕ) → half (stateBytes s) (2 * k) ≡ getD (numbersOf s) k 0 % 2 ^ 16
-  number-back k = rw (state-halves s) (half-halves (numbersOf s) k)
+module _ (s : State) (sixteen : length (s .channels) ≡ 16) where
+  -- Each of the 21 numbers is read back, modulo 2^16.
+  number-back : (k : ℕ) → k < 21 → half (stateBytes s) (2 * k) ≡ getD (numbersOf s) k 0 % 2 ^ 16
+  number-back k h =
+      rw (state-halves s)
+      (numberAt-append 2 (halves (numbersOf s)) (s .store .addresses) (2 * k) (omega (arith, length-numbers s sixteen)) ∙ half-halves (numbersOf s) k)
 
   -- So is each waiting place,
-  place-back : (k : ℕ) → waitingPlace (stateBytes s) k ≡ placeIn (getD (s .channels) k off) % 2 ^ 16
+  place-back : (k : ℕ) → k < 16 → waitingPlace (stateBytes s) k ≡ placeIn (getD (s .channels) k off) % 2 ^ 16
   unfolding numbersOf
-  place-back k =
+  place-back k h =
       let e : 10 + 2 * k ≡ 2 * suc (suc (suc (suc (suc k)))) = omega arith in
-      ap (half (stateBytes s)) e ∙ number-back (suc (suc (suc (suc (suc k)))))
+      ap (half (stateBytes s)) e ∙ number-back (suc (suc (suc (suc (suc k))))) (omega arith)
       ∙ ap (λ (p : ℕ). p % 2 ^ 16) (List·getD-map placeIn (s .channels) k off)
 
   -- and a mask's bit is its channel's test,
@@ -112,12 +126,12 @@ module _ (s : State) where
   -- which is whether the channel is awake,
   awake-back : (k : ℕ) → k < 16 → awakeBit (stateBytes s) k ≡ isAwake (getD (s .channels) k off)
   unfolding numbersOf
-  awake-back k h = mask-back isAwake (half (stateBytes s) 6) k (number-back 3) h
+  awake-back k h = mask-back isAwake (half (stateBytes s) 6) k (number-back 3 (omega arith)) h
 
   -- or whether it waits.
   waiting-back : (k : ℕ) → k < 16 → waitingBit (stateBytes s) k ≡ isWaiting (getD (s .channels) k off)
   unfolding numbersOf
-  waiting-back k h = mask-back isWaiting (half (stateBytes s) 8) k (number-back 4) h
+  waiting-back k h = mask-back isWaiting (half (stateBytes s) 8) k (number-back 4 (omega arith)) h
 
 -- A channel is what its two tests and its place say.
 channel-whole : (c : Channel) → cond (isWaiting c) (waiting (placeIn c)) (cond (isAwake c) awake off) ≡ c
@@ -133,18 +147,18 @@ channel-three (waiting p) = refl
 
 module _ (s : State) (h : Storable s) where
   -- A waiting place of 16 bits is read back whole.
-  place-kept : (k : ℕ) → waitingPlace (stateBytes s) k ≡ placeIn (getD (s .channels) k off)
-  place-kept k = place-back s k ∙ mod-eq-of-lt (h .waits k)
+  place-kept : (k : ℕ) → k < 16 → waitingPlace (stateBytes s) k ≡ placeIn (getD (s .channels) k off)
+  place-kept k q = place-back s (h .sixteen) k q ∙ mod-eq-of-lt (h .waits k)
 
   -- Each channel is read back,
   channel-back : (k : ℕ) → k < 16 → channelIn (stateBytes s) k ≡ getD (s .channels) k off
   unfolding channelIn
-  channel-back k q = rw (waiting-back s k q, place-kept k, awake-back s k q) (channel-whole (getD (s .channels) k off))
+  channel-back k q = rw (waiting-back s (h .sixteen) k q, place-kept k q, awake-back s (h .sixteen) k q) (channel-whole (getD (s .channels) k off))
 
   -- and is one of the three,
   three-back : (k : ℕ) → k < 16 → oneOfThree (stateBytes s) k ≡ true
   unfolding oneOfThree
-  three-back k q = rw (waiting-back s k q, place-kept k, awake-back s k q) (channel-three (getD (s .channels) k off))
+  three-back k q = rw (waiting-back s (h .sixteen) k q, place-kept k q, awake-back s (h .sixteen) k q) (channel-three (getD (s .channels) k off))
 
   -- so all channels are read back.
   channels-back : channelsIn (stateBytes s) 0 16 ≡ s .channels
@@ -163,11 +177,12 @@ module _ (s : State) (h : Storable s) where
   state-back = λ i. record {
     store = record {
       registers = s .store .registers;
-      flag0 = (number-back s 0 ∙ mod-eq-of-lt (h .flag0)) i;
-      flag1 = (number-back s 1 ∙ mod-eq-of-lt (h .flag1)) i;
+      flag0 = (number-back s (h .sixteen) 0 (omega arith) ∙ mod-eq-of-lt (h .flag0)) i;
+      flag1 = (number-back s (h .sixteen) 1 (omega arith) ∙ mod-eq-of-lt (h .flag1)) i;
+      addresses = addresses-back s (h .sixteen) i;
     };
     channels = channels-back i;
-    place = (number-back s 2 ∙ mod-eq-of-lt (h .place)) i;
+    place = (number-back s (h .sixteen) 2 (omega arith) ∙ mod-eq-of-lt (h .place)) i;
   }
 
 -- ---- from bytes to a state and back
@@ -191,7 +206,7 @@ place-read true a p h = refl
 place-read false true p h = sym (eqb-true p 0 h)
 place-read false false p h = sym (eqb-true p 0 h)
 
-module _ (registers bytes : List ℕ) (long : length bytes ≡ 42) (small : areBytes bytes ≡ true) (three : allThree bytes 16 ≡ true) where
+module _ (registers bytes : List ℕ) (long : length bytes ≡ stateLength) (small : areBytes bytes ≡ true) (three : allThree bytes 16 ≡ true) where
   -- Channel k of all is the one read by its number.
   read : (k : ℕ) → k < 16 → getD (channelsIn bytes 0 16) k off ≡ channelIn bytes k
   read k q = getD-channelsIn bytes 0 16 k q ∙ ap (channelIn bytes) (zero-add k)
@@ -238,8 +253,22 @@ module _ (registers bytes : List ℕ) (long : length bytes ≡ 42) (small : areB
   unfolding numbersOf stateOf
   many = rw (length-map, length-channelsIn bytes 0 16)
 
+  -- They stand in the first 42 bytes.
+  first-length : length (take 42 bytes) ≡ 42
+  first-length = let h : 42 ≤ length bytes = omega (arith, long) in length-take-le 42 bytes h
+
+  first-read : (k : ℕ) → k < 21 → half (take 42 bytes) (2 * k) ≡ getD (numbersOf (stateOf registers bytes)) k 0
+  first-read k q =
+      sym (numberAt-append 2 (take 42 bytes) (drop 42 bytes) (2 * k) (omega (arith, first-length)))
+      ∙ ap (λ (l : List ℕ). half l (2 * k)) (take-append-drop 42 bytes)
+      ∙ numbers-read k q
+
   -- Bytes of a state's length in which every channel is one of the three are the bytes of the state that they write.
   pub bytes-back : stateBytes (stateOf registers bytes) ≡ bytes
+  unfolding stateOf
   bytes-back =
       let s = stateOf registers bytes in
-      state-halves s ∙ halves-back (numbersOf s) bytes (omega (arith, many)) small (λ k q. numbers-read k (omega (arith, many)))
+      state-halves s
+      ∙ ap (λ (l : List ℕ). l ++ drop 42 bytes)
+      (halves-back (numbersOf s) (take 42 bytes) (omega (arith, many, first-length)) (bytes-take 42 bytes small) (λ k q. first-read k (omega (arith, many))))
+      ∙ take-append-drop 42 bytes

@@ -2,20 +2,22 @@
 -- is listed now. Assumes nothing.
 use mathlib.Core.Bool.{Bool, true, false, not, cond, _&&_, _||_}
 use mathlib.Core.List.{List, map}
-use mathlib.Core.Path.{_≡_, refl}
+use mathlib.Core.Path.{_≡_, refl, sym, ap, _∙_}
 use Prim.Native.Nat.{ℕ}
 use lib.Dec.{eqb, leb}
 use Rattle.paper.specs.Bits.{bit}
-use Rattle.paper.specs.Word.{src0, src1, accessMode, accWrCtrl, execSize, predCtrl, predInv, condModifier, saturate, dstType, isNull}
+use Rattle.paper.specs.Word.{src0, src1, accessMode, accWrCtrl, execSize, predCtrl, predInv, condModifier, saturate, dstType, isNull, dstIsA0}
 use Rattle.paper.specs.Operation.{Plain, Branch, jmpi, if, else, endif, while, break, cont, Operation, plain, nop, branch, unlisted, operation, traits, sources}
 use Rattle.paper.specs.Element.{made}
 use Rattle.paper.specs.Region.{channels, dstElement, dstSize}
 use Rattle.paper.specs.Store.{Store}
 use Rattle.paper.specs.Enable.{chosenFlag, predicate, holds, channelOf, unmasked, enabled, flagAfter}
-use Rattle.paper.specs.Effect.{operand, channelStores, scattered, registersAfter, finds, comparedFlag, withFlag, plainEffect, effect}
-use Rattle.paper.specs.Legal.{anyOf, reservedSet, quarterServed, conditionServed, dstServed, srcServed, ownNeeds}
+use Rattle.paper.specs.Effect.{sourceAt, channelStores, scattered, registersAfter, addressesAfter, finds, comparedFlag, withFlag, plainEffect, effect}
+use Rattle.paper.specs.Legal.{anyOf, reservedSet, quarterServed, conditionServed, dstServed, srcServed, usesA0, movesWords, ownNeeds}
 use Rattle.paper.specs.Legal.{misplaced, unequalHalves, badModifier, ownRuleBroken, shapeBroken, alignmentBroken, reachBroken, orElse}
-use Rattle.paper.specs.Machine.{Channel, State, Ways, isAwake, wake, park, each, someone, fork, act, perform, stepAt}
+use Rattle.paper.specs.Address.{settled}
+use Rattle.paper.specs.Machine.{Channel, State, Ways, isAwake, wake, park, each, someone, fork, act, pass, perform, stepAt}
+use Rattle.laws.specs.Settled.{holds-settled}
 
 -- ---- 7 and 8 as they stood
 
@@ -38,7 +40,7 @@ ownRuleBrokenBefore p w = cond (traits p .masks) (ownRuleBroken p w) (not (eqb (
 unfoldable pub plainServedBefore : Plain → ℕ → Bool
 plainServedBefore p w =
     controlServedBefore (traits p .compares) (traits p .saturates) w
-    && (dstServed w && not (anyOf (λ x. not (srcServed w x)) (sources p)))
+    && (dstServed w && (not (anyOf (λ x. not (srcServed w x)) (sources p)) && (not (usesA0 p w) || movesWords p w)))
 
 unfoldable pub branchServedBefore : Branch → ℕ → Bool
 branchServedBefore b w = controlServedBefore false false w && ownNeeds b w
@@ -81,12 +83,19 @@ module _ (holding : Store → ℕ → Bool) where
   unfoldable pub channelStoresBy : Plain → ℕ → Store → ℕ → ℕ
   channelStoresBy p w st n =
       made p (condModifier w) (holding st (channelOf w n)) (eqb (saturate w) 1) (dstType w)
-      (operand w (st .registers) src0 n) (operand w (st .registers) src1 n)
+      (sourceAt w st src0 n) (sourceAt w st src1 n)
+
+  abbrev pub writtenToBy : Plain → ℕ → List Bool → Store → List ℕ → List ℕ
+  writtenToBy p w awake st bytes =
+      scattered bytes (dstElement w) (dstSize w) (λ n. enabledBy p w awake st (channelOf w n)) (channelStoresBy p w st) (channels w)
 
   unfoldable pub registersAfterBy : Plain → ℕ → List Bool → Store → List ℕ
   registersAfterBy p w awake st =
-      let written = scattered (st .registers) (dstElement w) (dstSize w) (λ n. enabledBy p w awake st (channelOf w n)) (channelStoresBy p w st) (channels w) in
-      cond (isNull w) (st .registers) written
+      let written = writtenToBy p w awake st (st .registers) in cond (isNull w || dstIsA0 w) (st .registers) written
+
+  unfoldable pub addressesAfterBy : Plain → ℕ → List Bool → Store → List ℕ
+  addressesAfterBy p w awake st =
+      let written = writtenToBy p w awake st (st .addresses) in cond (dstIsA0 w) written (st .addresses)
 
   unfoldable pub comparedFlagBy : ℕ → List Bool → Store → ℕ
   comparedFlagBy w awake st =
@@ -95,10 +104,11 @@ module _ (holding : Store → ℕ → Bool) where
   unfoldable pub plainEffectBy : Plain → ℕ → List Bool → Store → Store
   plainEffectBy p w awake st =
       let flag = comparedFlagBy w awake st in
-      withFlag w st (registersAfterBy p w awake st) (cond (traits p .compares) flag (chosenFlag w st))
+      withFlag w st (registersAfterBy p w awake st) (cond (traits p .compares) flag (chosenFlag w st)) (addressesAfterBy p w awake st)
 
   unfoldable pub effectBy : ℕ → List Bool → Store → Store
-  effectBy w awake st = elim (operation w) [ plain p ↦ plainEffectBy p w awake st | nop ↦ st | branch b ↦ st | unlisted ↦ st ]
+  effectBy w awake st =
+      elim (operation w) [ plain p ↦ plainEffectBy p (settled p (st .addresses) w) awake st | nop ↦ st | branch b ↦ st | unlisted ↦ st ]
 
   unfoldable pub actBy : Branch → ℕ → Ways → Store → List Channel → State
   actBy if w ways st cs = fork ways st (each (λ n. park (not (holding st n)) (ways .wait)) 0 cs)
@@ -124,14 +134,34 @@ module _ (holding : Store → ℕ → Bool) where
   unfoldable pub stepAtBy : ℕ → ℕ → Ways → State → State
   stepAtBy w here ways s = performBy (operation w) w ways (s .store) (map (wake here) (s .channels))
 
--- With the paper's predicate that is the paper's step.
+-- With the paper's predicate an operation has the paper's effect, where its operands are named directly,
+plain-ours : (p : Plain) (w : ℕ) (awake : List Bool) (st : Store) → plainEffectBy (holds w) p w awake st ≡ plainEffect p w awake st
+unfolding plainEffectBy comparedFlagBy registersAfterBy addressesAfterBy channelStoresBy enabledBy plainEffect comparedFlag registersAfter addressesAfter channelStores enabled
+plain-ours p w awake st = refl
+
+-- and a step is the paper's step.
 pub step-ours : (w here : ℕ) (ways : Ways) (s : State) → stepAtBy (holds w) w here ways s ≡ stepAt w here ways s
-unfolding stepAtBy performBy actBy effectBy plainEffectBy comparedFlagBy registersAfterBy channelStoresBy enabledBy perform act effect plainEffect comparedFlag registersAfter channelStores enabled
+unfolding stepAtBy performBy actBy effectBy perform act effect
 step-ours w here ways s = same (operation w) (s .store) (map (wake here) (s .channels))
   where
+    acts : (o : Operation) (awake : List Bool) (st : Store)
+        → _≡_ {A = Store}
+        (elim o [ plain p ↦ plainEffectBy (holds w) p (settled p (st .addresses) w) awake st | nop ↦ st | branch b ↦ st | unlisted ↦ st ])
+        (elim o [ plain p ↦ plainEffect p (settled p (st .addresses) w) awake st | nop ↦ st | branch b ↦ st | unlisted ↦ st ])
+    acts (plain p) awake st =
+        ap (λ (h : Store → ℕ → Bool). plainEffectBy h p (settled p (st .addresses) w) awake st)
+        (λ i t. sym (holds-settled (st .addresses) p w t) i)
+        ∙ plain-ours p (settled p (st .addresses) w) awake st
+    acts nop awake st = refl
+    acts (branch b) awake st = refl
+    acts unlisted awake st = refl
+
+    passes : (st : Store) (cs : List Channel) → passBy (holds w) w ways st cs ≡ pass w ways st cs
+    passes st cs = λ i. record { store = acts (operation w) (map isAwake cs) st i; channels = cs; place = ways .next }
+
     same : (o : Operation) (st : Store) (cs : List Channel) → performBy (holds w) o w ways st cs ≡ perform o w ways st cs
-    same (plain p) st cs = refl
-    same nop st cs = refl
+    same (plain p) st cs = passes st cs
+    same nop st cs = passes st cs
     same (branch if) st cs = refl
     same (branch else) st cs = refl
     same (branch endif) st cs = refl
@@ -139,7 +169,7 @@ step-ours w here ways s = same (operation w) (s .store) (map (wake here) (s .cha
     same (branch break) st cs = refl
     same (branch cont) st cs = refl
     same (branch jmpi) st cs = refl
-    same unlisted st cs = refl
+    same unlisted st cs = passes st cs
 
 -- The step as it stood.
 abbrev pub stepAtBefore : ℕ → ℕ → Ways → State → State

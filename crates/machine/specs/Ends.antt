@@ -8,7 +8,7 @@ use Rattle.paper.specs.Bits.{bit}
 use Rattle.paper.specs.Store.{Store}
 use Rattle.paper.specs.Machine as paper
 use Rattle.paper.specs.Machine.{Channel, off, awake, waiting}
-use Rattle.paper.specs.State.{channelsIn, stateOf, stateBytes}
+use Rattle.paper.specs.State.{channelsIn, addressesIn, stateOf, stateBytes}
 use Rattle.machine.specs.declared.channels.Channels.{Channels}
 use Rattle.machine.specs.declared.state.State.{State}
 use Rattle.machine.specs.declared.step.Stand.{Stand}
@@ -30,17 +30,17 @@ inside-places c bound inside n h e =
     (getD-numbered (channelIs c) n h ∙ ap (λ (b : Bool). cond b (waiting (getD (c .places) n 0)) (cond (bit (c .awake) n) awake off)) e)
 
 -- A state that was read from the bytes, its channels posted, stands where the bytes say.
-pub enter-shows : (bytes here : List ℕ) (s : State) (r : Stand) → ((registers : List ℕ) → stateIs registers s ≡ stateOf registers bytes)
+pub enter-shows : (bytes here : List ℕ) (s : State) (r : Stand) → ((registers : List ℕ) → stateIs registers (addressesIn bytes) s ≡ stateOf registers bytes)
     → r .flags ≡ s .flags → r .awake ≡ s .channels .awake → r .place ≡ s .place
     → Posted (s .channels .awake) here (channelsIs (s .channels))
-    → (registers : List ℕ) → Shows registers here r (stateOf registers bytes)
+    → (registers : List ℕ) → Shows registers (addressesIn bytes) here r (stateOf registers bytes)
 enter-shows bytes here s r read ef ea ep posted registers =
     rw (← (read registers)) (record { store = rw ef; posted = rw ea posted; place = ep })
 
 -- What the bytes hold at the end is the state that is shown.
-pub leave-state : (registers here : List ℕ) (s : Stand) (t : paper.State) → Shows registers here s t → (after : State)
-    → after .flags ≡ s .flags → channelsIs (after .channels) ≡ t .channels → after .place ≡ s .place → stateIs registers after ≡ t
-leave-state registers here s t shows after ef ec ep =
-    let st : stateIs registers after .store ≡ t .store = rw ef (shows .store) in
+pub leave-state : (registers addresses here : List ℕ) (s : Stand) (t : paper.State) → Shows registers addresses here s t → (after : State)
+    → after .flags ≡ s .flags → channelsIs (after .channels) ≡ t .channels → after .place ≡ s .place → stateIs registers addresses after ≡ t
+leave-state registers addresses here s t shows after ef ec ep =
+    let st : stateIs registers addresses after .store ≡ t .store = rw ef (shows .store) in
     let at : after .place ≡ t .place = ep ∙ shows .place in
     λ i. record { store = st i; channels = ec i; place = at i }

@@ -5,14 +5,14 @@ use mathlib.Core.List.{List, [], _∷_, _++_, map, append-nil, append-assoc}
 use Prim.Native.Nat.{ℕ, zero, suc, _+_, _*_, _≤_, _<_}
 use native.Mathlib.Omega.{arith}
 use lib.Dec.{eqb, lit≤}
-use lib.ListN.{length, getD, take, drop, length-map, length-take, length-append, length-drop, List·getD-map, drop-of-length-le}
-use lib.Seq.{take-all, take-suc, drop-drop, ext-getD}
+use lib.ListN.{length, getD, take, drop, replicate, take-append-drop, drop-of-length-le, length-map, length-take, length-append, length-drop, List·getD-map}
+use lib.Seq.{take-all, take-suc, drop-drop, ext-getD, length-take-le, drop-append-seam}
 use borrow.Author.Tests.{eqb-true}
-use Rattle.paper.specs.Limits.{stateLength}
+use Rattle.paper.specs.Limits.{addressBytes, stateLength}
 use Rattle.paper.specs.Bits.{bytesOf, putAt}
 use Rattle.paper.specs.Machine as paper
 use Rattle.paper.specs.Machine.{off, isAwake}
-use Rattle.paper.specs.State.{half, awakeBit, waitingBit, waitingPlace, channelIn, oneOfThree, channelsIn, allThree, isWaiting, placeIn, maskOf, stateBytes}
+use Rattle.paper.specs.State.{half, awakeBit, waitingBit, waitingPlace, channelIn, oneOfThree, channelsIn, addressesIn, allThree, isWaiting, placeIn, maskOf, stateBytes}
 use Rattle.laws.specs.Halfwords.{halves, length-halves}
 use Rattle.laws.specs.StateBytes.{numbersOf, state-halves, each-of-three}
 use Rattle.lanes.specs.Values.{values, length-values, getD-values}
@@ -23,9 +23,9 @@ use Rattle.machine.specs.declared.state.State.{State}
 use Rattle.machine.specs.Numbered.{same-numbered, length-numbered, getD-numbered, in-numbered, mask-numbered}
 use Rattle.machine.specs.Channels.{channelIs, channelsIs, Sane, awake-is, waiting-is, place-is}
 
--- The paper's state, with the registers that are lent beside it.
-abbrev pub stateIs : List ℕ → State → paper.State
-stateIs registers s = record { store = storeOf registers (s .flags); channels = channelsIs (s .channels); place = s .place }
+-- The paper's state, with the registers and a0's bytes that are lent beside it.
+abbrev pub stateIs : List ℕ → List ℕ → State → paper.State
+stateIs registers addresses s = record { store = storeOf registers (s .flags) addresses; channels = channelsIs (s .channels); place = s .place }
 
 -- What the code keeps of its state: sane channels, and numbers of 16 bits.
 pub record SaneState (s : State) : Type 0 where
@@ -129,11 +129,24 @@ module _ (bytes : List ℕ) (long : length bytes ≡ stateLength) where
         append-assoc vs (take n places) (getD places n 0 ∷ []) ∙ ap (λ (x : List ℕ). vs ++ x) (sym (take-suc places n 0 (omega arith))) in
         rw (places-halves n (omega arith), more, ← one) (put-half (vs ++ take n places) bytes (10 + 2 * n) (getD places n 0) at (omega arith))
 
-    -- All the bytes are written.
-    pub all-halves : placesPut l places 16 ≡ halves (vs ++ places)
-    all-halves =
-        places-halves 16 (lit≤ tt)
-        ∙ rw (take-all 16 places (omega arith), drop-of-length-le bytes {i = stateLength} (omega arith), append-nil (halves (vs ++ places)))
+    -- All the bytes before a0's are written.
+    pub all-halves : placesPut l places 16 ≡ halves (vs ++ places) ++ addressesIn bytes
+    all-halves = places-halves 16 (lit≤ tt) ∙ rw (take-all 16 places (omega arith))
+
+-- Sixteen zeros stored from byte 42 on are a0's.
+pub addresses-cleared : (bytes : List ℕ) → length bytes ≡ stateLength → addressesIn (putAt bytes 42 16 0) ≡ replicate addressBytes 0
+unfolding bytesOf
+addresses-cleared bytes long =
+    let front : List ℕ = take 42 bytes in
+    let rest : List ℕ = drop 42 bytes in
+    let count : length front ≡ 42 = length-take-le 42 bytes (omega arith) in
+    let room : length rest ≡ 16 = length-drop 42 bytes ∙ omega arith in
+    let put : putAt bytes 42 16 0 ≡ front ++ (bytesOf 16 0 ++ drop 16 rest) =
+    (λ i. putAt (sym (take-append-drop 42 bytes) i) (sym count i) 16 0) ∙ next-put 16 front rest 0 (omega arith) in
+    ap addressesIn put
+    ∙ ap (λ (n : ℕ). drop n (front ++ (bytesOf 16 0 ++ drop 16 rest))) (sym count)
+    ∙ drop-append-seam front (bytesOf 16 0 ++ drop 16 rest)
+    ∙ ap (λ (l : List ℕ). bytesOf 16 0 ++ l) (drop-of-length-le rest {i = 16} (omega arith))
 
 -- ---- the numbers of a state
 
@@ -161,21 +174,21 @@ module _ (c : Channels) (s : Sane c) where
       (λ k h. let q : k < 16 = omega arith in
       List·getD-map placeIn (channelsIs c) k off ∙ ap placeIn (getD-numbered (channelIs c) k q) ∙ place-is c s k q)
 
--- The bytes of a state are those of its 21 numbers.
-pub state-numbers : (registers : List ℕ) (s : State) → Sane (s .channels)
-    → stateBytes (stateIs registers s)
-    ≡ halves (s .flags .flag0 ∷ s .flags .flag1 ∷ s .place ∷ s .channels .awake ∷ s .channels .waiting ∷ s .channels .places)
+-- The bytes of a state are those of its 21 numbers, and a0's.
+pub state-numbers : (registers addresses : List ℕ) (s : State) → Sane (s .channels)
+    → stateBytes (stateIs registers addresses s)
+    ≡ halves (s .flags .flag0 ∷ s .flags .flag1 ∷ s .place ∷ s .channels .awake ∷ s .channels .waiting ∷ s .channels .places) ++ addresses
 unfolding numbersOf
-state-numbers registers s h =
-    state-halves (stateIs registers s)
+state-numbers registers addresses s h =
+    state-halves (stateIs registers addresses s)
     ∙ rw (awake-mask (s .channels) h, waiting-mask (s .channels) h, channel-places (s .channels) h)
 
--- So stored, one number after the other, they are the state's bytes.
+-- So stored, one number after the other, in front of a0, they are the state's bytes.
 pub state-written : (registers : List ℕ) (s : State) → Sane (s .channels) → (bytes : List ℕ) → length bytes ≡ stateLength
     → placesPut (putAt (putAt (putAt (putAt (putAt bytes 0 2 (s .flags .flag0)) 2 2 (s .flags .flag1)) 4 2 (s .place)) 6 2 (s .channels .awake)) 8 2 (s .channels .waiting))
     (s .channels .places) 16
-    ≡ stateBytes (stateIs registers s)
+    ≡ stateBytes (stateIs registers (addressesIn bytes) s)
 state-written registers s h bytes long =
     all-halves bytes long (s .flags .flag0 ∷ s .flags .flag1 ∷ s .place ∷ s .channels .awake ∷ s .channels .waiting ∷ []) (s .channels .places) _ refl (h .sixteen)
     (front-halves bytes long (s .flags .flag0) (s .flags .flag1) (s .place) (s .channels .awake) (s .channels .waiting))
-    ∙ sym (state-numbers registers s h)
+    ∙ sym (state-numbers registers (addressesIn bytes) s h)

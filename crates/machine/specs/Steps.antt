@@ -8,9 +8,9 @@ use lib.ListN.{length, getD, set, replicate, getD-replicate}
 use Rattle.paper.specs.Bits.{bit}
 use Rattle.paper.specs.Word.{predCtrl, predInv}
 use Rattle.paper.specs.Enable.{chosenFlag}
-use Rattle.paper.specs.Operation.{Branch, nop, unlisted, operation}
+use Rattle.paper.specs.Operation.{Plain, Branch, plain, nop, unlisted, operation}
 use Rattle.paper.specs.Store.{Store}
-use Rattle.paper.specs.Effect.{effect}
+use Rattle.paper.specs.Effect.{plainEffect, effect}
 use Rattle.paper.specs.Machine.{Channel, off, State, Ways, isAwake, wake, act, pass, startFrom}
 use Rattle.paper.specs.State.{maskOf}
 use Rattle.laws.specs.Masks.{ofBits-same, ofBits-bit}
@@ -18,6 +18,7 @@ use Rattle.lanes.specs.Masks.{awakeList}
 use Rattle.lanes.specs.MaskLaws.{predicateOf, predicateMask-less}
 use Rattle.execute.specs.Awake.{awake-list}
 use Rattle.execute.specs.Stores.{storeOf}
+use Rattle.execute.specs.Readable.{Acting, effect-acting}
 use Rattle.machine.specs.declared.channels.Channels.{Channels}
 use Rattle.machine.specs.declared.branch.Forked.{Forked}
 use Rattle.machine.specs.declared.step.Stand.{Stand}
@@ -27,9 +28,9 @@ use Rattle.machine.specs.Channels.{channelIs, channelsIs, Sane}
 use Rattle.machine.specs.Posts.{Posted, posted-wake}
 use Rattle.machine.specs.Branches.{Acts, actBy, act-mask, act-store}
 
--- The registers, the masks by place and where a run stands are those of a state.
-pub record Shows (registers here : List ℕ) (s : Stand) (t : State) : Type 0 where
-  pub store : storeOf registers (s .flags) ≡ t .store
+-- The registers, a0, the masks by place and where a run stands are those of a state.
+pub record Shows (registers addresses here : List ℕ) (s : Stand) (t : State) : Type 0 where
+  pub store : storeOf registers (s .flags) addresses ≡ t .store
   pub posted : Posted (s .awake) here (t .channels)
   pub place : s .place ≡ t .place
 
@@ -57,31 +58,32 @@ unfolding effect
 unlisted-idle w woken st e = rw (effect, e)
 
 -- What goes on with the store that its effect makes does what the paper says;
-pub pass-shown : (r : Stand) (up : ℕ) (here registers : List ℕ) (cs : List Channel) → Posted up here cs → r .awake ≡ up
-    → (w : ℕ) (ways : Ways) (st : Store) → r .place ≡ ways .next
-    → registers ≡ effect w (awakeList up) st .registers
-    → (r .flags .flag0 ≡ effect w (awakeList up) st .flag0) × (r .flags .flag1 ≡ effect w (awakeList up) st .flag1)
-    → Shows registers here r (pass w ways st cs)
-pass-shown r up here registers cs s ea w ways st ep er ef =
+pub pass-shown : (r : Stand) (up : ℕ) (here registers addresses : List ℕ) (cs : List Channel) → Posted up here cs → r .awake ≡ up
+    → (p : Plain) (w : ℕ) (ways : Ways) (st : Store) → operation w ≡ plain p → Acting p w → r .place ≡ ways .next
+    → (registers ≡ plainEffect p w (awakeList up) st .registers) × (addresses ≡ plainEffect p w (awakeList up) st .addresses)
+    → (r .flags .flag0 ≡ plainEffect p w (awakeList up) st .flag0) × (r .flags .flag1 ≡ plainEffect p w (awakeList up) st .flag1)
+    → Shows registers addresses here r (pass w ways st cs)
+pass-shown r up here registers addresses cs s ea p w ways st o acting ep er ef =
     record {
       store =
-          (λ i. record { registers = er i; flag0 = ef .0 i; flag1 = ef .1 i })
+          (λ i. record { registers = er .0 i; flag0 = ef .0 i; flag1 = ef .1 i; addresses = er .1 i })
+          ∙ sym (effect-acting p w (awakeList up) st o acting)
           ∙ ap (λ (l : List Bool). effect w l st) (sym (posted-awake up here cs s));
       posted = rw ea s;
       place = ep;
     }
 
 -- so does what has no effect and goes on.
-pub idle-shown : (r : Stand) (up : ℕ) (here registers : List ℕ) (cs : List Channel) → Posted up here cs → r .awake ≡ up
-    → (w : ℕ) (ways : Ways) (st : Store) → r .place ≡ ways .next → storeOf registers (r .flags) ≡ st → effect w (map isAwake cs) st ≡ st
-    → Shows registers here r (pass w ways st cs)
-idle-shown r up here registers cs s ea w ways st ep es idle = record { store = es ∙ sym idle; posted = rw ea s; place = ep }
+pub idle-shown : (r : Stand) (up : ℕ) (here registers addresses : List ℕ) (cs : List Channel) → Posted up here cs → r .awake ≡ up
+    → (w : ℕ) (ways : Ways) (st : Store) → r .place ≡ ways .next → storeOf registers (r .flags) addresses ≡ st → effect w (map isAwake cs) st ≡ st
+    → Shows registers addresses here r (pass w ways st cs)
+idle-shown r up here registers addresses cs s ea w ways st ep es idle = record { store = es ∙ sym idle; posted = rw ea s; place = ep }
 
 -- A branch does, by the mask of its predicate.
-pub branch-shown : (r : Stand) (forked : Forked) (here registers : List ℕ) (cs : List Channel) (b : Branch) (w : ℕ) (ways : Ways) (st : Store) → length cs ≡ 16
-    → r .awake ≡ forked .awake → r .place ≡ forked .place → storeOf registers (r .flags) ≡ st
-    → (mask : ℕ) → mask ≡ predicateOf w st → Acts forked here (actBy b (bit mask) ways st cs) → Shows registers here r (act b w ways st cs)
-branch-shown r forked here registers cs b w ways st l ea ep es mask em acts =
+pub branch-shown : (r : Stand) (forked : Forked) (here registers addresses : List ℕ) (cs : List Channel) (b : Branch) (w : ℕ) (ways : Ways) (st : Store) → length cs ≡ 16
+    → r .awake ≡ forked .awake → r .place ≡ forked .place → storeOf registers (r .flags) addresses ≡ st
+    → (mask : ℕ) → mask ≡ predicateOf w st → Acts forked here (actBy b (bit mask) ways st cs) → Shows registers addresses here r (act b w ways st cs)
+branch-shown r forked here registers addresses cs b w ways st l ea ep es mask em acts =
     rw (act-mask cs l b w ways st, ← em)
     (record { store = es ∙ sym (act-store b (bit mask) ways st cs); posted = rw ea (acts .posted); place = ep ∙ acts .place })
 
@@ -90,9 +92,9 @@ pub predicate-less : (w : ℕ) (st : Store) → predicateOf w st < 65536
 predicate-less w st = predicateMask-less (predCtrl w) (predInv w) (chosenFlag w st)
 
 -- A step first wakes those that wait at its place.
-pub step-shown : (registers here : List ℕ) (s : Stand) (t : State) → Shows registers here s t → s .place < length here → (up : ℕ) (after : List ℕ)
+pub step-shown : (registers addresses here : List ℕ) (s : Stand) (t : State) → Shows registers addresses here s t → s .place < length here → (up : ℕ) (after : List ℕ)
     → up ≡ eitherMask (s .awake) (getD here (s .place) 0) → after ≡ set here (s .place) 0 → Posted up after (map (wake (s .place)) (t .channels))
-step-shown registers here s t shows h up after eu ea = rw (eu, ea) (posted-wake (s .awake) here (t .channels) (shows .posted) (s .place) h)
+step-shown registers addresses here s t shows h up after eu ea = rw (eu, ea) (posted-wake (s .awake) here (t .channels) (shows .posted) (s .place) h)
 
 -- ---- a start
 

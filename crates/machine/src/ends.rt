@@ -12,7 +12,7 @@ ghost use Prim.Native.Nat.{ℕ, _<_, _≤_};
 ghost use lib.ListN.{length, getD};
 ghost use Rattle.paper.specs.Limits.{stateLength};
 ghost use Rattle.paper.specs.Machine as paper;
-ghost use Rattle.paper.specs.State.{channelsIn, stateOf, allThree, stateBytes};
+ghost use Rattle.paper.specs.State.{channelsIn, addressesIn, stateOf, allThree, stateBytes};
 ghost use Rattle.machine.specs.Steps.{Shows};
 ghost use Rattle.machine.specs.Ends.{Inside};
 
@@ -20,7 +20,7 @@ ghost use Rattle.machine.specs.Ends.{Inside};
 pub fn enter(bytes: &[u8], here: &mut [u16]) -> Stand
     requires { ⌜ (length (now bytes) ≡ stateLength) × (allThree (now bytes) 16 ≡ true) ⌝ }
     requires { ⌜ ((p : ℕ) → getD (now here) p 0 ≡ 0) × Inside (length (now here)) (channelsIn (now bytes) 0 16) ⌝ }
-    ensures { λ r. ⌜ ((registers : List ℕ) → Shows registers (now (here .exit)) r (stateOf registers (now (bytes .entry)))) ⌝ }
+    ensures { λ r. ⌜ ((registers : List ℕ) → Shows registers (addressesIn (now (bytes .entry))) (now (here .exit)) r (stateOf registers (now (bytes .entry)))) ⌝ }
     ensures { λ r. ⌜ (r .flags .flag0 < 65536) × (r .flags .flag1 < 65536) × (length (now (here .exit)) ≡ length (now (here .entry))) ⌝ }
 {
     let s = read_state(bytes);
@@ -34,11 +34,11 @@ pub fn enter(bytes: &[u8], here: &mut [u16]) -> Stand
     }
 }
 
-// Stores in the bytes the state where a run stands.
+// Stores in the bytes the state where a run stands. a0's are there already.
 pub fn leave(s: Stand, here: &[u16], bytes: &mut [u8])
     requires { ⌜ (length (now bytes) ≡ stateLength) × (length (now here) ≤ 65536) ⌝ }
-    requires { ⌜ ((registers : List ℕ) × (t : paper.State) × Shows registers (now here) s t) ⌝ }
-    ensures { λ r. ⌜ ((registers : List ℕ) (t : paper.State) → Shows registers (now (here .entry)) s t → now (bytes .exit) ≡ stateBytes t) ⌝ }
+    requires { ⌜ ((registers : List ℕ) × (t : paper.State) × Shows registers (addressesIn (now bytes)) (now here) s t) ⌝ }
+    ensures { λ r. ⌜ ((registers : List ℕ) (t : paper.State) → Shows registers (addressesIn (now (bytes .entry))) (now (here .entry)) s t → now (bytes .exit) ≡ stateBytes t) ⌝ }
 {
     let flags = s.flags;
     let channels = channels_from(s.awake, here);

@@ -10,12 +10,12 @@ ghost use mathlib.Core.List.{List};
 ghost use Prim.Native.Nat.{ℕ, _<_};
 ghost use lib.ListN.{length};
 ghost use Rattle.paper.specs.Limits.{stateLength};
-ghost use Rattle.paper.specs.State.{waitingPlace, oneOfThree, channelsIn, stateOf, allThree, stateBytes};
+ghost use Rattle.paper.specs.State.{waitingPlace, oneOfThree, channelsIn, addressesIn, stateOf, allThree, stateBytes};
 ghost use Rattle.lanes.specs.Values.{values};
 ghost use Rattle.machine.specs.Channels.{channelsIs, Sane};
 ghost use Rattle.machine.specs.States.{stateIs, SaneState, placesPut};
 
-// Flags, channels, and the place at which the next step is made. Registers are lent beside it.
+// Flags, channels, and the place at which the next step is made. Registers are lent beside it, and a0's bytes stay where they are lent.
 pub struct State {
     pub flags: Flags,
     pub channels: Channels,
@@ -57,7 +57,7 @@ fn read_channels(bytes: &[u8]) -> Channels
 // The state that the bytes write, with whatever registers. It is sane if each channel is one of the three.
 pub fn read_state(bytes: &[u8]) -> State
     requires { ⌜ length (now bytes) ≡ stateLength ⌝ }
-    ensures { λ r. ⌜ ((registers : List ℕ) → stateIs registers r ≡ stateOf registers (now (bytes .entry)))
+    ensures { λ r. ⌜ ((registers : List ℕ) → stateIs registers (addressesIn (now (bytes .entry))) r ≡ stateOf registers (now (bytes .entry)))
         × (allThree (now (bytes .entry)) 16 ≡ true → SaneState r) ⌝ }
 {
     let flag0 = read2(bytes, 0);
@@ -122,10 +122,10 @@ fn write_places(bytes: &mut [u8], places: &[u64; 16])
     }
 }
 
-// Stores a state in its bytes.
+// Stores a state in its bytes, in front of a0's.
 pub(crate) fn write_state(bytes: &mut [u8], s: State)
     requires { ⌜ (length (now bytes) ≡ stateLength) × Sane (s .channels) ⌝ }
-    ensures { λ r. ⌜ ((registers : List ℕ) → now (bytes .exit) ≡ stateBytes (stateIs registers s)) ⌝ }
+    ensures { λ r. ⌜ ((registers : List ℕ) → now (bytes .exit) ≡ stateBytes (stateIs registers (addressesIn (now (bytes .entry))) s)) ⌝ }
 {
     let flags = s.flags;
     let channels = s.channels;

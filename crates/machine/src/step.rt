@@ -13,25 +13,25 @@ ghost use mathlib.Core.List.{List};
 ghost use mathlib.Core.Path.{_≡_};
 ghost use Prim.Native.Nat.{ℕ, _<_};
 ghost use lib.ListN.{length, getD};
-ghost use Rattle.paper.specs.Limits.{registerBytes};
+ghost use Rattle.paper.specs.Limits.{addressBytes, registerBytes};
 ghost use Rattle.paper.specs.Operation.{operation};
-ghost use Rattle.paper.specs.Legal.{refusalOf};
 ghost use Rattle.paper.specs.Machine.{Channel, State, perform, stepAt};
 ghost use Rattle.words.specs.Words.{toWord};
 ghost use Rattle.words.specs.Operations.{operationIs};
 ghost use Rattle.execute.specs.Stores.{storeOf};
+ghost use Rattle.execute.specs.Readable.{Actable};
 ghost use Rattle.machine.specs.Branches.{waysIs, Within};
 ghost use Rattle.machine.specs.Posts.{Posted};
 ghost use Rattle.machine.specs.Steps.{Shows, Sound};
 
-// Where a run stands: the flags, who is awake, and the place of the next step. Registers are lent beside it, and who waits where.
+// Where a run stands: the flags, who is awake, and the place of the next step. Registers and a0's bytes are lent beside it, and who waits where.
 pub struct Stand {
     pub flags: Flags,
     pub awake: u64,
     pub place: u64,
 }
 
-// An instruction, once the channels that wait at its place are awake: a branch forks; what is no branch acts on registers and flags, and goes on.
+// An instruction, once the channels that wait at its place are awake: a branch forks; what is no branch acts on registers, flags and a0, and goes on.
 fn perform(
     o: Operation,
     w: Word,
@@ -39,18 +39,19 @@ fn perform(
     flags: Flags,
     up: u64,
     registers: &mut [u8],
+    addresses: &mut [u8],
     here: &mut [u16],
 ) -> Stand
-    requires { ⌜ (operationIs o ≡ operation (toWord w)) × (refusalOf (toWord w) ≡ 0) × (length (now registers) ≡ registerBytes) ⌝ }
+    requires { ⌜ (operationIs o ≡ operation (toWord w)) × Actable (toWord w) × (length (now registers) ≡ registerBytes) × (length (now addresses) ≡ addressBytes) ⌝ }
     requires { ⌜ (flags .flag0 < 65536) × (flags .flag1 < 65536) × (up < 65536) × ((p : ℕ) → getD (now here) p 0 < 65536)
         × Within (length (now here)) (waysIs ways) ⌝ }
-    ensures { λ r. ⌜ ((cs : List Channel) → Posted up (now (here .entry)) cs → Shows (now (registers .exit)) (now (here .exit)) r
-        (perform (operationIs o) (toWord w) (waysIs ways) (storeOf (now (registers .entry)) flags) cs)) ⌝ }
+    ensures { λ r. ⌜ ((cs : List Channel) → Posted up (now (here .entry)) cs → Shows (now (registers .exit)) (now (addresses .exit)) (now (here .exit)) r
+        (perform (operationIs o) (toWord w) (waysIs ways) (storeOf (now (registers .entry)) flags (now (addresses .entry))) cs)) ⌝ }
     ensures { λ r. ⌜ (r .flags .flag0 < 65536) × (r .flags .flag1 < 65536) × (length (now (here .exit)) ≡ length (now (here .entry))) ⌝ }
 {
     match o {
         Operation::Makes(p) => {
-            let after = execute(p, w, up, flags, registers);
+            let after = execute(p, w, up, flags, registers, addresses);
             Stand {
                 flags: after,
                 awake: up,
@@ -78,12 +79,19 @@ fn perform(
     }
 }
 
-// One step where an accepted word stands; it first wakes the channels that wait there.
-pub fn step_at(w: Word, ways: Ways, s: Stand, registers: &mut [u8], here: &mut [u16]) -> Stand
-    requires { ⌜ (refusalOf (toWord w) ≡ 0) × (length (now registers) ≡ registerBytes) × Within (length (now here)) (waysIs ways) ⌝ }
+// One step where an accepted word stands whose operands are named directly; it first wakes the channels that wait there.
+pub fn step_at(
+    w: Word,
+    ways: Ways,
+    s: Stand,
+    registers: &mut [u8],
+    addresses: &mut [u8],
+    here: &mut [u16],
+) -> Stand
+    requires { ⌜ Actable (toWord w) × (length (now registers) ≡ registerBytes) × (length (now addresses) ≡ addressBytes) × Within (length (now here)) (waysIs ways) ⌝ }
     requires { ⌜ Sound (now here) s × (s .place < length (now here)) ⌝ }
-    ensures { λ r. ⌜ ((t : State) → Shows (now (registers .entry)) (now (here .entry)) s t
-        → Shows (now (registers .exit)) (now (here .exit)) r (stepAt (toWord w) (s .place) (waysIs ways) t)) ⌝ }
+    ensures { λ r. ⌜ ((t : State) → Shows (now (registers .entry)) (now (addresses .entry)) (now (here .entry)) s t
+        → Shows (now (registers .exit)) (now (addresses .exit)) (now (here .exit)) r (stepAt (toWord w) (s .place) (waysIs ways) t)) ⌝ }
     ensures { λ r. ⌜ (r .flags .flag0 < 65536) × (r .flags .flag1 < 65536) × (length (now (here .exit)) ≡ length (now (here .entry))) ⌝ }
 {
     let flags = s.flags;
@@ -95,6 +103,7 @@ pub fn step_at(w: Word, ways: Ways, s: Stand, registers: &mut [u8], here: &mut [
         flags,
         up,
         registers,
+        addresses,
         here,
     )
 }

@@ -6,8 +6,8 @@ use Prim.Native.Nat.{ℕ, zero, suc, _+_, _*_, _/_, _%_, _≤_, _<_}
 use native.Mathlib.Omega.{arith}
 use native.Mathlib.Nat.{zero-div, zero-mod}
 use lib.ListN.{length, getD, replicate}
-use Rattle.paper.specs.Limits.{registerBytes}
-use Rattle.paper.specs.Word.{Source, srcType, srcModifier, isImmediate, immediate}
+use Rattle.paper.specs.Word.{Source, srcType, srcModifier, srcIsA0, isImmediate, immediate}
+use Rattle.paper.specs.Legal.{bytesIn}
 use Rattle.paper.specs.Value.{width, modified}
 use Rattle.paper.specs.Region.{Region, channels, elementAt, srcRegion}
 use Rattle.element.specs.Biased.{ex, Near, Keeps, near-mono}
@@ -61,8 +61,8 @@ pub element-near : (registers : List ℕ) (from kind size v : ℕ) → ElementRe
 unfolding ElementRead
 element-near registers from kind size v r = near-mono (width-most kind) (r .1)
 
--- It lies inside the registers.
+-- It lies inside its file.
 pub element-inside : (x : Source) (w : ℕ) (r : Region) → Readable x w → isImmediate x w ≡ false → r ≡ srcRegion x w
-    → (bytes : ℕ) → bytes ≡ registerBytes → r .origin + r .size ≤ bytes
+    → (bytes : ℕ) → bytes ≡ bytesIn (srcIsA0 x w) → r .origin + r .size ≤ bytes
 element-inside x w r readable e er bytes size =
     subst (λ (at : ℕ). at + r .size ≤ bytes) (element-first r) (region-read x w r readable e er (channels w) bytes refl size 0 (channels-some w))

@@ -6,10 +6,10 @@ use Prim.Native.Nat.{ℕ, _+_, _≤_, _<_}
 use native.Mathlib.Omega.{arith}
 use lib.ListN.{length, getD}
 use lib.Pow.{pow-mono, pow-pos}
-use Rattle.paper.specs.Limits.{registerBytes}
 use Rattle.paper.specs.Bits.{numberAt}
 use Rattle.paper.specs.Value.{width, IsType, value, modified}
-use Rattle.paper.specs.Word.{Source, execSize, srcType, srcModifier, isImmediate, immediate}
+use Rattle.paper.specs.Word.{Source, execSize, srcType, srcModifier, srcIsA0, isImmediate, immediate}
+use Rattle.paper.specs.Legal.{bytesIn}
 use Rattle.paper.specs.Region.{Region, channels, elementAt, srcRegion}
 use Rattle.paper.specs.Element.{meaning}
 use Rattle.paper.specs.Effect.{patternAt, operand}
@@ -19,11 +19,11 @@ use Rattle.element.specs.Operands.{width-most}
 use Rattle.lanes.specs.Mapped.{Mapped, mapped-weaker}
 use Rattle.operands.specs.Reads.{Reads, ElementRead, ElementsRead}
 
--- Source x of a word can be read: there are 16 channels at most, its type is one, and what is no immediate lies inside the registers.
+-- Source x of a word can be read: there are 16 channels at most, its type is one, and what is no immediate lies inside its file.
 pub record Readable (x : Source) (w : ℕ) : Type 0 where
   pub count : execSize w ≤ 4
   pub type : IsType (srcType x w)
-  pub inside : isImmediate x w ≡ false → Inside (srcRegion x w) (channels w)
+  pub inside : isImmediate x w ≡ false → Inside (bytesIn (srcIsA0 x w)) (srcRegion x w) (channels w)
 
 -- Of sixteen numbers, each of the n first stands for what its channel of source x reads, as near to 0 as the type's values; the others stay.
 unfoldable pub OperandRead : ℕ → List ℕ → Source → ℕ → List ℕ → List ℕ → Type 0
@@ -79,8 +79,8 @@ count-channels w h = omega (arith, pow-mono {i = execSize w} {j = 4} h)
 pub channels-some : (w : ℕ) → 0 < channels w
 channels-some w = pow-pos (execSize w)
 
--- What is gathered lies inside the registers.
+-- What is gathered lies inside the file.
 pub region-read : (x : Source) (w : ℕ) (r : Region) → Readable x w → isImmediate x w ≡ false → r ≡ srcRegion x w
-    → (n bytes : ℕ) → n ≡ channels w → bytes ≡ registerBytes → (k : ℕ) → k < n → elementAt r k + r .size ≤ bytes
+    → (n bytes : ℕ) → n ≡ channels w → bytes ≡ bytesIn (srcIsA0 x w) → (k : ℕ) → k < n → elementAt r k + r .size ≤ bytes
 region-read x w r readable e er n bytes count size k q =
     subst (λ (s : Region). elementAt s k + s .size ≤ bytes) (sym er) (rw size (readable .inside e k (rw (← count) q)))

@@ -10,15 +10,15 @@ use words::operand::Operand;
 use words::operand::operand_of;
 ghost use mathlib.Core.Path.{_≡_};
 ghost use lib.ListN.{length};
-ghost use Rattle.paper.specs.Limits.{registerBytes};
-ghost use Rattle.paper.specs.Word.{src0, src1};
+ghost use Rattle.paper.specs.Word.{src0, src1, srcIsA0};
+ghost use Rattle.paper.specs.Legal.{bytesIn};
 ghost use Rattle.words.specs.Words.{toWord};
 ghost use Rattle.operands.specs.Sources.{Readable, OperandRead};
 ghost use Rattle.operands.specs.Single.{alone, none};
 
 // What the first channel of src0 reads.
 pub fn first_number(w: Word, registers: &[u8]) -> u64
-    requires { ⌜ Readable src0 (toWord w) × (length (now registers) ≡ registerBytes) ⌝ }
+    requires { ⌜ Readable src0 (toWord w) × (length (now registers) ≡ bytesIn (srcIsA0 src0 (toWord w))) ⌝ }
     ensures { λ r. ⌜ OperandRead (toWord w) (now (registers .entry)) src0 1 none (alone r) ⌝ }
 {
     let kind = src_type(Source::First, w);
@@ -34,7 +34,7 @@ pub fn first_number(w: Word, registers: &[u8]) -> u64
 
 // What the first channel of src1 reads. It is said apart from src0, so that the fields of each are taken from known bits.
 pub fn second_number(w: Word, registers: &[u8]) -> u64
-    requires { ⌜ Readable src1 (toWord w) × (length (now registers) ≡ registerBytes) ⌝ }
+    requires { ⌜ Readable src1 (toWord w) × (length (now registers) ≡ bytesIn (srcIsA0 src1 (toWord w))) ⌝ }
     ensures { λ r. ⌜ OperandRead (toWord w) (now (registers .entry)) src1 1 none (alone r) ⌝ }
 {
     let kind = src_type(Source::Second, w);

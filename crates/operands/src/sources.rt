@@ -1,4 +1,4 @@
-// What the channels of an instruction's sources read: immediates, or elements of the registers, modified.
+// What the channels of an instruction's sources read: immediates, or elements of the file that a source stands in, which is lent; modified.
 use crate::gather::gather;
 use crate::modify::modify_all;
 use crate::spread::spread;
@@ -11,15 +11,15 @@ use words::operand::Operand;
 use words::operand::operand_of;
 ghost use mathlib.Core.Path.{_≡_};
 ghost use lib.ListN.{length};
-ghost use Rattle.paper.specs.Limits.{registerBytes};
-ghost use Rattle.paper.specs.Word.{src0, src1};
+ghost use Rattle.paper.specs.Word.{src0, src1, srcIsA0};
 ghost use Rattle.paper.specs.Region.{channels};
+ghost use Rattle.paper.specs.Legal.{bytesIn};
 ghost use Rattle.words.specs.Words.{toWord};
 ghost use Rattle.operands.specs.Sources.{Readable, OperandRead};
 
 // What the channels of src0 read.
 pub fn first_operand(w: Word, n: usize, registers: &[u8], values: &mut [u64; 16])
-    requires { ⌜ Readable src0 (toWord w) × (n ≡ channels (toWord w)) × (length (now registers) ≡ registerBytes) × (length (now values) ≡ 16) ⌝ }
+    requires { ⌜ Readable src0 (toWord w) × (n ≡ channels (toWord w)) × (length (now registers) ≡ bytesIn (srcIsA0 src0 (toWord w))) × (length (now values) ≡ 16) ⌝ }
     ensures { λ r. ⌜ OperandRead (toWord w) (now (registers .entry)) src0 n (now (values .entry)) (now (values .exit)) ⌝ }
 {
     let kind = src_type(Source::First, w);
@@ -48,7 +48,7 @@ pub fn first_operand(w: Word, n: usize, registers: &[u8], values: &mut [u64; 16]
 
 // What the channels of src1 read. It is said apart from src0, so that the fields of each are taken from known bits.
 pub fn second_operand(w: Word, n: usize, registers: &[u8], values: &mut [u64; 16])
-    requires { ⌜ Readable src1 (toWord w) × (n ≡ channels (toWord w)) × (length (now registers) ≡ registerBytes) × (length (now values) ≡ 16) ⌝ }
+    requires { ⌜ Readable src1 (toWord w) × (n ≡ channels (toWord w)) × (length (now registers) ≡ bytesIn (srcIsA0 src1 (toWord w))) × (length (now values) ≡ 16) ⌝ }
     ensures { λ r. ⌜ OperandRead (toWord w) (now (registers .entry)) src1 n (now (values .entry)) (now (values .exit)) ⌝ }
 {
     let kind = src_type(Source::Second, w);

@@ -5,9 +5,9 @@ use mathlib.Core.List.{List, [], _∷_, _++_}
 use mathlib.Core.Option.{Option, none, some}
 use Prim.Native.Nat.{ℕ, _+_, _*_, _^_}
 use lib.Dec.{eqb, ltb, leb}
-use lib.ListN.{length, take, drop}
+use lib.ListN.{length, take, drop, replicate}
 use Rattle.paper.specs.Bits.{bytesOf, numberAt}
-use Rattle.paper.specs.Limits.{registerBytes, dictionaryBytes, stateLength, kernelBytes, budgetLimit}
+use Rattle.paper.specs.Limits.{registerBytes, dictionaryBytes, addressBytes, stateLength, kernelBytes, budgetLimit}
 use Rattle.paper.specs.Dictionary.{Dictionary, dictionaryOf, inRange}
 use Rattle.paper.specs.Expand.{isShort, expand}
 use Rattle.paper.specs.Shorten.{shorten}
@@ -211,10 +211,14 @@ decodePart dictionary kernel place = partOf kernel (8 * place) (decodeAt diction
 
 -- ---- start, step and run
 
+-- Registers and flags as they are given, and a0 all zeros.
+abbrev pub freshStore : List ℕ → ℕ → ℕ → Store
+freshStore registers flag0 flag1 = record { registers = registers; flag0 = flag0; flag1 = flag1; addresses = replicate addressBytes 0 }
+
 unfoldable pub startCall : ℕ → ℕ → ℕ → List ℕ → Written
 startCall mask flag0 flag1 bytes =
     cond (eqb (length bytes) stateLength)
-    (record { answer = verdict 0 0; output = stateBytes (start (record { registers = []; flag0 = flag0; flag1 = flag1 }) mask) })
+    (record { answer = verdict 0 0; output = stateBytes (start (freshStore [] flag0 flag1) mask) })
     (kept (refusal 1 0) bytes)
 
 -- An answer and what registers and state then hold.
@@ -241,20 +245,25 @@ onState registers bytes go (good k) =
     let done = go k (stateOf registers bytes) in
     cond (stateLegal k registers bytes) done (unchanged (refusal 15 0) registers bytes)
 
--- 20 at the end, where nothing changes; 0 for any other step.
-abbrev pub steppedAs : Option ℕ → List ℕ → List ℕ → State → Changed
-steppedAs none registers bytes after = changedTo (verdict 0 0) after
-steppedAs (some number) registers bytes after = unchanged (verdict number 0) registers bytes
+-- The answer of what is stopped at a place by a verdict after so many steps: 22 is a refusal that names its instruction.
+abbrev pub stoppedAs : ℕ → ℕ → ℕ → Answer
+stoppedAs number place steps = cond (eqb number 22) (refusalWith 22 (8 * place) steps) (verdict number steps)
+
+-- 20 at the end and 22 at a broken address, where nothing changes; 0 for any other step.
+abbrev pub steppedAs : Option ℕ → List ℕ → List ℕ → State → State → Changed
+steppedAs none registers bytes before after = changedTo (verdict 0 0) after
+steppedAs (some number) registers bytes before after = unchanged (stoppedAs number (before .place) 0) registers bytes
 
 unfoldable pub stepCall : List ℕ → List ℕ → List ℕ → List ℕ → Changed
 stepCall dictionary kernel registers bytes =
     let judged = judgedKernel longAndShort dictionary kernel in
     cond (allSized dictionary kernel registers bytes)
-    (onState registers bytes (λ k s. steppedAs (stops k s) registers bytes (step k s)) judged)
+    (onState registers bytes (λ k s. steppedAs (stops k s) registers bytes s (step k s)) judged)
     (unchanged (refusal 1 0) registers bytes)
 
+-- A run that a broken address stops keeps the steps that it made.
 abbrev pub ranAs : Outcome → Changed
-ranAs o = changedTo (verdict (o .verdict) (o .steps)) (o .state)
+ranAs o = changedTo (stoppedAs (o .verdict) (o .state .place) (o .steps)) (o .state)
 
 -- 16: a budget over the limit.
 unfoldable pub runCall : List ℕ → List ℕ → ℕ → List ℕ → List ℕ → Changed

@@ -5,12 +5,12 @@ use Prim.Native.Nat.{ℕ, _+_, _-_, _*_, _/_, _%_}
 use lib.Dec.{eqb, ltb, leb}
 use lib.ListN.{length}
 use Rattle.paper.specs.Bits.{bits, bit}
-use Rattle.paper.specs.Limits.{registerBytes}
+use Rattle.paper.specs.Limits.{registerBytes, addressBytes}
 use Rattle.paper.specs.Word.{Source, src0, src1, accessMode, weCtrl, qtrCtrl, predCtrl, execSize, condModifier, accWrCtrl, saturate}
 use Rattle.paper.specs.Word.{dstFile, dstType, dstSubregister, dstRegister, dstStride, dstAddrMode}
 use Rattle.paper.specs.Word.{srcFile, srcType, srcSubregister, srcModifier, srcAddrMode, srcField}
-use Rattle.paper.specs.Word.{grf, isNull, isImmediate, immediateForm}
-use Rattle.paper.specs.Operation.{Plain, Branch, jmpi, if, else, endif, while, break, cont, Operation, plain, nop, branch, unlisted, operation, isBranch, traits, sources}
+use Rattle.paper.specs.Word.{grf, isNull, dstIsA0, srcIsA0, isImmediate, immediateForm, dstByAddress, srcByAddress}
+use Rattle.paper.specs.Operation.{Plain, Branch, jmpi, if, else, endif, while, break, cont, Operation, plain, nop, branch, unlisted, operation, isBranch, isMov, traits, sources}
 use Rattle.paper.specs.Value.{isSigned}
 use Rattle.paper.specs.Enable.{groupOf}
 use Rattle.paper.specs.Region.{Region, countOf, strideOf, channels, elementAt, srcRegion, dstOrigin, dstSize, dstElement}
@@ -54,21 +54,29 @@ controlServed compares saturates w =
     && (conditionServed compares (condModifier w)
     && (eqb (saturate w) 0 || saturates))))))
 
--- Registers or null, addressed directly, of a listed type.
+-- Registers, named directly or by address; or null or a0, named directly; of a listed type.
 unfoldable pub dstServed : ℕ → Bool
-dstServed w = (eqb (dstFile w) grf || isNull w) && (eqb (dstAddrMode w) 0 && leb (dstType w) 5)
+dstServed w = (eqb (dstFile w) grf || ((isNull w || dstIsA0 w) && eqb (dstAddrMode w) 0)) && leb (dstType w) 5
 
--- An immediate of type 0 to 3; or a register, addressed directly, of type 0 to 5.
+-- An immediate of type 0 to 3; or, of type 0 to 5, a register, named directly or by address, or a0, named directly.
 unfoldable pub srcServed : ℕ → Source → Bool
 srcServed w x =
     cond (isImmediate x w) (leb (srcType x w) 3)
-    (eqb (srcFile x w) grf && (eqb (srcAddrMode x w) 0 && leb (srcType x w) 5))
+    ((eqb (srcFile x w) grf || (srcIsA0 x w && eqb (srcAddrMode x w) 0)) && leb (srcType x w) 5)
 
--- Every field of an operation with operands is served: control, destination, and the sources that it reads.
+-- Some operand of an operation is a0.
+unfoldable pub usesA0 : Plain → ℕ → Bool
+usesA0 p w = dstIsA0 w || anyOf (λ x. srcIsA0 x w) (sources p)
+
+-- The operation moves words: mov, with operands that are all of type uw, a null destination and an immediate too.
+unfoldable pub movesWords : Plain → ℕ → Bool
+movesWords p w = isMov p && (eqb (dstType w) 2 && not (anyOf (λ x. not (eqb (srcType x w) 2)) (sources p)))
+
+-- Every field of an operation with operands is served: control, destination, and the sources that it reads; a0 only where words are moved.
 unfoldable pub plainServed : Plain → ℕ → Bool
 plainServed p w =
     controlServed (traits p .compares) (traits p .saturates) w
-    && (dstServed w && not (anyOf (λ x. not (srcServed w x)) (sources p)))
+    && (dstServed w && (not (anyOf (λ x. not (srcServed w x)) (sources p)) && (not (usesA0 p w) || movesWords p w)))
 
 -- if, else, endif, while, break and cont need size 16, quarter 0, WECtrl 0.
 abbrev pub structured : ℕ → Bool
@@ -126,7 +134,8 @@ operandRuleBroken p w =
     || (anyOf (badModifier p w) (sources p)
     || ownRuleBroken p w))
 
--- ---- 9, 10, 11: over the register operands; immediates and a null destination are passed over, never the other operands
+-- ---- 9, 10, 11: over the register operands; immediates and a null destination are passed over, never the other operands. 10 and 11 judge what is named
+-- directly; an address is judged while running
 
 -- The destination is not null and breaks a rule; or a source does that is read from registers.
 abbrev pub someOperand : Plain → ℕ → Bool → (Source → Bool) → Bool
@@ -183,17 +192,24 @@ abbrev pub unaligned : ℕ → ℕ → Bool
 unaligned subregister size = not (eqb (subregister % size) 0)
 
 unfoldable pub alignmentBroken : Plain → ℕ → Bool
-alignmentBroken p w = someOperand p w (unaligned (dstSubregister w) (dstSize w)) (λ x. unaligned (srcSubregister x w) (srcRegion x w .size))
+alignmentBroken p w =
+    someOperand p w
+    (not (dstByAddress w) && unaligned (dstSubregister w) (dstSize w))
+    (λ x. not (srcByAddress x w) && unaligned (srcSubregister x w) (srcRegion x w .size))
 
--- 11: the first and the last byte lie in registers more than one apart, or past r127. `element` is where the last channel's element starts: no channel's lies
--- farther, since 9 has passed and so rows are whole.
-unfoldable pub tooFar : ℕ → ℕ → ℕ → Bool
-tooFar origin element size =
-    let last = element + size - 1 in ltb (origin / 32 + 1) (last / 32) || leb registerBytes last
+-- How many bytes the file of an operand has: r0 to r127, or a0.
+abbrev pub bytesIn : Bool → ℕ
+bytesIn isA0 = cond isA0 addressBytes registerBytes
+
+-- 11: the first and the last byte lie in registers more than one apart, or past the file's bytes: past r127, or past a0's sixteen. `element` is where the last
+-- channel's element starts: no channel's lies farther, since 9 has passed and so rows are whole.
+unfoldable pub tooFar : ℕ → ℕ → ℕ → ℕ → Bool
+tooFar bytes origin element size =
+    let last = element + size - 1 in ltb (origin / 32 + 1) (last / 32) || leb bytes last
 
 -- A region reaches too far, its last channel being `last`.
-abbrev pub regionTooFar : Region → ℕ → Bool
-regionTooFar r last = tooFar (r .origin) (elementAt r last) (r .size)
+abbrev pub regionTooFar : ℕ → Region → ℕ → Bool
+regionTooFar bytes r last = tooFar bytes (r .origin) (elementAt r last) (r .size)
 
 abbrev pub lastChannel : ℕ → ℕ
 lastChannel w = channels w - 1
@@ -201,8 +217,8 @@ lastChannel w = channels w - 1
 unfoldable pub reachBroken : Plain → ℕ → Bool
 reachBroken p w =
     someOperand p w
-    (tooFar (dstOrigin w) (dstElement w (lastChannel w)) (dstSize w))
-    (λ x. regionTooFar (srcRegion x w) (lastChannel w))
+    (not (dstByAddress w) && tooFar (bytesIn (dstIsA0 w)) (dstOrigin w) (dstElement w (lastChannel w)) (dstSize w))
+    (λ x. not (srcByAddress x w) && regionTooFar (bytesIn (srcIsA0 x w)) (srcRegion x w) (lastChannel w))
 
 -- ---- the six in order: the number of the first rule that is broken, or 0
 

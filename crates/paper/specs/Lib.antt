@@ -14,9 +14,10 @@ pub mod Store
 pub mod Enable
 pub mod Legal
 pub mod Restrictions
-pub mod Effect
 pub mod Kernel
 pub mod Jump
+pub mod Address
+pub mod Effect
 pub mod Forward
 pub mod Machine
 pub mod State
@@ -36,4 +37,5 @@ pub mod SheetForward
 pub mod SheetHolds
 pub mod SheetPairs
 pub mod SheetLogs
+pub mod SheetAddresses
 pub mod SheetListings

@@ -9,9 +9,13 @@ registerBytes = 4096
 abbrev pub dictionaryBytes : ℕ
 dictionaryBytes = 512
 
--- The state as it is lent.
+-- The address register a0: eight numbers of 16 bits.
+abbrev pub addressBytes : ℕ
+addressBytes = 16
+
+-- The state as it is lent: flags, place, channels, and a0 last.
 abbrev pub stateLength : ℕ
-stateLength = 42
+stateLength = 58
 
 -- A kernel's bytes, at the most.
 abbrev pub kernelBytes : ℕ

@@ -8,6 +8,7 @@ use Rattle.paper.specs.Bits.{bit}
 use Rattle.paper.specs.Operation.{Branch, jmpi, if, else, endif, while, break, cont, Operation, plain, nop, branch, unlisted, operation}
 use Rattle.paper.specs.Store.{Store}
 use Rattle.paper.specs.Enable.{holds}
+use Rattle.paper.specs.Address.{addressStops}
 use Rattle.paper.specs.Effect.{effect}
 use Rattle.paper.specs.Kernel.{Instr}
 use Rattle.paper.specs.Jump.{nextOf, targetsOf, placeOf, fetch}
@@ -95,7 +96,7 @@ act cont w ways st cs = leave w ways st cs
 -- taken if it has no predicate or flag bit 0, after inversion, is 1; it looks at no mask
 act jmpi w ways st cs = record { store = st; channels = cs; place = cond (holds w st 0) (ways .jump) (ways .next) }
 
--- What is no branch acts on registers and flags, and goes on.
+-- What is no branch acts on registers, flags and a0, and goes on.
 abbrev pub pass : ℕ → Ways → Store → List Channel → State
 pass w ways st cs = record { store = effect w (map isAwake cs) st; channels = cs; place = ways .next }
 
@@ -135,22 +136,28 @@ step k s = stepOn (fetch k (s .place)) s
 
 -- ---- runs
 
--- The verdict with which a state stops a run: 20 at the end.
-abbrev pub stopsOn : Option Instr → Option ℕ
-stopsOn none = some 20
-stopsOn (some i) = none
+-- The verdict with which a state stops a run, by the instruction at its place: 20 at the end; 22 where an address is broken, which is judged before anything
+-- wakes.
+abbrev pub stopsOn : Option Instr → List ℕ → Option ℕ
+stopsOn none addresses = some 20
+stopsOn (some i) addresses = cond (addressStops addresses (i .word)) (some 22) none
 
 abbrev pub stops : List Instr → State → Option ℕ
-stops k s = stopsOn (fetch k (s .place))
+stops k s = stopsOn (fetch k (s .place)) (s .store .addresses)
+
+-- The verdict of a run whose budget is spent: 20 at the end, else 21, whatever the next step would say.
+abbrev pub orSpent : Option ℕ → ℕ
+orSpent none = 21
+orSpent (some v) = cond (eqb v 20) 20 21
 
 pub record Outcome : Type 0 where
   pub verdict : ℕ
   pub steps : ℕ
   pub state : State
 
--- A run makes the budget's steps unless a state stops it first. 21: budget spent short of the end.
+-- A run makes the budget's steps unless a state stops it first: the end, or a broken address. 21: budget spent short of the end.
 unfoldable pub runWith : (State → Option ℕ) → (State → State) → ℕ → State → Outcome
-runWith stop next zero s = record { verdict = elim (stop s) [ some v ↦ v | none ↦ 21 ]; steps = 0; state = s }
+runWith stop next zero s = record { verdict = orSpent (stop s); steps = 0; state = s }
 runWith stop next (suc n) s =
     elim (stop s) [
       | some v ↦ record { verdict = v; steps = 0; state = s }

@@ -59,6 +59,21 @@ isBranch nop = false
 isBranch (branch b) = true
 isBranch unlisted = false
 
+abbrev pub isMov : Plain → Bool
+isMov mov = true
+isMov sel = false
+isMov not = false
+isMov and = false
+isMov or = false
+isMov xor = false
+isMov shr = false
+isMov shl = false
+isMov asr = false
+isMov cmp = false
+isMov add = false
+isMov mul = false
+isMov avg = false
+
 -- What the rules ask of an operation: the sources that it reads (what it does not read is carried, not judged), whether Saturate is served on
 -- it, whether its sources may have modifiers, whether it is cmp, which has a condition code and sets flags, and whether its predicate masks its channels: sel's
 -- chooses a source, and masks nothing.

@@ -1,8 +1,8 @@
 -- Regions: at which byte each channel's element starts (the paper, "Operations"; source document 001). Assumes nothing.
-use mathlib.Core.Bool.{cond}
+use mathlib.Core.Bool.{Bool, cond}
 use Prim.Native.Nat.{ℕ, _+_, _*_, _/_, _%_, _^_}
-use Rattle.paper.specs.Word.{Source, execSize, dstType, dstSubregister, dstRegister, dstStride}
-use Rattle.paper.specs.Word.{srcType, srcSubregister, srcRegister, srcHorzStride, srcWidth, srcVertStride, isImmediate, immediate}
+use Rattle.paper.specs.Word.{Source, execSize, dstType, dstSubregister, dstRegister, dstStride, dstIsA0}
+use Rattle.paper.specs.Word.{srcType, srcSubregister, srcRegister, srcHorzStride, srcWidth, srcVertStride, srcIsA0, isImmediate, immediate}
 use Rattle.paper.specs.Value.{width, sizeOf}
 
 -- ExecSize and Width codes 0 to 4 mean 1 to 16.
@@ -32,11 +32,15 @@ pub record Region : Type 0 where
 unfoldable pub elementAt : Region → ℕ → ℕ
 elementAt r n = r .origin + (n / r .wide * r .vert + n % r .wide * r .horz) * r .size
 
--- The region of source x.
+-- The byte at which a register begins: a0 is alone in its file.
+abbrev pub registerAt : Bool → ℕ → ℕ
+registerAt isA0 register = cond isA0 0 (register * 32)
+
+-- The region of source x, in the register file or in a0.
 abbrev pub srcRegion : Source → ℕ → Region
 srcRegion x w =
     record {
-      origin = srcRegister x w * 32 + srcSubregister x w;
+      origin = registerAt (srcIsA0 x w) (srcRegister x w) + srcSubregister x w;
       vert = strideOf (srcVertStride x w);
       wide = countOf (srcWidth x w);
       horz = strideOf (srcHorzStride x w);
@@ -45,7 +49,7 @@ srcRegion x w =
 
 -- ---- operands
 
--- What a source names: an immediate's pattern, or a region of the registers.
+-- What a source names: an immediate's pattern, or a region of the file that it stands in.
 pub data Operand : Type 0 where
   fixed : ℕ → Operand
   direct : Region → Operand
@@ -57,7 +61,7 @@ operandOf x w = cond (isImmediate x w) (fixed (immediate (width (srcType x w)) w
 -- ---- the destination
 
 abbrev pub dstOrigin : ℕ → ℕ
-dstOrigin w = dstRegister w * 32 + dstSubregister w
+dstOrigin w = registerAt (dstIsA0 w) (dstRegister w) + dstSubregister w
 
 abbrev pub dstSize : ℕ → ℕ
 dstSize w = sizeOf (dstType w)

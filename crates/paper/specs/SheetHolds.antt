@@ -13,9 +13,10 @@ use Rattle.paper.specs.Shorten.{firstFrom, indexOf, shortWord, shortenIm
 use Rattle.paper.specs.Value.{value, least, greatest, modZ, floorZ, modified, clampTo, stored}
 use Rattle.paper.specs.Element.{compares, result, made, meets}
 use Rattle.paper.specs.Region.{elementAt}
-use Rattle.paper.specs.Legal.{reservedSet, controlServed, dstServed, srcServed, plainServed, branchServed, operandRuleBroken, hangs, shapeRefused, shapeBroken, alignmentBroken, tooFar, reachBroken, later, refusalOf}
+use Rattle.paper.specs.Legal.{reservedSet, controlServed, dstServed, srcServed, usesA0, movesWords, plainServed, branchServed, operandRuleBroken, hangs, shapeRefused, shapeBroken, alignmentBroken, tooFar, reachBroken, later, refusalOf}
+use Rattle.paper.specs.Address.{dstDirect, srcDirect, settled, someOutside, addressBroken, addressStops}
 use Rattle.paper.specs.Enable.{groupOf, anyBit, allBits, vote, predicate, holds, enabled, ofBits, flagBit, flagAfter}
-use Rattle.paper.specs.Effect.{patternAt, operand, channelStores, scattered, registersAfter, finds, comparedFlag, plainEffect, effect}
+use Rattle.paper.specs.Effect.{patternAt, operand, channelStores, scattered, registersAfter, addressesAfter, finds, comparedFlag, plainEffect, effect}
 use Rattle.paper.specs.Kernel.{judgeShort, judgeLong, judgeAt, walk, parse}
 use Rattle.paper.specs.Jump.{fetch, endFrom, lands, firstAstray, withJumps}
 use Rattle.paper.specs.Forward.{forward}
@@ -34,7 +35,7 @@ use Rattle.paper.specs.Sheet.{Row, _gives_, shown, written, whole, count
 
 -- All rows of a list hold: what is computed is what is said. To open this definition is to open all that a row computes with.
 unfoldable pub Hold : List Row → Type 0
-unfolding number numberAt bytesOf putAt immediateForm dictionaryOf tableWidth fitBelow expandLow expandHigh expand operationOf firstFrom indexOf shortWord shortenImmediate shortenRegister shortenHalves shorten value least greatest modZ floorZ modified clampTo stored compares result elementAt reservedSet controlServed dstServed srcServed plainServed branchServed operandRuleBroken hangs shapeRefused shapeBroken alignmentBroken tooFar reachBroken later refusalOf groupOf anyBit allBits vote predicate holds enabled ofBits flagBit flagAfter made meets patternAt operand channelStores scattered registersAfter finds comparedFlag plainEffect effect judgeShort judgeLong judgeAt walk parse fetch endFrom lands firstAstray withJumps forward wake park each someone onward act perform stepOn runWith startFrom channelIn oneOfThree channelsIn stateOf allThree waitsLand stateLegal maskOf placesOf stateBytes index startOf aimed layFrom relay deliver judgedKernel accepted checkCall forwardCall packCall unpackCall oneWord shortenCall expandCall decodeAt decodeCall decodePart startCall stepCall runCall dwords to from0 from1 immediate0 immediate1 op structuredTo jmpiTo leaveTo nopWord long copies numbers zeros blankDictionary dictionaryA clear ramp begin _gives_ shown written whole count room longA shortA rowsA dictionaryB shortenB rowsB storedW rowsCDEF rowsG kernelH stepsH rowsH kernelI rowsI loads rowsLoad stores rowsStore rowsOperation says rowsCompare one r4 masks sevens against rowsEnable rowsFlag ranOver stateIs rowsBranch second secondWord movWith shortNop addWith rowsKernel rowsWord movBy rowsShape predicates rowsVote rowsVoted votesAt branchVotes selVotes rowsVoteRefused ahead everyKind onItself rowsForward leaves aims between rowsLeave rowsAim rowsLeaveRefused repeated rowsRepeated
+unfolding number numberAt bytesOf putAt immediateForm dictionaryOf tableWidth fitBelow expandLow expandHigh expand operationOf firstFrom indexOf shortWord shortenImmediate shortenRegister shortenHalves shorten value least greatest modZ floorZ modified clampTo stored compares result elementAt dstDirect srcDirect settled someOutside addressBroken addressStops reservedSet controlServed dstServed srcServed usesA0 movesWords plainServed branchServed operandRuleBroken hangs shapeRefused shapeBroken alignmentBroken tooFar reachBroken later refusalOf groupOf anyBit allBits vote predicate holds enabled ofBits flagBit flagAfter made meets patternAt operand channelStores scattered registersAfter addressesAfter finds comparedFlag plainEffect effect judgeShort judgeLong judgeAt walk parse fetch endFrom lands firstAstray withJumps forward wake park each someone onward act perform stepOn runWith startFrom channelIn oneOfThree channelsIn stateOf allThree waitsLand stateLegal maskOf placesOf stateBytes index startOf aimed layFrom relay deliver judgedKernel accepted checkCall forwardCall packCall unpackCall oneWord shortenCall expandCall decodeAt decodeCall decodePart startCall stepCall runCall dwords to from0 from1 immediate0 immediate1 op structuredTo jmpiTo leaveTo nopWord long copies numbers zeros blankDictionary dictionaryA clear ramp begin _gives_ shown written whole count room longA shortA rowsA dictionaryB shortenB rowsB storedW rowsCDEF rowsG kernelH stepsH rowsH kernelI rowsI loads rowsLoad stores rowsStore rowsOperation says rowsCompare one r4 masks sevens against rowsEnable rowsFlag ranOver stateIs rowsBranch second secondWord movWith shortNop addWith rowsKernel rowsWord movBy rowsShape predicates rowsVote rowsVoted votesAt branchVotes selVotes rowsVoteRefused ahead everyKind onItself rowsForward leaves aims between rowsLeave rowsAim rowsLeaveRefused repeated rowsRepeated
 Hold rows = map (λ r. r .got) rows ≡ map (λ r. r .want) rows
 
 rowsA-hold : Hold rowsA

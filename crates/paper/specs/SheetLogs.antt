@@ -51,7 +51,7 @@ allButLast =
 
 -- A state with every channel awake at place 0.
 unfoldable pub allAwake : List ℕ
-allAwake = replicate 6 0 ++ (255 ∷ 255 ∷ replicate 34 0)
+allAwake = replicate 6 0 ++ (255 ∷ 255 ∷ replicate 50 0)
 
 unfoldable pub firstEntry : Entry
 firstEntry = entry 20 0 0 16
@@ -69,7 +69,7 @@ rowsLog =
     ∷ (written (logAppendCall (room 47) 0 firstEntry) gives 14 ∷ 0 ∷ 0 ∷ room 47)
     -- the run's answer, with an offset that is passed over, and its state
     ∷ (written (logRunCall (room 48) 0 (20 + 2 ^ 8 * 77) allAwake) gives 0 ∷ 0 ∷ 48 ∷ firstText)
-    ∷ (written (logRunCall (room 48) 0 20 (take 41 allAwake)) gives 1 ∷ 0 ∷ 0 ∷ room 48)
+    ∷ (written (logRunCall (room 48) 0 20 (take 57 allAwake)) gives 1 ∷ 0 ∷ 0 ∷ room 48)
     -- whole, cut off, and torn tails
     ∷ (readAfter [] gives 0 ∷ 0 ∷ 48 ∷ 0 ∷ 0 ∷ 1 ∷ [])
     ∷ (shown (logReadCall firstText 47) gives 0 ∷ 0 ∷ 0 ∷ [])

@@ -142,10 +142,10 @@ unfoldable pub ranOver : List ℕ → ℕ → List ℕ → List ℕ
 ranOver words budget state =
     let c = runCall blankDictionary (long words) budget clear state in shown (c .answer) ++ c .state
 
--- The state's bytes: flags, place, masks, and the waiting places of channels 0 to 7 and 8 to 15.
+-- The state's bytes: flags, place, masks, the waiting places of channels 0 to 7 and 8 to 15, and a0, which holds zeros.
 unfoldable pub stateIs : ℕ → ℕ → ℕ → ℕ → ℕ → ℕ → ℕ → List ℕ
 stateIs flag0 flag1 place awake waiting low high =
-    bytesOf 2 flag0 ++ (bytesOf 2 flag1 ++ (bytesOf 2 place ++ (bytesOf 2 awake ++ (bytesOf 2 waiting ++ (copies 8 (bytesOf 2 low) ++ copies 8 (bytesOf 2 high))))))
+    bytesOf 2 flag0 ++ (bytesOf 2 flag1 ++ (bytesOf 2 place ++ (bytesOf 2 awake ++ (bytesOf 2 waiting ++ (copies 8 (bytesOf 2 low) ++ (copies 8 (bytesOf 2 high) ++ replicate 16 0))))))
 
 unfoldable pub rowsBranch : List Row
 rowsBranch =

@@ -61,7 +61,7 @@ rowsWord =
     ∷ (secondWord (structuredTo 0x25 2 + 1 at 47 + 63 at 90 + 127 at 121) gives 0 ∷ 0 ∷ 2 ∷ [])
     ∷ (secondWord (structuredTo 0x25 2 + 1 at 7) gives 6 ∷ 16 ∷ 0 ∷ [])
     ∷ (secondWord (op 0x01 3 + to 1 4 0 + immediate0 1 0xFFFFFFFF) gives 0 ∷ 0 ∷ 2 ∷ [])
-    -- 7: AccessMode, AccWrCtrl, ExecSize, QtrCtrl, PredCtrl, CondModifier, Saturate; file, AddrMode, type; a branch's own needs
+    -- 7: AccessMode, AccWrCtrl, ExecSize, QtrCtrl, PredCtrl, CondModifier, Saturate; file, type; a branch's own needs
     ∷ (secondWord (movWith (1 at 8)) gives 7 ∷ 16 ∷ 0 ∷ [])
     ∷ (secondWord (movWith (1 at 28)) gives 7 ∷ 16 ∷ 0 ∷ [])
     ∷ (secondWord (movWith (2 at 21)) gives 7 ∷ 16 ∷ 0 ∷ [])
@@ -71,8 +71,6 @@ rowsWord =
     ∷ (secondWord (addWith 0 3 + 1 at 31) gives 0 ∷ 0 ∷ 2 ∷ [])
     ∷ (secondWord (op 0x04 3 + to 1 4 0 + from0 1 2 0 4 3 1 + 1 at 31) gives 7 ∷ 16 ∷ 0 ∷ [])
     ∷ (secondWord (movWith (1 at 33)) gives 7 ∷ 16 ∷ 0 ∷ [])
-    ∷ (secondWord (movWith (1 at 63)) gives 7 ∷ 16 ∷ 0 ∷ [])
-    ∷ (secondWord (movWith (1 at 79)) gives 7 ∷ 16 ∷ 0 ∷ [])
     ∷ (secondWord (movWith (5 at 39)) gives 7 ∷ 16 ∷ 0 ∷ [])
     -- the second quarter, with eight channels and with another size
     ∷ (secondWord (movWith (1 at 12)) gives 0 ∷ 0 ∷ 2 ∷ [])
@@ -88,8 +86,8 @@ rowsWord =
     -- 8: mul with dwords; an immediate that is not last; unequal halves; a modifier on a src0 immediate, on logic; signs of shifts; sel
     ∷ (secondWord (op 0x41 3 + to 1 4 0 + from0 1 2 0 4 3 1 + from1 3 3 0 4 3 1) gives 8 ∷ 16 ∷ 0 ∷ [])
     ∷ (secondWord (op 0x40 3 + to 1 4 0 + immediate0 1 5 + 1 at 42 + 1 at 44) gives 8 ∷ 16 ∷ 0 ∷ [])
-    -- bit 111 of such an immediate is the second source's AddrMode: 7 comes first
-    ∷ (secondWord (op 0x40 3 + to 1 4 0 + immediate0 1 (5 + 1 at 15) + 1 at 42 + 1 at 44) gives 7 ∷ 16 ∷ 0 ∷ [])
+    -- bit 111 of such an immediate is the second source's AddrMode, which is served
+    ∷ (secondWord (op 0x40 3 + to 1 4 0 + immediate0 1 (5 + 1 at 15) + 1 at 42 + 1 at 44) gives 8 ∷ 16 ∷ 0 ∷ [])
     ∷ (secondWord (op 0x01 3 + to 1 4 0 + immediate0 3 5) gives 8 ∷ 16 ∷ 0 ∷ [])
     ∷ (secondWord (op 0x01 3 + to 1 4 0 + immediate0 3 0x00050005) gives 0 ∷ 0 ∷ 2 ∷ [])
     ∷ (secondWord (op 0x01 3 + to 1 4 0 + immediate0 1 5 + 1 at 77) gives 8 ∷ 16 ∷ 0 ∷ [])

@@ -1,10 +1,10 @@
--- The lent state's bytes: f0.0, f0.1, place, awake mask, waiting mask, each 16 bits, then sixteen 16-bit waiting places. A channel is awake (its
--- awake bit alone), waiting (its waiting bit alone) or off (neither), and one that is not waiting has place 0. Assumes nothing.
+-- The lent state's bytes: f0.0, f0.1, place, awake mask, waiting mask, each 16 bits, then sixteen 16-bit waiting places, then a0's eight numbers of 16 bits. A
+-- channel is awake (its awake bit alone), waiting (its waiting bit alone) or off (neither), and one that is not waiting has place 0. Assumes nothing.
 use mathlib.Core.Bool.{Bool, true, false, not, cond, _&&_, _||_}
 use mathlib.Core.List.{List, [], _∷_, _++_, map}
 use Prim.Native.Nat.{ℕ, zero, suc, _+_, _*_}
 use lib.Dec.{eqb}
-use lib.ListN.{getD}
+use lib.ListN.{getD, drop}
 use Rattle.paper.specs.Bits.{bit, numberAt, bytesOf}
 use Rattle.paper.specs.Store.{Store}
 use Rattle.paper.specs.Enable.{ofBits}
@@ -40,11 +40,15 @@ unfoldable pub channelsIn : List ℕ → ℕ → ℕ → List Channel
 channelsIn bytes n zero = []
 channelsIn bytes n (suc c) = channelIn bytes n ∷ channelsIn bytes (suc n) c
 
+-- a0's bytes are the last, from byte 42 on.
+abbrev pub addressesIn : List ℕ → List ℕ
+addressesIn bytes = drop 42 bytes
+
 -- The state that registers and state bytes write.
 unfoldable pub stateOf : List ℕ → List ℕ → State
 stateOf registers bytes =
     record {
-      store = record { registers = registers; flag0 = half bytes 0; flag1 = half bytes 2 };
+      store = record { registers = registers; flag0 = half bytes 0; flag1 = half bytes 2; addresses = addressesIn bytes };
       channels = channelsIn bytes 0 16;
       place = half bytes 4;
     }
@@ -94,4 +98,5 @@ stateBytes s =
     ++ (bytesOf 2 (s .place)
     ++ (bytesOf 2 (maskOf isAwake (s .channels))
     ++ (bytesOf 2 (maskOf isWaiting (s .channels))
-    ++ placesOf (s .channels)))))
+    ++ (placesOf (s .channels)
+    ++ s .store .addresses)))))

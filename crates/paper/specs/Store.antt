@@ -2,8 +2,9 @@
 use mathlib.Core.List.{List}
 use Prim.Native.Nat.{ℕ}
 
--- Registers and flags.
+-- Registers, flags, and the bytes of the address register a0.
 pub record Store : Type 0 where
   pub registers : List ℕ
   pub flag0 : ℕ
   pub flag1 : ℕ
+  pub addresses : List ℕ

@@ -1,5 +1,5 @@
 -- The fields of the long word (the paper, "The long word"; source document 000, figure 5-1). Assumes nothing.
-use mathlib.Core.Bool.{Bool, true, false, _&&_, _||_}
+use mathlib.Core.Bool.{Bool, true, false, not, _&&_, _||_}
 use Prim.Native.Nat.{ℕ, _+_}
 use lib.Dec.{eqb}
 use Rattle.paper.specs.Bits.{bits}
@@ -114,9 +114,24 @@ srcField x w = bits w (77 + shiftOf x) 12
 abbrev pub flagChoice : ℕ → ℕ
 flagChoice w = bits w 89 1
 
+-- ---- by address (000, figure 5-1): an operand's thirteen register and subregister bits as one number, of which the low ten are AddrImm, signed, and the top
+-- three the number of an element of a0
+
+abbrev pub dstIndirect : ℕ → ℕ
+dstIndirect w = bits w 48 13
+
+abbrev pub srcIndirect : Source → ℕ → ℕ
+srcIndirect x w = bits w (64 + shiftOf x) 13
+
+abbrev pub addrImm : ℕ → ℕ
+addrImm field = bits field 0 10
+
+abbrev pub addrElement : ℕ → ℕ
+addrElement field = bits field 10 3
+
 -- ---- files, and the immediate form
 
--- Register files: 01 is the general register file, 00 the architecture's (of which only null is served), 11 an immediate.
+-- Register files: 01 is the general register file, 00 the architecture's (of which null and a0 are served), 11 an immediate.
 abbrev pub grf : ℕ
 grf = 1
 
@@ -130,6 +145,18 @@ imm = 3
 abbrev pub isNull : ℕ → Bool
 isNull w = eqb (dstFile w) arf && eqb (dstRegister w) 0
 
+-- The address register a0: file 00, register 0x10.
+abbrev pub a0 : ℕ
+a0 = 0x10
+
+-- The destination is a0.
+abbrev pub dstIsA0 : ℕ → Bool
+dstIsA0 w = eqb (dstFile w) arf && eqb (dstRegister w) a0
+
+-- Source x is a0.
+abbrev pub srcIsA0 : Source → ℕ → Bool
+srcIsA0 x w = eqb (srcFile x w) arf && eqb (srcRegister x w) a0
+
 -- Source x is an immediate.
 abbrev pub isImmediate : Source → ℕ → Bool
 isImmediate x w = eqb (srcFile x w) imm
@@ -137,6 +164,14 @@ isImmediate x w = eqb (srcFile x w) imm
 -- A word is in immediate form when either source file is 11.
 unfoldable pub immediateForm : ℕ → Bool
 immediateForm w = isImmediate src0 w || isImmediate src1 w
+
+-- The destination is by address. (Where 7 has passed, its file is 01 then; so it is of a source.)
+abbrev pub dstByAddress : ℕ → Bool
+dstByAddress w = eqb (dstAddrMode w) 1
+
+-- Source x is by address. An immediate has no AddrMode.
+abbrev pub srcByAddress : Source → ℕ → Bool
+srcByAddress x w = not (isImmediate x w) && eqb (srcAddrMode x w) 1
 
 -- An immediate fills 127:96; its n low bits.
 abbrev pub immediate : ℕ → ℕ → ℕ

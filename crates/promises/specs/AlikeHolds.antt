@@ -1,28 +1,30 @@
 -- Kernels with one program run alike (`program-alike`), and so do a kernel and its packed or unpacked form. Assumes nothing.
-use mathlib.Core.Bool.{true}
+use mathlib.Core.Bool.{Bool, true, cond}
 use mathlib.Core.List.{List}
-use mathlib.Core.Logic.{_⊎_, inl, inr}
+use mathlib.Core.Logic.{inl, inr}
 use mathlib.Core.Path.{_≡_, sym, ap, _∙_}
-use Prim.Native.Nat.{ℕ, _≤_}
+use Prim.Native.Nat.{ℕ, _*_, _≤_}
 use lib.ListN.{length}
 use lib.Pow.{areBytes}
-use borrow.Author.Tests.{eq-eqb}
+use borrow.Author.Tests.{eq-eqb, ne-eqb}
 use Rattle.paper.specs.Limits.{registerBytes, stateLength, budgetLimit}
 use Rattle.paper.specs.Dictionary.{dictionaryOf}
 use Rattle.paper.specs.Shorten.{shorten}
 use Rattle.paper.specs.Kernel.{Instr, longAndShort, longOnly, good}
 use Rattle.paper.specs.Machine.{State, Outcome, run}
-use Rattle.paper.specs.State.{stateOf}
-use Rattle.paper.specs.Calls.{asNumber, verdict, Changed, accepted, ranAs, runCall, numberOf, countOf}
+use Rattle.paper.specs.State.{half, stateOf}
+use Rattle.paper.specs.Calls.{asNumber, verdict, refusalWith, Changed, accepted, stoppedAs, ranAs, runCall, numberOf, countOf}
 use Rattle.paper.specs.Program.{program}
 use Rattle.laws.specs.Names.{named, namedOutcome, relaidBy, longForm}
 use Rattle.laws.specs.Same.{same-runs}
 use Rattle.laws.specs.Packing.{kernel-of, long-accepted, packed-accepted, packed-program, unpacked-accepted, unpacked-program, accepted-parts}
-use Rattle.laws.specs.Calls.{run-verdict}
+use Rattle.laws.specs.Runs.{ended, spent, astray, verdict-says}
+use Rattle.laws.specs.Calls.{stopped-number, stopped-count}
 use Rattle.laws.specs.Demands.{Ready, run-ready}
-use Rattle.contracts.specs.Contracts.{numberIn, countIn, PackPromise, UnpackPromise, RunPromise}
-use Rattle.promises.specs.Stepping.{state-bytes, buffers, legal-parts, run-leaves-ready, run-leaves}
-use Rattle.promises.specs.Promises.{result, Begun, Legal, Same, RanAlike, Alike}
+use Rattle.contracts.specs.Contracts.{numberIn, offsetIn, countIn, PackPromise, UnpackPromise, RunPromise}
+use Rattle.promises.specs.Stepping.{buffers, legal-parts, run-leaves-bytes, run-leaves-ready, run-leaves}
+use Rattle.promises.specs.Making.{run-made}
+use Rattle.promises.specs.Promises.{result, RunVerdict, Begun, Legal, Same, RanAlike, Alike}
 use Rattle.promises.specs.OutcomesHold.{answers}
 use Rattle.promises.specs.PackingHolds.{pack-wrote, unpack-wrote, relaid-bytes}
 use Rattle.promises.specs.Starts.{started-bytes, start-ready, start-names}
@@ -40,6 +42,7 @@ same-of k l registers state registers′ state′ legal legal′ e =
       sameRegisters = ap (λ (s : State). s .store .registers) e;
       sameFlag0 = ap (λ (s : State). s .store .flag0) e;
       sameFlag1 = ap (λ (s : State). s .store .flag1) e;
+      sameAddresses = ap (λ (s : State). s .store .addresses) e;
       samePlace = ap (λ (s : State). s .place) e;
       sameChannels = ap (λ (s : State). s .channels) e;
     }
@@ -48,7 +51,7 @@ named-of : (k l : List Instr) (registers state registers′ state′ : List ℕ)
     → named k (stateOf registers state) ≡ named l (stateOf registers′ state′)
 unfolding stateOf
 named-of k l registers state registers′ state′ s = λ i. record {
-  store = record { registers = s .sameRegisters i; flag0 = s .sameFlag0 i; flag1 = s .sameFlag1 i };
+  store = record { registers = s .sameRegisters i; flag0 = s .sameFlag0 i; flag1 = s .sameFlag1 i; addresses = s .sameAddresses i };
   channels = s .sameChannels i;
   place = s .samePlace i;
 }
@@ -80,17 +83,38 @@ module _ (dictionary kernel : List ℕ) (right : areBytes kernel ≡ true) (k : 
     made : runCall dictionary kernel budget registers state ≡ ranAs outcome
     made = run-ready dictionary kernel registers state k (legal-ready registers state h) budget le
 
-    after-answer : r ≡ asNumber (verdict (outcome .verdict) (outcome .steps))
+    -- The answer, by the machine's outcome.
+    after-answer : r ≡ asNumber (stoppedAs (outcome .verdict) (outcome .state .place) (outcome .steps))
     after-answer = p .0 ∙ ap (λ (c : Changed). asNumber (c .answer)) made
 
     pub after-ran : (numberIn r ≡ outcome .verdict) × (countIn r ≡ outcome .steps)
     after-ran =
-        let t = answers .run dictionary kernel budget registers state r registers₁ state₁ p in
-        (t .number ∙ ap (λ (c : Changed). numberOf (c .answer)) made, t .count ∙ ap (λ (c : Changed). countOf (c .answer)) made)
+        let t = answers .run dictionary kernel budget registers state r registers₁ state₁ p in (
+          t .number ∙ ap (λ (c : Changed). numberOf (c .answer)) made ∙ stopped-number (outcome .verdict) (outcome .state .place) (outcome .steps),
+          t .count ∙ ap (λ (c : Changed). countOf (c .answer)) made ∙ stopped-count (outcome .verdict) (outcome .state .place) (outcome .steps),
+        )
 
-    pub after-verdict : (numberIn r ≡ 20) ⊎ (numberIn r ≡ 21)
+    pub after-verdict : RunVerdict (numberIn r)
     after-verdict =
-        elim (run-verdict k budget (stateOf registers state)) [ inl e ↦ inl (after-ran .0 ∙ e) | inr e ↦ inr (after-ran .0 ∙ e) ]
+        elim (verdict-says k budget (stateOf registers state)) [
+          | ended e f ↦ inl (after-ran .0 ∙ e)
+          | spent e n i f ↦ inr (inl (after-ran .0 ∙ e))
+          | astray e n i f a ↦ inr (inr (after-ran .0 ∙ e))
+        ]
+
+    -- 22 names the byte of the instruction at the place where the run stopped.
+    after-names : numberIn r ≡ 22 → offsetIn r ≡ 8 * half state₁ 4
+    after-names e =
+        let t = answers .run dictionary kernel budget registers state r registers₁ state₁ p in
+        let m = run-made dictionary kernel right budget le registers state (h .bytes) in
+        t .offset ∙ m .names (sym (t .number) ∙ e) ∙ ap (λ (l : List ℕ). 8 * half l 4) (sym (p .2))
+
+    -- Any other answer says nothing of a place.
+    after-other : (numberIn r ≡ 22 → ⊥) → r ≡ asNumber (verdict (outcome .verdict) (outcome .steps))
+    after-other other =
+        after-answer
+        ∙ ap (λ (t : Bool). asNumber (cond t (refusalWith 22 (8 * outcome .state .place) (outcome .steps)) (verdict (outcome .verdict) (outcome .steps))))
+        (ne-eqb (outcome .verdict) 22 (λ e. other (after-ran .0 ∙ e)))
 
     after-state : stateOf registers₁ state₁ ≡ outcome .state
     after-state =
@@ -98,7 +122,8 @@ module _ (dictionary kernel : List ℕ) (right : areBytes kernel ≡ true) (k : 
 
     after-legal : Legal k registers₁ state₁
     after-legal =
-        let bytes : areBytes state₁ ≡ true = ap areBytes (p .2 ∙ ap (λ (c : Changed). c .state) made) ∙ state-bytes (outcome .state) in
+        let bytes : areBytes state₁ ≡ true =
+        ap areBytes (p .2) ∙ run-leaves-bytes dictionary kernel registers state right (h .bytes) k (legal-ready registers state h) budget le in
         ready-legal registers₁ state₁ bytes
         (rw (p .1, p .2) (run-leaves-ready dictionary kernel registers state right (h .bytes) k (legal-ready registers state h) budget le))
 
@@ -125,12 +150,21 @@ module _ (dictionary kernel kernel′ : List ℕ) (right : areBytes kernel ≡ t
       let same : namedOutcome k (run k budget (stateOf registers state)) ≡ namedOutcome l (run l budget (stateOf registers′ state′)) =
       same-runs k l (h .sound) (h′ .sound) one (stateOf registers state) (stateOf registers′ state′) lands lands′
       (named-of k l registers state registers′ state′ s) budget in
+      let told = after-ran dictionary kernel right k taken registers state (s .legal) budget le r registers₁ state₁ p in
+      let told′ = after-ran dictionary kernel′ right′ l taken′ registers′ state′ (s .legal′) budget le q registers₂ state₂ p′ in
+      let number : numberIn r ≡ numberIn q = told .0 ∙ ap (λ (o : Outcome). o .verdict) same ∙ sym (told′ .0) in
       record {
-        sameAnswer =
-            after-answer dictionary kernel right k taken registers state (s .legal) budget le r registers₁ state₁ p
-            ∙ ap (λ (o : Outcome). asNumber (verdict (o .verdict) (o .steps))) same
-            ∙ sym (after-answer dictionary kernel′ right′ l taken′ registers′ state′ (s .legal′) budget le q registers₂ state₂ p′);
+        sameNumber = number;
+        sameCount = told .1 ∙ ap (λ (o : Outcome). o .steps) same ∙ sym (told′ .1);
         answered = after-verdict dictionary kernel right k taken registers state (s .legal) budget le r registers₁ state₁ p;
+        sameAnswer = λ other.
+            after-other dictionary kernel right k taken registers state (s .legal) budget le r registers₁ state₁ p other
+            ∙ ap (λ (o : Outcome). asNumber (verdict (o .verdict) (o .steps))) same
+            ∙ sym (after-other dictionary kernel′ right′ l taken′ registers′ state′ (s .legal′) budget le q registers₂ state₂ p′ (λ e. other (number ∙ e)));
+        names = λ e. (
+          after-names dictionary kernel right k taken registers state (s .legal) budget le r registers₁ state₁ p e,
+          after-names dictionary kernel′ right′ l taken′ registers′ state′ (s .legal′) budget le q registers₂ state₂ p′ (sym number ∙ e),
+        );
         left =
             same-of k l registers₁ state₁ registers₂ state₂
             (after-legal dictionary kernel right k taken registers state (s .legal) budget le r registers₁ state₁ p)

@@ -1,6 +1,6 @@
 -- The promises of 02 §14 of the exported calls: when a kernel must finish, when it never does, and what a step may change. Goes on from Promises, in its words; like it,
 -- it states and proves nothing. `finishing` of FinishingHolds is the theorem.
-use mathlib.Core.Bool.{Bool, true, false}
+use mathlib.Core.Bool.{Bool, true}
 use mathlib.Core.List.{List, map}
 use mathlib.Core.Logic.{_⊎_}
 use mathlib.Core.Option.{some}
@@ -10,18 +10,19 @@ use lib.ListN.{length, getD}
 use lib.Pow.{areBytes}
 use Rattle.paper.specs.Limits.{budgetLimit}
 use Rattle.paper.specs.Bits.{bit}
-use Rattle.paper.specs.Word.{weCtrl, flagChoice, isNull}
+use Rattle.paper.specs.Word.{weCtrl, flagChoice}
 use Rattle.paper.specs.Operation.{Plain, plain, operation}
-use Rattle.paper.specs.Region.{dstSize, dstElement}
+use Rattle.paper.specs.Region.{dstSize}
 use Rattle.paper.specs.Store.{Store}
 use Rattle.paper.specs.Enable.{channelOf, digit}
 use Rattle.paper.specs.Kernel.{Instr, longAndShort, good}
 use Rattle.paper.specs.Jump.{fetch}
 use Rattle.paper.specs.Forward.{forward}
 use Rattle.paper.specs.Machine.{Channel, off, awake, waiting, wake, isAwake}
-use Rattle.paper.specs.State.{half, channelsIn}
+use Rattle.paper.specs.State.{half, channelsIn, addressesIn}
 use Rattle.paper.specs.Calls.{accepted}
-use Rattle.laws.specs.Changes.{Writes, Sets}
+use Rattle.laws.specs.AddressWrites.{Moves}
+use Rattle.laws.specs.Changes.{Writes, Sets, writtenFrom, storesBytes}
 use Rattle.contracts.specs.Contracts.{numberIn, offsetIn, countIn, CheckPromise, ForwardPromise, PackPromise, UnpackPromise, StepPromise, RunPromise}
 use Rattle.promises.specs.Promises.{result, Steps, Begun, Legal}
 
@@ -37,11 +38,11 @@ pub record Ahead (dictionary kernel : List ℕ) (count : ℕ) : Type 0 where
   pub checked : CheckPromise dictionary kernel check
   pub counts : countIn check ≡ count
 
--- From these registers and state, each run with a budget from `count` to 1,000,000 ends: it answers 20, within `count` steps.
+-- From these registers and state, each run with a budget from `count` to 1,000,000 ends: it answers 20, or 22 at a broken address, within `count` steps.
 abbrev pub Ends : List ℕ → List ℕ → ℕ → List ℕ → List ℕ → Type 0
 Ends dictionary kernel count registers state =
     (budget : ℕ) → count ≤ budget → budget ≤ budgetLimit → (r : ℕ) (registers′ state′ : List ℕ)
-    → RunPromise dictionary kernel budget registers state r registers′ state′ → (numberIn r ≡ 20) × (countIn r ≤ count)
+    → RunPromise dictionary kernel budget registers state r registers′ state′ → ((numberIn r ≡ 20) ⊎ (numberIn r ≡ 22)) × (countIn r ≤ count)
 
 -- So it does from every start: whatever the registers, the flags and the mask.
 abbrev pub EndsFromStart : List ℕ → List ℕ → ℕ → Type 0
@@ -57,9 +58,9 @@ Up state m = let c : Channel = getD (channelsIn state 0 16) m off in (c ≡ awak
 abbrev pub wokenIn : List ℕ → List Bool
 wokenIn state = map isAwake (map (wake (half state 4)) (channelsIn state 0 16))
 
--- Registers and flags as they are lent.
+-- Registers, flags and a0 as they are lent.
 abbrev pub storeIn : List ℕ → List ℕ → Store
-storeIn registers state = record { registers = registers; flag0 = half state 0; flag1 = half state 2 }
+storeIn registers state = record { registers = registers; flag0 = half state 0; flag1 = half state 2; addresses = addressesIn state }
 
 -- What a step that answered 0 changed. It made instruction `instr`, which starts at the state's place.
 pub record Stepped (dictionary kernel registers state registers′ state′ : List ℕ) : Type 0 where
@@ -67,14 +68,16 @@ pub record Stepped (dictionary kernel registers state registers′ state′ : Li
   pub taken : accepted longAndShort dictionary kernel ≡ good instrs
   pub instr : Instr
   pub here : fetch instrs (half state 4) ≡ some instr
-  -- Each register byte that changed lies in the destination element of an enabled channel (Writes and Sets: Changes of `laws`).
+  -- Each register byte that changed lies in the destination element of an enabled channel, by address in the one that a0 names (Writes, Sets, storesBytes and
+  -- writtenFrom: Changes of `laws`).
   pub bytes : (b : ℕ) → (getD registers′ b 0 ≡ getD registers b 0 → ⊥) → Writes (instr .word) (wokenIn state) (storeIn registers state) b
   -- With WECtrl 0 that channel was awake or waited at this place,
   pub masked : weCtrl (instr .word) ≡ 0 → (b : ℕ) (differs : getD registers′ b 0 ≡ getD registers b 0 → ⊥) → Up state (channelOf (instr .word) (bytes b differs .channel))
-  -- and a channel that is off, or waits elsewhere, writes nothing: each byte of its destination element stays.
-  pub idle : weCtrl (instr .word) ≡ 0 → (p : Plain) → operation (instr .word) ≡ plain p → isNull (instr .word) ≡ false
+  -- and a channel that is off, or waits elsewhere, writes nothing, by address neither: each byte of its destination element stays.
+  pub idle : weCtrl (instr .word) ≡ 0 → (p : Plain) → operation (instr .word) ≡ plain p → storesBytes p (instr .word) (storeIn registers state) ≡ true
       → (n : ℕ) → (Up state (channelOf (instr .word) n) → ⊥)
-      → (b : ℕ) → dstElement (instr .word) n ≤ b → b < dstElement (instr .word) n + dstSize (instr .word) → getD registers′ b 0 ≡ getD registers b 0
+      → (b : ℕ) → writtenFrom p (instr .word) (storeIn registers state) n ≤ b → b < writtenFrom p (instr .word) (storeIn registers state) n + dstSize (instr .word)
+      → getD registers′ b 0 ≡ getD registers b 0
   -- There are as many register bytes.
   pub whole : length registers′ ≡ length registers
   -- Each bit of a flag that changed was set by a cmp that chooses the flag, and is one of its enabled channels'.
@@ -82,6 +85,11 @@ pub record Stepped (dictionary kernel registers state registers′ state′ : Li
       → (flagChoice (instr .word) ≡ 0) × Sets (instr .word) (wokenIn state) (storeIn registers state) m
   pub flag1 : (m : ℕ) → m < 16 → (bit (half state′ 2) m ≡ bit (half state 2) m → ⊥)
       → (flagChoice (instr .word) ≡ 0 → ⊥) × Sets (instr .word) (wokenIn state) (storeIn registers state) m
+  -- Each byte of a0 that changed lies in the destination element of an enabled channel of a mov to a0 (Moves: AddressWrites of `laws`). So nothing else changes a0.
+  pub addresses : (b : ℕ) → (getD (addressesIn state′) b 0 ≡ getD (addressesIn state) b 0 → ⊥) → Moves (instr .word) (wokenIn state) (storeIn registers state) b
+  -- With WECtrl 0 that channel was awake or waited at this place.
+  pub addressesMasked : weCtrl (instr .word) ≡ 0 → (b : ℕ) (differs : getD (addressesIn state′) b 0 ≡ getD (addressesIn state) b 0 → ⊥)
+      → Up state (channelOf (instr .word) (addresses b differs .channel))
 
 -- ==== all of it
 
@@ -113,11 +121,11 @@ pub record Finishing : Type 0 where
   pub comesBack : (dictionary kernel registers state : List ℕ) → areBytes kernel ≡ true → areBytes state ≡ true
       → (budget : ℕ) → 0 < budget → budget ≤ budgetLimit → (r : ℕ) → RunPromise dictionary kernel budget registers state r registers state → numberIn r ≡ 21
       → (m : ℕ) → (registers′ : List ℕ) × (state′ : List ℕ) × Steps dictionary kernel m registers state registers′ state′
-  -- and no run answers 20.
+  -- and no run answers 20 or 22.
   pub neverEnds : (dictionary kernel registers state : List ℕ) → areBytes kernel ≡ true → areBytes state ≡ true
       → (budget : ℕ) → 0 < budget → budget ≤ budgetLimit → (r : ℕ) → RunPromise dictionary kernel budget registers state r registers state → numberIn r ≡ 21
       → (other : ℕ) → other ≤ budgetLimit → (q : ℕ) (registers′ state′ : List ℕ) → RunPromise dictionary kernel other registers state q registers′ state′
-      → numberIn q ≡ 20 → ⊥
+      → (numberIn q ≡ 20) ⊎ (numberIn q ≡ 22) → ⊥
   -- What a step that answers 0 may change; a step that answers anything else changes nothing (Promises, Refusals).
   pub changes : (dictionary kernel registers state : List ℕ) → areBytes kernel ≡ true → areBytes state ≡ true
       → (r : ℕ) (registers′ state′ : List ℕ) → StepPromise dictionary kernel registers state r registers′ state′ → numberIn r ≡ 0

@@ -1,43 +1,34 @@
--- The promises of Finishing hold: where every jump goes forward a run ends, one that comes back never does, and a step changes what it may. Assumes nothing.
+-- The promises of Finishing hold: where every jump goes forward a run ends, and one that comes back never does. (What a step changes is in ChangesHold.) Assumes nothing.
 use mathlib.Core.Bool.{Bool, true, false}
-use mathlib.Core.List.{List, map}
-use mathlib.Core.Option.{Option, none, some, Option·some-ne-none}
+use mathlib.Core.List.{List}
+use mathlib.Core.Logic.{_⊎_, inl, inr}
 use mathlib.Core.Path.{_≡_, refl, sym, ap, _∙_, subst}
 use Prim.Native.Nat.{ℕ, zero, suc, _-_, _<_, _≤_}
 use native.Mathlib.Omega.{arith}
-use lib.ListN.{length, getD, length-map}
+use lib.ListN.{length, length-map}
 use lib.Pow.{areBytes}
 use Rattle.paper.specs.Limits.{budgetLimit}
-use Rattle.paper.specs.Bits.{bit}
 use Rattle.paper.specs.Dictionary.{dictionaryOf}
 use Rattle.paper.specs.Shorten.{shorten}
-use Rattle.paper.specs.Word.{weCtrl}
-use Rattle.paper.specs.Operation.{Plain}
-use Rattle.paper.specs.Store.{Store}
-use Rattle.paper.specs.Enable.{channelOf, digit}
-use Rattle.paper.specs.Effect.{isOn, effect}
+use Rattle.paper.specs.Enable.{digit}
 use Rattle.paper.specs.Kernel.{Instr, longAndShort, longOnly, Parsed, bad, good}
-use Rattle.paper.specs.Jump.{fetch}
 use Rattle.paper.specs.Forward.{forward}
-use Rattle.paper.specs.Machine.{State, wake, isAwake, stopsOn, step}
-use Rattle.paper.specs.State.{half, channelsIn, stateOf}
+use Rattle.paper.specs.State.{stateOf}
 use Rattle.paper.specs.Calls.{verdict, asNumber, accepted, checkedAs, checkCall, forwardAs, forwardCall, numberOf, offsetOf, countOf}
 use Rattle.laws.specs.Names.{relaidBy, longForm}
 use Rattle.paper.specs.Program.{lineOf, program}
-use Rattle.laws.specs.Places.{found}
 use Rattle.laws.specs.Forward.{forward-same}
-use Rattle.laws.specs.Finish.{step-store, ends-within}
-use Rattle.laws.specs.Changes.{Writes, effect-writes, effect-length, effect-keeps, flag0-sets, flag1-sets, enabled-awake, found-awake, sane-at}
+use Rattle.laws.specs.Finish.{ends-within}
 use Rattle.laws.specs.Packing.{kernel-of, long-accepted, packed-accepted, packed-program, unpacked-accepted, unpacked-program}
 use Rattle.contracts.specs.Contracts.{numberIn, offsetIn, countIn, CheckPromise, ForwardPromise, PackPromise, UnpackPromise, StepPromise, RunPromise}
 use Rattle.contracts.specs.OneOutcomeHolds.{one-outcome}
 use Rattle.promises.specs.Promises.{result, Steps, nothing, onward, Legal}
-use Rattle.promises.specs.Finishing.{Ahead, Ends, EndsFromStart, Up, wokenIn, storeIn, Stepped, Finishing}
+use Rattle.promises.specs.Finishing.{Ahead, Ends, EndsFromStart, Finishing}
 use Rattle.promises.specs.OutcomesHold.{answers}
 use Rattle.promises.specs.PackingHolds.{Relaid, check-counts, pack-wrote, unpack-wrote, relaid-bytes}
-use Rattle.promises.specs.Stepping.{Goes, follows, lent-accepted, lent-sane, step-leaves}
 use Rattle.promises.specs.AlikeHolds.{after-ran, start-legal}
 use Rattle.promises.specs.RunningHolds.{run-was-steps}
+use Rattle.promises.specs.ChangesHold.{step-changes}
 
 -- ---- what forward says
 
@@ -103,7 +94,7 @@ module _ (dictionary kernel : List ℕ) (right : areBytes kernel ≡ true) (coun
         let laid = kernel-of longAndShort dictionary kernel right k taken .sound .laid in
         let told = after-ran dictionary kernel right k taken registers state legal budget high r registers′ state′ p in
         let e = ends-within k laid all-ahead budget (stateOf registers state) (omega (arith, count-is)) in
-        (told .0 ∙ e .0, omega (arith, told .1, e .1, count-is))
+        (elim (e .0) [ inl v ↦ inl (told .0 ∙ v) | inr v ↦ inr (told .0 ∙ v) ], omega (arith, told .1, e .1, count-is))
 
   -- From a start too.
   start-ends : EndsFromStart dictionary kernel count
@@ -238,89 +229,14 @@ module _ (dictionary kernel registers state : List ℕ) (right : areBytes kernel
   comes-back m = go-round dictionary kernel m (budget - 1) registers state (circle (budget - 1) (omega arith))
 
   never-ends : (other : ℕ) → other ≤ budgetLimit → (q : ℕ) (registers′ state′ : List ℕ)
-      → RunPromise dictionary kernel other registers state q registers′ state′ → numberIn q ≡ 20 → ⊥
-  never-ends other le′ q registers′ state′ p′ ended =
+      → RunPromise dictionary kernel other registers state q registers′ state′ → (numberIn q ≡ 20) ⊎ (numberIn q ≡ 22) → ⊥
+  never-ends other le′ q registers′ state′ p′ =
       let w = run-was-steps dictionary kernel registers state right small other le′ q registers′ state′ p′ in
       let a = another dictionary kernel (w .steps) (comes-back (suc (countIn q)) .2) in
-      let z = w .ended ended (a .answer) (a .registers₁) (a .state₁) (a .made) in
-      omega (arith, a .zero)
-
--- ---- what a step changes
-
-module _ (dictionary kernel registers state : List ℕ) (right : areBytes kernel ≡ true) (small : areBytes state ≡ true)
-    (r : ℕ) (registers′ state′ : List ℕ) (p : StepPromise dictionary kernel registers state r registers′ state′) (answered : numberIn r ≡ 0) where
-  abbrev before : State
-  before = stateOf registers state
-
-  -- Nothing that is lent is refused, and the state does not stand at the end.
-  goes : Goes dictionary kernel registers state
-  goes =
-      follows dictionary kernel registers state right small 0 (omega arith) .0
-      (sym (answers .step dictionary kernel registers state r registers′ state′ p .number) ∙ answered)
-
-  abbrev kernelOf : accepted longAndShort dictionary kernel ≡ good (goes .instrs)
-  kernelOf = lent-accepted dictionary kernel registers state right small (goes .instrs) (goes .ready)
-
-  -- What stands there is made.
-  module _ (i : Instr) (here : fetch (goes .instrs) (half state 4) ≡ some i) where
-    abbrev now : Store
-    now = storeIn registers state
-
-    -- The store afterwards is that of the instruction's effect.
-    after : storeIn registers′ state′ ≡ effect (i .word) (wokenIn state) now
-    unfolding stateOf
-    after =
-        let k = goes .instrs in
-        let laid = kernel-of longAndShort dictionary kernel right k kernelOf .sound .laid in
-        let left : stateOf registers′ state′ ≡ step k before =
-        (λ j. stateOf (p .1 j) (p .2 j)) ∙ step-leaves dictionary kernel registers state right small k (goes .ready) (goes .on) in
-        ap (λ (s : State). s .store) left
-        ∙ step-store k before i here
-        ∙ ap (λ (q : ℕ). effect (i .word) (map isAwake (map (wake q) (channelsIn state 0 16))) now) (found 0 k (half state 4) i laid here .starts)
-
-    -- A channel that is enabled with WECtrl 0 is up.
-    enabled-up : weCtrl (i .word) ≡ 0 → (q : Plain) (n : ℕ) → isOn q (i .word) (wokenIn state) now n ≡ true → Up state (channelOf (i .word) n)
-    enabled-up z q n on =
-        found-awake (half state 4) (channelsIn state 0 16) (channelOf (i .word) n)
-        (enabled-awake q (i .word) (wokenIn state) now (channelOf (i .word) n) z on)
-
-    writes : (b : ℕ) → (getD registers′ b 0 ≡ getD registers b 0 → ⊥) → Writes (i .word) (wokenIn state) now b
-    writes b differs = effect-writes (i .word) (wokenIn state) now b (λ e. differs (ap (λ (s : Store). getD (s .registers) b 0) after ∙ e))
-
-    -- A channel that is not up is not enabled.
-    down : weCtrl (i .word) ≡ 0 → (q : Plain) (n : ℕ) → (Up state (channelOf (i .word) n) → ⊥) → isOn q (i .word) (wokenIn state) now n ≡ false
-    down z q n asleep = go (isOn q (i .word) (wokenIn state) now n) refl
-      where
-        go : (t : Bool) → isOn q (i .word) (wokenIn state) now n ≡ t → t ≡ false
-        go true e = absurd (asleep (enabled-up z q n e))
-        go false e = refl
-
-    stepped : Stepped dictionary kernel registers state registers′ state′
-    stepped =
-        let k = goes .instrs in
-        let legal = sane-at k (half state 4) i (lent-sane dictionary kernel registers state right small k (goes .ready)) here .legal in
-        record {
-          instrs = k;
-          taken = kernelOf;
-          instr = i;
-          here = here;
-          bytes = writes;
-          masked = λ z b differs. enabled-up z (writes b differs .operator) (writes b differs .channel) (writes b differs .on);
-          idle = λ z q e stores n asleep b low high.
-              ap (λ (s : Store). getD (s .registers) b 0) after
-              ∙ effect-keeps (i .word) (wokenIn state) now (legal .passes) q e stores n (down z q n asleep) b low high;
-          whole = ap (λ (s : Store). length (s .registers)) after ∙ effect-length (i .word) (wokenIn state) now;
-          flag0 = λ m h differs. flag0-sets (i .word) (wokenIn state) now m h (λ e. differs (ap (λ (s : Store). bit (s .flag0) m) after ∙ e));
-          flag1 = λ m h differs. flag1-sets (i .word) (wokenIn state) now m h (λ e. differs (ap (λ (s : Store). bit (s .flag1) m) after ∙ e));
-        }
-
-  step-changes : Stepped dictionary kernel registers state registers′ state′
-  unfolding stateOf
-  step-changes = go (fetch (goes .instrs) (half state 4)) refl
-    where
-      go : (o : Option Instr) → fetch (goes .instrs) (half state 4) ≡ o → Stepped dictionary kernel registers state registers′ state′
-      go (some i) e = stepped i e
-      go none e = absurd (Option·some-ne-none 20 (sym (ap stopsOn e) ∙ goes .on))
+      λ s. elim s [
+        | inl e ↦ (let z = w .ended e (a .answer) (a .registers₁) (a .state₁) (a .made) in omega (arith, a .zero))
+        | inr e ↦ (let z = w .astray e (a .answer) (a .registers₁) (a .state₁) (a .made) .0 in omega (arith, a .zero))
+      ]
 
 -- ---- all of it
 

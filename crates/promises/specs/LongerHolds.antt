@@ -5,7 +5,7 @@ use native.Mathlib.Omega.{arith}
 use Rattle.paper.specs.Calls.{asNumber, Written, Changed}
 use Rattle.contracts.specs.Contracts.{Wrote, Left}
 use Rattle.laws.specs.Longer.{bytesBefore, instructionsBefore, check-same, pack-same, unpack-same, decode-same, step-same, run-same}
-use Rattle.promises.specs.Promises.{StillAnswered}
+use Rattle.promises.specs.Before.{StillAnswered}
 
 pub still-answered : StillAnswered
 still-answered =

@@ -91,9 +91,9 @@ refusals =
           let t = answers .step dictionary kernel registers state r registers′ state′ p in
           let u = step-unchanged dictionary kernel registers state (λ e. n (t .number ∙ e)) in
           (p .1 ∙ u .sameRegisters, p .2 ∙ u .sameState);
-      run = λ dictionary kernel budget registers state r registers′ state′ p n m.
+      run = λ dictionary kernel budget registers state r registers′ state′ p n m a.
           let t = answers .run dictionary kernel budget registers state r registers′ state′ p in
-          let u = run-unchanged dictionary kernel budget registers state (λ e. n (t .number ∙ e)) (λ e. m (t .number ∙ e)) in
+          let u = run-unchanged dictionary kernel budget registers state (λ e. n (t .number ∙ e)) (λ e. m (t .number ∙ e)) (λ e. a (t .number ∙ e)) in
           (p .1 ∙ u .sameRegisters, p .2 ∙ u .sameState);
       logAppend = λ log count v steps place awake r log′.
           kept logAppendNumbers (logAppendCall log count (entry v steps place awake)) log r log′ (log-append-fine log count (entry v steps place awake))

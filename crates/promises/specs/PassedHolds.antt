@@ -16,7 +16,10 @@ use Rattle.laws.specs.VotesBefore.{refusalBefore, stepAtBefore}
 use Rattle.laws.specs.Votes.{votes-add}
 use Rattle.laws.specs.LeavingBefore.{formerJudge, formerStep}
 use Rattle.laws.specs.Leaving.{leaving-stays, leaving-packs}
-use Rattle.promises.specs.Promises.{AsBy, PassedBefore}
+use Rattle.laws.specs.AddressesBefore.{directRefusal, directStep, directJudge}
+use Rattle.laws.specs.Addresses.{addresses-add}
+use Rattle.laws.specs.AddressesStay.{start-stays, step-stays, run-stays}
+use Rattle.promises.specs.Before.{AsBy, AsDirect, PassedBefore}
 
 -- No refusal is a verdict.
 not-verdict {ℓ} : {A : Type ℓ} (number offset v n : ℕ) → refusal number offset ≡ verdict v n → A
@@ -61,6 +64,21 @@ module _ (rule : ℕ → ℕ) (act : ℕ → ℕ → Ways → State → State) (
       let g = relaid-good (shorten (dictionaryOf dictionary)) out (acceptedBy (judgeAtBy rule) longOnly dictionary kernel) n e in
       subst (λ (c : Written). Wrote c r out′) (pack-stays rule act adds dictionary kernel (g .0) (g .1) out) p
 
+-- Without a0 and addresses.
+direct-kept : (dictionary kernel : List ℕ) (n : ℕ) → checkCallBy directJudge dictionary kernel ≡ verdict 0 n → AsDirect dictionary kernel
+unfolding checkCallBy
+direct-kept dictionary kernel n e =
+    let g = checked-good (acceptedBy directJudge longAndShort dictionary kernel) n e in
+    let s = calls-kept directJudge directStep dictionary kernel (stays directRefusal directStep addresses-add dictionary kernel (g .0) (g .1)) in
+    record {
+      check = s .check;
+      unpack = s .unpack;
+      step = λ registers state long r registers′ state′ p.
+          subst (λ (c : Changed). Left c r registers′ state′) (step-stays dictionary kernel (g .0) (g .1) registers state long) p;
+      run = λ budget registers state long r registers′ state′ p.
+          subst (λ (c : Changed). Left c r registers′ state′) (run-stays dictionary kernel (g .0) (g .1) registers state long budget) p;
+    }
+
 pub passed-before : PassedBefore
 passed-before =
     record {
@@ -69,4 +87,7 @@ passed-before =
       leaving = λ dictionary kernel others. calls-kept formerJudge formerStep dictionary kernel (leaving-stays dictionary kernel others);
       leavingPacked = λ dictionary kernel out others r out′ p.
           subst (λ (c : Written). Wrote c r out′) (leaving-packs dictionary kernel out others) p;
+      addresses = direct-kept;
+      addressesPacked = pack-kept directRefusal directStep addresses-add;
+      addressesStart = λ mask flag0 flag1 state long r state′ p. subst (λ (c : Written). Wrote c r state′) (start-stays mask flag0 flag1 state long) p;
     }

@@ -1,7 +1,7 @@
 -- The promises of the exported calls, for all that can be lent to them. Read this file first, and after it what it names: the contracts (Contracts and OneOutcome
--- of the crate `spokeshaver`) and the lists of numbers (Numbers of `answers`). It states them and proves none: `demand-1` of OutcomesHold, `demand-2` of
--- PackingHolds, `demand-3` of RunningHolds, `pairs` of PairsHold, `passed-before` of PassedHolds, `still-answered` of LongerHolds and `logs` of LogsHold are the theorems. Finishing goes on from here, with when a kernel
--- must finish and what a step may change, and Listings with listings. A hypothesis such as `PackPromise dictionary kernel out r out′` says: spokeshaver_pack, lent
+-- of the crate `contracts`) and the lists of numbers (Numbers of `answers`). It states them and proves none: `demand-1` of OutcomesHold, `demand-2` of
+-- PackingHolds, `demand-3` of RunningHolds, `pairs` of PairsHold and `logs` of LogsHold are the theorems. Finishing goes on from here, with when a kernel must finish
+-- and what a step may change, Listings with listings, and Before with what passed before a request. A hypothesis such as `PackPromise dictionary kernel out r out′` says: spokeshaver_pack, lent
 -- these, answered r and left out′ in its output; that is the contract of the call, proved with its code. `numberIn`, `offsetIn` and `countIn` take an answer
 -- apart as the header's macros do. Demands 2 and 3 ask besides that what is lent is bytes (`areBytes`) and 16-bit numbers, as the types in C say.
 use mathlib.Core.Bool.{Bool, true}
@@ -16,24 +16,18 @@ use Rattle.paper.specs.Bits.{numberAt}
 use Rattle.paper.specs.Dictionary.{dictionaryOf}
 use Rattle.paper.specs.Expand.{expand}
 use Rattle.paper.specs.Shorten.{Shortens, Least}
-use Rattle.paper.specs.Kernel.{Instr, Forms, longAndShort, longOnly, good, bad}
-use Rattle.paper.specs.Machine.{Ways, State}
-use Rattle.paper.specs.State.{half, channelsIn, allThree, stateLegal}
+use Rattle.paper.specs.Kernel.{Instr, longAndShort, longOnly, good, bad}
+use Rattle.paper.specs.State.{half, addressesIn, channelsIn, allThree, stateLegal}
 use Rattle.paper.specs.Packing.{index}
-use Rattle.paper.specs.Calls.{Answer, verdict, refusal, asNumber, accepted, checkCall, forwardCall, packCall, unpackCall, pairCall, loadPart, shortenCall, expandCall, decodeCall, decodePart, startCall, stepCall, runCall, numberOf, offsetOf, countOf}
+use Rattle.paper.specs.Calls.{Answer, accepted, checkCall, forwardCall, packCall, unpackCall, pairCall, loadPart, shortenCall, expandCall, decodeCall, decodePart, startCall, stepCall, runCall, numberOf, offsetOf, countOf}
 use Rattle.paper.specs.Log.{Entry, entry, entryLegal, recordText, logText, allLegal, Beginning, logSized, logReadCall, logRunsCall, logPart, logAppendCall, logRunCall, awakeAmong, awakeCount, entryOf}
 use Rattle.paper.specs.Listing.{listCall, readCall}
 use Rattle.paper.specs.Program.{program}
 use Rattle.laws.specs.Names.{renameC}
 use Rattle.laws.specs.Items.{Item, allBytes, instrsFrom}
 use Rattle.laws.specs.Packing.{AllShortest}
-use Rattle.laws.specs.Otherwise.{judgeAtBy, Judgement, checkCallBy, packCallBy, unpackCallBy, stepCallBy, runCallBy}
-use Rattle.laws.specs.VotesBefore.{refusalBefore, stepAtBefore}
-use Rattle.laws.specs.LeavingBefore.{formerJudge, formerStep}
-use Rattle.laws.specs.Leaving.{Leaves, wordAt}
-use Rattle.laws.specs.Longer.{bytesBefore, instructionsBefore, Settled, sizedWithin, acceptedWithin, checkWithin, packWithin, unpackWithin, decodeWithin, stepWithin, runWithin}
-use Rattle.contracts.specs.Contracts.{numberIn, offsetIn, countIn, Wrote, Left, CheckPromise, ForwardPromise, PackPromise, UnpackPromise, PairPromise, ShortenPromise, ExpandPromise}
-use Rattle.contracts.specs.Contracts.{DecodePromise, StartPromise, StepPromise, RunPromise, LogAppendPromise, LogReadPromise, LogRunsPromise, LogRunPromise, ListPromise, ReadPromise}
+use Rattle.contracts.specs.Contracts.{numberIn, offsetIn, countIn, CheckPromise, ForwardPromise, PackPromise, UnpackPromise, PairPromise, ShortenPromise, ExpandPromise, DecodePromise, StartPromise, StepPromise, RunPromise}
+use Rattle.contracts.specs.Contracts.{LogAppendPromise, LogReadPromise, LogRunsPromise, LogRunPromise, ListPromise, ReadPromise}
 use Rattle.contracts.specs.OneOutcome.{OneOutcome}
 use Rattle.answers.specs.Numbers.{checkNumbers, forwardNumbers, packNumbers, unpackNumbers, pairNumbers, shortenNumbers, expandNumbers, decodeNumbers, startNumbers, stepNumbers, runNumbers, logReadNumbers, logAppendNumbers, listNumbers, readNumbers}
 
@@ -85,7 +79,8 @@ pub record Kept (out : List ℕ) (r : ℕ) (out′ : List ℕ) : Type 0 where
   pub rest : drop (countIn r) out′ ≡ drop (countIn r) out
   pub same : length out′ ≡ length out
 
--- A refusal changes nothing. A step changes nothing at the end (20) either; a run's verdicts are 20 and 21.
+-- A refusal changes nothing. A step changes nothing at the end (20) and at a broken address (22) either, not even who is awake; a run's verdicts are 20, 21 and 22,
+-- and a run keeps the steps that it made.
 pub record Refusals : Type 0 where
   pub pack : (dictionary kernel out : List ℕ) (r : ℕ) (out′ : List ℕ) → PackPromise dictionary kernel out r out′ → Kept out r out′
   pub unpack : (dictionary kernel out : List ℕ) (r : ℕ) (out′ : List ℕ) → UnpackPromise dictionary kernel out r out′ → Kept out r out′
@@ -97,7 +92,7 @@ pub record Refusals : Type 0 where
       → StepPromise dictionary kernel registers state r registers′ state′ → (numberIn r ≡ 0 → ⊥) → (registers′ ≡ registers) × (state′ ≡ state)
   pub run : (dictionary kernel : List ℕ) (budget : ℕ) (registers state : List ℕ) (r : ℕ) (registers′ state′ : List ℕ)
       → RunPromise dictionary kernel budget registers state r registers′ state′ → (numberIn r ≡ 20 → ⊥) → (numberIn r ≡ 21 → ⊥)
-      → (registers′ ≡ registers) × (state′ ≡ state)
+      → (numberIn r ≡ 22 → ⊥) → (registers′ ≡ registers) × (state′ ≡ state)
   pub logAppend : (log : List ℕ) (count v steps place awake r : ℕ) (log′ : List ℕ) → LogAppendPromise log count v steps place awake r log′ → Kept log r log′
   pub logRun : (log : List ℕ) (count answer : ℕ) (state : List ℕ) (r : ℕ) (log′ : List ℕ) → LogRunPromise log count answer state r log′ → Kept log r log′
   pub list : (dictionary kernel out : List ℕ) (r : ℕ) (out′ : List ℕ) → ListPromise dictionary kernel out r out′ → Kept out r out′
@@ -200,14 +195,24 @@ pub data Steps (dictionary kernel : List ℕ) : ℕ → List ℕ → List ℕ �
       → StepPromise dictionary kernel registers state r registers₁ state₁ → numberIn r ≡ 0
       → Steps dictionary kernel n registers₁ state₁ registers′ state′ → Steps dictionary kernel (suc n) registers state registers′ state′
 
--- What an answered run was: as many steps as it counts, each made by spokeshaver_step and answered with 0, so none of them at the end, and no more than
--- the budget; where the run says 20 a further step says 20, the end; where it says 21 the whole budget is spent, and a further step would be made.
+-- The numbers with which a run that is not refused answers.
+abbrev pub RunVerdict : ℕ → Type 0
+RunVerdict number = (number ≡ 20) ⊎ ((number ≡ 21) ⊎ (number ≡ 22))
+
+-- What an answered run was: as many steps as it counts, each made by spokeshaver_step and answered with 0, so none of them at the end or at a broken address, and no
+-- more than the budget. Where the run says 20 a further step says 20, the end. Where it says 21 the whole budget is spent, and a further step would be made or would
+-- say 22. Where it says 22 budget is left, a further step says 22 at the same byte, and that byte is where the instruction at the state's place starts.
 pub record WasSteps (dictionary kernel : List ℕ) (budget : ℕ) (registers state : List ℕ) (r : ℕ) (registers′ state′ : List ℕ) : Type 0 where
   pub steps : Steps dictionary kernel (countIn r) registers state registers′ state′
   pub within : countIn r ≤ budget
   pub ended : numberIn r ≡ 20 → (a : ℕ) (registers″ state″ : List ℕ) → StepPromise dictionary kernel registers′ state′ a registers″ state″ → numberIn a ≡ 20
   pub spent : numberIn r ≡ 21 → countIn r ≡ budget
-  pub short : numberIn r ≡ 21 → (a : ℕ) (registers″ state″ : List ℕ) → StepPromise dictionary kernel registers′ state′ a registers″ state″ → numberIn a ≡ 0
+  pub short : numberIn r ≡ 21 → (a : ℕ) (registers″ state″ : List ℕ) → StepPromise dictionary kernel registers′ state′ a registers″ state″
+      → (numberIn a ≡ 0) ⊎ (numberIn a ≡ 22)
+  pub left : numberIn r ≡ 22 → countIn r < budget
+  pub astray : numberIn r ≡ 22 → (a : ℕ) (registers″ state″ : List ℕ) → StepPromise dictionary kernel registers′ state′ a registers″ state″
+      → (numberIn a ≡ 22) × (offsetIn a ≡ offsetIn r)
+  pub names : numberIn r ≡ 22 → offsetIn r ≡ 8 * half state′ 4
 
 -- What start left, with any mask and flags, in whatever it was lent; and registers of the right size.
 pub record Begun (state registers : List ℕ) : Type 0 where
@@ -230,7 +235,7 @@ pub record Legal (k : List Instr) (registers state : List ℕ) : Type 0 where
   pub bytes : areBytes state ≡ true
   pub legal : stateLegal k registers state ≡ true
 
--- Such registers and state of a kernel with the instructions k, and of one with the instructions l, name the same: the registers and the flags are equal; the
+-- Such registers and state of a kernel with the instructions k, and of one with the instructions l, name the same: the registers, the flags and a0 are equal; the
 -- same channels are awake and wait; and the place, and each channel's waiting place, name the same instruction by its number, the end being one past the last.
 pub record Same (k l : List Instr) (registers state registers′ state′ : List ℕ) : Type 0 where
   pub legal : Legal k registers state
@@ -238,13 +243,18 @@ pub record Same (k l : List Instr) (registers state registers′ state′ : List
   pub sameRegisters : registers ≡ registers′
   pub sameFlag0 : half state 0 ≡ half state′ 0
   pub sameFlag1 : half state 2 ≡ half state′ 2
+  pub sameAddresses : addressesIn state ≡ addressesIn state′
   pub samePlace : index k (half state 4) ≡ index l (half state′ 4)
   pub sameChannels : map (renameC (index k)) (channelsIn state 0 16) ≡ map (renameC (index l)) (channelsIn state′ 0 16)
 
--- Two runs were alike: the same answer, that is verdict and steps, and it is 20 or 21, no refusal; and what they left names the same.
+-- Two runs were alike: the same verdict, 20, 21 or 22 and no refusal, after the same number of steps; and what they left names the same. Where the verdict is not 22 the
+-- answers are equal. Where it is, each names the byte at which the instruction at its own place starts: by `left` that is the same instruction of both kernels.
 pub record RanAlike (k l : List Instr) (r : ℕ) (registers state : List ℕ) (r′ : ℕ) (registers′ state′ : List ℕ) : Type 0 where
-  pub sameAnswer : r ≡ r′
-  pub answered : (numberIn r ≡ 20) ⊎ (numberIn r ≡ 21)
+  pub sameNumber : numberIn r ≡ numberIn r′
+  pub sameCount : countIn r ≡ countIn r′
+  pub answered : RunVerdict (numberIn r)
+  pub sameAnswer : (numberIn r ≡ 22 → ⊥) → r ≡ r′
+  pub names : numberIn r ≡ 22 → (offsetIn r ≡ 8 * half state 4) × (offsetIn r′ ≡ 8 * half state′ 4)
   pub left : Same k l registers state registers′ state′
 
 -- Two kernels run alike. The bench takes them for the instructions k and l. From registers and states that name the same, runs with the same budget, up to
@@ -274,16 +284,18 @@ pub record Demand3 : Type 0 where
       → (a : ℕ) (registers₁ state₁ : List ℕ) → StepPromise dictionary kernel registers state a registers₁ state₁ → numberIn a ≡ 0
       → (n : ℕ) → suc n ≤ budgetLimit → (b : ℕ) (registers₂ state₂ : List ℕ) → RunPromise dictionary kernel n registers₁ state₁ b registers₂ state₂
       → (c : ℕ) (registers₃ state₃ : List ℕ) → RunPromise dictionary kernel (suc n) registers state c registers₃ state₃
-      → (numberIn c ≡ numberIn b) × (countIn c ≡ suc (countIn b)) × (registers₃ ≡ registers₂) × (state₃ ≡ state₂)
-  -- Where a step answers anything else, 20 at the end or a refusal, a run with any budget up to 1,000,000 answers the same and changes nothing.
+      → (numberIn c ≡ numberIn b) × (offsetIn c ≡ offsetIn b) × (countIn c ≡ suc (countIn b)) × (registers₃ ≡ registers₂) × (state₃ ≡ state₂)
+  -- Where a step answers anything else, 20 at the end, 22 at a broken address or a refusal, a run with any budget up to 1,000,000 answers the same and changes nothing;
+  -- but at a broken address a budget of 0 is spent, which is 21 (wasSteps).
   pub noMore : (dictionary kernel registers state : List ℕ) → areBytes kernel ≡ true → areBytes state ≡ true
       → (a : ℕ) (registers₁ state₁ : List ℕ) → StepPromise dictionary kernel registers state a registers₁ state₁ → (numberIn a ≡ 0 → ⊥)
-      → (budget : ℕ) → budget ≤ budgetLimit → (r : ℕ) (registers′ state′ : List ℕ) → RunPromise dictionary kernel budget registers state r registers′ state′
+      → (budget : ℕ) → budget ≤ budgetLimit → (numberIn a ≡ 22 → 0 < budget)
+      → (r : ℕ) (registers′ state′ : List ℕ) → RunPromise dictionary kernel budget registers state r registers′ state′
       → (r ≡ a) × (registers′ ≡ registers) × (state′ ≡ state)
-  -- What check accepts, runs: from a start, with any budget up to 1,000,000, the answer is 20 or 21, no refusal.
+  -- What check accepts, runs: from a start, with any budget up to 1,000,000, the answer is 20, 21 or 22, no refusal of the kernel or of what is lent.
   pub runs : (state registers : List ℕ) → Begun state registers → (dictionary kernel : List ℕ) → areBytes kernel ≡ true
       → (c : ℕ) → CheckPromise dictionary kernel c → numberIn c ≡ 0 → (budget : ℕ) → budget ≤ budgetLimit
-      → (r : ℕ) (registers′ state′ : List ℕ) → RunPromise dictionary kernel budget registers state r registers′ state′ → (numberIn r ≡ 20) ⊎ (numberIn r ≡ 21)
+      → (r : ℕ) (registers′ state′ : List ℕ) → RunPromise dictionary kernel budget registers state r registers′ state′ → RunVerdict (numberIn r)
   -- A kernel that pack answered with 0, and the bytes that it wrote, run alike.
   pub alike : (dictionary kernel out : List ℕ) → areBytes kernel ≡ true → (p : ℕ) (out′ : List ℕ) → PackPromise dictionary kernel out p out′
       → numberIn p ≡ 0 → Alike dictionary kernel (result p out′)
@@ -317,61 +329,6 @@ pub record Pairs : Type 0 where
       → Alike dictionary long sent
   -- `loadPart` is what is handed back inside Rattle (`load` of the crate `pair`).
   pub loads : (dictionary long sent : List ℕ) (r : ℕ) → PairPromise dictionary long sent r → Loads dictionary long sent r (loadPart dictionary long sent)
-
--- ==== kernels that passed before
-
--- check, unpack, step and run of a kernel answer, and leave, what they do by other rules for one instruction: `judge` in the place of refusals 3 to 11, `act` in
--- the place of a step (Otherwise of `laws`).
-pub record AsBy (judge : Judgement) (act : ℕ → ℕ → Ways → State → State) (dictionary kernel : List ℕ) : Type 0 where
-  pub check : (r : ℕ) → CheckPromise dictionary kernel r → r ≡ asNumber (checkCallBy judge dictionary kernel)
-  pub unpack : (out : List ℕ) (r : ℕ) (out′ : List ℕ) → UnpackPromise dictionary kernel out r out′ → Wrote (unpackCallBy judge dictionary kernel out) r out′
-  pub step : (registers state : List ℕ) (r : ℕ) (registers′ state′ : List ℕ) → StepPromise dictionary kernel registers state r registers′ state′
-      → Left (stepCallBy judge act dictionary kernel registers state) r registers′ state′
-  pub run : (budget : ℕ) (registers state : List ℕ) (r : ℕ) (registers′ state′ : List ℕ)
-      → RunPromise dictionary kernel budget registers state r registers′ state′
-      → Left (runCallBy judge act dictionary kernel budget registers state) r registers′ state′
-
--- 02 §2 and §9 only add. `refusalBefore` and `stepAtBefore` are the rules before groups of channels could vote (VotesBefore of `laws`), `formerJudge` and
--- `formerStep` those before break and cont were listed (LeavingBefore of `laws`).
-pub record PassedBefore : Type 0 where
-  -- A kernel that check accepted without votes is accepted, and is checked, unpacked, stepped and run as it was.
-  pub votes : (dictionary kernel : List ℕ) (n : ℕ) → checkCallBy (judgeAtBy refusalBefore) dictionary kernel ≡ verdict 0 n
-      → AsBy (judgeAtBy refusalBefore) stepAtBefore dictionary kernel
-  -- One that pack accepted is packed to the same bytes.
-  pub votesPacked : (dictionary kernel out : List ℕ) (n : ℕ) → packCallBy (judgeAtBy refusalBefore) dictionary kernel out .answer ≡ verdict 0 n
-      → (r : ℕ) (out′ : List ℕ) → PackPromise dictionary kernel out r out′ → Wrote (packCallBy (judgeAtBy refusalBefore) dictionary kernel out) r out′
-  -- Without break and cont: whatever check answered, unless it was 4 at an instruction with one of their opcodes, it answers now, and the kernel is unpacked,
-  -- stepped and run, or refused, as it was.
-  pub leaving : (dictionary kernel : List ℕ) → ((at : ℕ) → checkCallBy formerJudge dictionary kernel ≡ refusal 4 at → Leaves (wordAt kernel at) → ⊥)
-      → AsBy formerJudge formerStep dictionary kernel
-  -- So it is with pack.
-  pub leavingPacked : (dictionary kernel out : List ℕ)
-      → ((at : ℕ) → packCallBy formerJudge dictionary kernel out .answer ≡ refusal 4 at → Leaves (wordAt kernel at) → ⊥)
-      → (r : ℕ) (out′ : List ℕ) → PackPromise dictionary kernel out r out′ → Wrote (packCallBy formerJudge dictionary kernel out) r out′
-
--- ==== longer kernels: what passed under lower limits is answered as it was
-
--- With at most 16,384 bytes and 1,024 instructions, as the limits were before they were raised, the kernel is accepted, or refused as anything but 1 and 17.
-abbrev pub SettledBefore : Forms → List ℕ → List ℕ → Type 0
-SettledBefore forms dictionary kernel = Settled (acceptedWithin bytesBefore instructionsBefore forms dictionary kernel)
-
--- Each call's outcome on such a kernel is what it was; decode asks for its size only. `checkWithin` and its like are the paper's calls with 1 and 17 at given limits
--- (Longer of `laws`).
-pub record StillAnswered : Type 0 where
-  pub check : (dictionary kernel : List ℕ) → SettledBefore longAndShort dictionary kernel → (r : ℕ) → CheckPromise dictionary kernel r
-      → r ≡ asNumber (checkWithin bytesBefore instructionsBefore dictionary kernel)
-  pub pack : (dictionary kernel out : List ℕ) → SettledBefore longOnly dictionary kernel → (r : ℕ) (out′ : List ℕ) → PackPromise dictionary kernel out r out′
-      → Wrote (packWithin bytesBefore instructionsBefore dictionary kernel out) r out′
-  pub unpack : (dictionary kernel out : List ℕ) → SettledBefore longAndShort dictionary kernel → (r : ℕ) (out′ : List ℕ)
-      → UnpackPromise dictionary kernel out r out′ → Wrote (unpackWithin bytesBefore instructionsBefore dictionary kernel out) r out′
-  pub decode : (dictionary kernel : List ℕ) (place : ℕ) → sizedWithin bytesBefore dictionary kernel ≡ true → (r : ℕ) → DecodePromise dictionary kernel place r
-      → r ≡ asNumber (decodeWithin bytesBefore instructionsBefore dictionary kernel place)
-  pub step : (dictionary kernel registers state : List ℕ) → SettledBefore longAndShort dictionary kernel → (r : ℕ) (registers′ state′ : List ℕ)
-      → StepPromise dictionary kernel registers state r registers′ state′
-      → Left (stepWithin bytesBefore instructionsBefore dictionary kernel registers state) r registers′ state′
-  pub run : (dictionary kernel : List ℕ) (budget : ℕ) (registers state : List ℕ) → SettledBefore longAndShort dictionary kernel
-      → (r : ℕ) (registers′ state′ : List ℕ) → RunPromise dictionary kernel budget registers state r registers′ state′
-      → Left (runWithin bytesBefore instructionsBefore dictionary kernel budget registers state) r registers′ state′
 
 -- ==== logs (02 §12): power may go after any byte
 

@@ -15,7 +15,7 @@ use Rattle.paper.specs.Kernel.{Instr, longAndShort, longOnly, Judged, refused, 
 use Rattle.paper.specs.Machine.{start}
 use Rattle.paper.specs.State.{stateBytes}
 use Rattle.paper.specs.Packing.{Form, relay}
-use Rattle.paper.specs.Calls.{refusal, verdict, Written, kept, deliver, accepted, checkedAs, checkCall, relaid, packCall, unpackCall, startCall, numberOf, countOf}
+use Rattle.paper.specs.Calls.{refusal, verdict, Written, kept, deliver, accepted, checkedAs, checkCall, relaid, packCall, unpackCall, freshStore, startCall, numberOf, countOf}
 use Rattle.paper.specs.Calls.{Answer, sized, Decoded, undecoded, decoded, partOf, decodePart, judgedAs, decodeAt, decodedAs, decodeCall}
 use Rattle.laws.specs.Names.{longForm}
 use Rattle.laws.specs.Judged.{Passed, asLong, asShort, judge-passed}
@@ -228,7 +228,7 @@ unfolding startCall
 start-fits mask flag0 flag1 bytes = go (eqb (length bytes) stateLength) refl
   where
     go : (b : Bool) → eqb (length bytes) stateLength ≡ b
-        → numberOf (cond b (record { answer = verdict 0 0; output = stateBytes (start (record { registers = []; flag0 = flag0; flag1 = flag1 }) mask) }) (kept (refusal 1 0) bytes) .answer) ≡ 0
+        → numberOf (cond b (record { answer = verdict 0 0; output = stateBytes (start (freshStore [] flag0 flag1) mask) }) (kept (refusal 1 0) bytes) .answer) ≡ 0
         → length bytes ≡ stateLength
     go true h e = eqb-true (length bytes) stateLength h
     go false h e = absurd (omega arith)

@@ -1,7 +1,7 @@
 -- What a start leaves: a state from which every accepted kernel runs. Assumes nothing.
 use mathlib.Core.Bool.{true}
 use mathlib.Core.List.{List}
-use mathlib.Core.Path.{_≡_, sym, ap, _∙_}
+use mathlib.Core.Path.{_≡_, refl, sym, ap, _∙_}
 use Prim.Native.Nat.{ℕ, _≤_}
 use native.Mathlib.Omega.{arith}
 use lib.Pow.{areBytes}
@@ -37,7 +37,7 @@ module _ (state registers : List ℕ) (b : Begun state registers) where
 
   -- They are bytes.
   pub started-bytes : areBytes state ≡ true
-  started-bytes = ap areBytes started ∙ state-bytes (beginning b)
+  started-bytes = ap areBytes started ∙ state-bytes (beginning b) refl
 
   -- With a kernel that is accepted, nothing that is lent is refused.
   pub start-ready : (dictionary kernel : List ℕ) → areBytes kernel ≡ true → (k : List Instr) → accepted longAndShort dictionary kernel ≡ good k

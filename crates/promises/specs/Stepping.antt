@@ -1,37 +1,36 @@
--- Steps and runs of the calls, from any registers and state that are lent: a run is as many steps as it says, each by the call itself. Assumes nothing.
-use mathlib.Core.Bool.{Bool, true, false, cond, _&&_, false≢true}
+-- Steps and runs of the calls, from any registers and state that are lent: what they leave, how a run goes on from a step, and what one that is not made says of a run.
+-- Assumes nothing.
+use mathlib.Core.Bool.{Bool, true, false, cond, _&&_}
 use mathlib.Core.List.{List, [], _∷_}
-use mathlib.Core.Option.{Option, none, some}
+use mathlib.Core.Logic.{_⊎_, inl, inr}
+use mathlib.Core.Option.{Option, none, some, Option·none-ne-some, Option·some-injective}
 use mathlib.Core.Path.{_≡_, refl, sym, ap, _∙_}
-use Prim.Native.Nat.{ℕ, zero, suc, _≤_}
+use Prim.Native.Nat.{ℕ, zero, suc, _-_, _*_, _<_, _≤_}
 use native.Mathlib.Omega.{arith}
 use lib.Dec.{eqb}
-use lib.ListN.{length}
+use lib.ListN.{length, length-drop}
 use lib.Pow.{areBytes}
-use borrow.Author.Tests.{eqb-true, eqb-false, le-ltb}
+use borrow.Author.Tests.{eqb-true, le-ltb}
 use Rattle.paper.specs.Limits.{registerBytes, stateLength, budgetLimit, instructionLimit, lastPlace}
 use Rattle.paper.specs.Kernel.{Instr, longAndShort, Parsed, bad, good}
 use Rattle.paper.specs.Jump.{endOf, fetch}
-use Rattle.paper.specs.Machine.{State, step, stops, stopsOn, run}
-use Rattle.paper.specs.State.{channelsIn, stateOf, allThree, stateLands, stateLegal, stateBytes}
+use Rattle.paper.specs.Address.{addressStops}
+use Rattle.paper.specs.Machine.{State, step, stops, stopsOn, orSpent, run}
+use Rattle.paper.specs.State.{half, channelsIn, stateOf, allThree, stateLands, stateLegal, stateBytes}
 use Rattle.paper.specs.Bits.{bytesOf}
-use Rattle.paper.specs.Calls.{refusal, verdict, Changed, unchanged, changedTo, sized, allSized, judgedKernel, accepted, onState, steppedAs, stepCall, ranAs, runCall, numberOf, countOf}
-use Rattle.laws.specs.Bytes.{bytes-append, bytes-bytesOf}
+use Rattle.paper.specs.Calls.{Answer, refusal, refusalWith, verdict, Changed, unchanged, changedTo, sized, allSized, judgedKernel, accepted, onState, stoppedAs, steppedAs, stepCall, ranAs, runCall, numberOf, offsetOf, countOf}
+use Rattle.laws.specs.Bytes.{bytes-append, bytes-drop, bytes-bytesOf}
+use Rattle.laws.specs.AddressBytes.{step-bytes, run-bytes}
 use Rattle.laws.specs.Truth.{both-true}
 use Rattle.laws.specs.Halfwords.{halves, half-less}
-use Rattle.laws.specs.Runs.{still, orSpent, run-zero, run-stop}
+use Rattle.laws.specs.Runs.{still, run-zero, run-stop}
 use Rattle.laws.specs.Same.{state-names}
-use Rattle.laws.specs.StateBytes.{state-halves, bytes-back}
+use Rattle.laws.specs.StateBytes.{numbersOf, state-halves, bytes-back}
 use Rattle.laws.specs.Lasting.{Lasting, step-lasting, run-lasting}
 use Rattle.laws.specs.Relay.{AllSane}
 use Rattle.laws.specs.Packing.{Kernel, kernel-of, kernel-near}
-use Rattle.laws.specs.Demands.{Ready, run-ready, step-ready, stored-back, stored-ready, run-steps}
-use Rattle.laws.specs.Calls.{step-unchanged}
-use Rattle.answers.specs.Numbers.{stepNumbers}
-use Rattle.answers.specs.Small.{number-back}
-use Rattle.answers.specs.Calls.{step-fine}
-use Rattle.answers.specs.Kernels.{Near, near-number, judged-near}
-use Rattle.promises.specs.Promises.{Steps, nothing, onward}
+use Rattle.laws.specs.Demands.{Ready, run-ready, step-ready, stored-back, stored-ready, stepMore, run-steps}
+use Rattle.answers.specs.Kernels.{Near, near-refused, near-number, judged-near}
 use Rattle.promises.specs.Results.{no-zero}
 
 -- A state's bytes are bytes.
@@ -40,8 +39,39 @@ unfolding halves
 halves-bytes [] = refl
 halves-bytes (v ∷ vs) = bytes-append (bytesOf 2 v) (halves vs) (bytes-bytesOf 2 v) (halves-bytes vs)
 
-pub state-bytes : (s : State) → areBytes (stateBytes s) ≡ true
-state-bytes s = ap areBytes (state-halves s) ∙ halves-bytes _
+pub state-bytes : (s : State) → areBytes (s .store .addresses) ≡ true → areBytes (stateBytes s) ≡ true
+state-bytes s b = ap areBytes (state-halves s) ∙ bytes-append (halves (numbersOf s)) (s .store .addresses) (halves-bytes (numbersOf s)) b
+
+-- A run that counts one step more than another, and answers and leaves what that one does.
+pub record More (whole rest : Changed) : Type 0 where
+  pub number : numberOf (whole .answer) ≡ numberOf (rest .answer)
+  pub offset : offsetOf (whole .answer) ≡ offsetOf (rest .answer)
+  pub count : countOf (whole .answer) ≡ suc (countOf (rest .answer))
+  pub sameRegisters : whole .registers ≡ rest .registers
+  pub sameState : whole .state ≡ rest .state
+
+-- So one is that has `stepMore` of the other's answer, which is that of a run.
+more-of : (whole rest : Changed) (number place steps : ℕ) → rest .answer ≡ stoppedAs number place steps
+    → whole ≡ record { answer = stepMore (rest .answer); registers = rest .registers; state = rest .state } → More whole rest
+more-of whole rest number place steps e w =
+    let a : whole .answer ≡ stepMore (rest .answer) = ap (λ (c : Changed). c .answer) w in
+    record {
+      number = ap numberOf a ∙ kept (rest .answer) .0;
+      offset = ap offsetOf a ∙ kept (rest .answer) .1;
+      count = ap countOf a ∙ ap (λ (x : Answer). countOf (stepMore x)) e ∙ counted (eqb number 22) ∙ ap (λ (x : Answer). suc (countOf x)) (sym e);
+      sameRegisters = ap (λ (c : Changed). c .registers) w;
+      sameState = ap (λ (c : Changed). c .state) w;
+    }
+  where
+    kept : (x : Answer) → (numberOf (stepMore x) ≡ numberOf x) × (offsetOf (stepMore x) ≡ offsetOf x)
+    kept (verdict n c) = (refl, refl)
+    kept (refusal n at) = (refl, refl)
+    kept (refusalWith n at c) = (refl, refl)
+
+    counted : (t : Bool)
+        → (let x : Answer = cond t (refusalWith 22 (8 * place) steps) (verdict number steps) in countOf (stepMore x) ≡ suc (countOf x))
+    counted true = refl
+    counted false = refl
 
 -- Sixteen channels are read.
 channels-length : (bytes : List ℕ) (n c : ℕ) → length (channelsIn bytes n c) ≡ c
@@ -91,16 +121,33 @@ module _ (dictionary kernel registers bytes : List ℕ) (right : areBytes kernel
         record {
           holding =
               record {
-                store = record { bytes = buffers .0; flag0 = half-less bytes 0 small; flag1 = half-less bytes 2 small };
+                store =
+                    record {
+                      bytes = buffers .0;
+                      flag0 = half-less bytes 0 small;
+                      flag1 = half-less bytes 2 small;
+                      addresses = length-drop 42 bytes ∙ ap (λ (n : ℕ). n - 42) (buffers .1);
+                    };
                 count = channels-length bytes 0 16;
               };
           naming = state-names k (kernel-lent .sound) lent (legal-parts .1);
         }
 
     -- An answer that leaves the state as it was read leaves what was lent.
-    unchanged-lent : (number count : ℕ) → changedTo (verdict number count) lent ≡ unchanged (verdict number count) registers bytes
+    unchanged-lent : (a : Answer) → changedTo a lent ≡ unchanged a registers bytes
     unfolding stateOf
-    unchanged-lent number count = λ i. record { answer = verdict number count; registers = registers; state = bytes-lent i }
+    unchanged-lent a = λ i. record { answer = a; registers = registers; state = bytes-lent i }
+
+    -- a0 is bytes,
+    addresses-lent : areBytes (lent .store .addresses) ≡ true
+    unfolding stateOf
+    addresses-lent = bytes-drop 42 bytes small
+
+    -- and the state that a run leaves is bytes.
+    pub run-leaves-bytes : (budget : ℕ) → budget ≤ budgetLimit → areBytes (runCall dictionary kernel budget registers bytes .state) ≡ true
+    run-leaves-bytes budget le =
+        rw (run-ready dictionary kernel registers bytes k r budget le)
+        (state-bytes (run k budget lent .state) (run-bytes k budget lent addresses-lent))
 
     -- What a run leaves is as ready for the next.
     pub run-leaves-ready : (budget : ℕ) → budget ≤ budgetLimit
@@ -129,22 +176,60 @@ module _ (dictionary kernel registers bytes : List ℕ) (right : areBytes kernel
         rw (step-ready dictionary kernel registers bytes k r e)
         (stored-back dictionary kernel k (kernel-lent .sound) (omega arith) (sizes .0) (r .judged) (step k lent) after)
 
+    -- It is as ready for the next,
+    step-leaves-ready : stops k lent ≡ none
+        → let c = stepCall dictionary kernel registers bytes in Ready dictionary kernel (c .registers) (c .state) k
+    step-leaves-ready e =
+        let near : endOf k ≤ lastPlace = kernel-near longAndShort dictionary kernel k kernel-lent in
+        let after = step-lasting k (kernel-lent .sound) registerBytes lent lasting-lent in
+        rw (step-ready dictionary kernel registers bytes k r e)
+        (stored-ready dictionary kernel k (kernel-lent .sound) (omega arith) (sizes .0) (r .judged) (step k lent) after)
+
+    -- and it is bytes.
+    pub step-leaves-bytes : stops k lent ≡ none → areBytes (stepCall dictionary kernel registers bytes .state) ≡ true
+    step-leaves-bytes e =
+        rw (step-ready dictionary kernel registers bytes k r e) (state-bytes (step k lent) (step-bytes k lent addresses-lent))
+
     -- One step more is the step and then the run.
     pub run-suc : stops k lent ≡ none → (n : ℕ) → suc n ≤ budgetLimit
         → let one = stepCall dictionary kernel registers bytes in
-        let rest = runCall dictionary kernel n (one .registers) (one .state) in
-        runCall dictionary kernel (suc n) registers bytes
-        ≡ record { answer = verdict (numberOf (rest .answer)) (suc (countOf (rest .answer))); registers = rest .registers; state = rest .state }
+        More (runCall dictionary kernel (suc n) registers bytes) (runCall dictionary kernel n (one .registers) (one .state))
     unfolding stateOf
     run-suc e n le =
+        let one = stepCall dictionary kernel registers bytes in
         let near : endOf k ≤ lastPlace = kernel-near longAndShort dictionary kernel k kernel-lent in
         let law = run-steps dictionary kernel k (kernel-lent .sound) (omega arith) (sizes .0) (r .judged) lent lasting-lent e n le in
-        rw bytes-lent at law
+        let o = run k n (stateOf (one .registers) (one .state)) in
+        let made : runCall dictionary kernel n (one .registers) (one .state) ≡ ranAs o =
+        run-ready dictionary kernel (one .registers) (one .state) k (step-leaves-ready e) n (omega arith) in
+        more-of (runCall dictionary kernel (suc n) registers bytes) (runCall dictionary kernel n (one .registers) (one .state))
+        (o .verdict) (o .state .place) (o .steps) (ap (λ (c : Changed). c .answer) made) (rw bytes-lent at law)
 
--- At the end a run stops at once, whatever its budget.
+-- At the end a run stops at once, whatever its budget,
 run-ended : (k : List Instr) (s : State) → stops k s ≡ some 20 → (n : ℕ) → run k n s ≡ still 20 s
 run-ended k s e zero = run-zero (stops k) (step k) s ∙ ap (λ (o : Option ℕ). still (orSpent o) s) e
 run-ended k s e (suc n) = run-stop (stops k) (step k) n s 20 e
+
+-- and at a broken address one with a budget does.
+run-astray : (k : List Instr) (s : State) → stops k s ≡ some 22 → (n : ℕ) → 0 < n → run k n s ≡ still 22 s
+run-astray k s e zero h = absurd (omega arith)
+run-astray k s e (suc n) h = run-stop (stops k) (step k) n s 22 e
+
+-- With no budget a run makes no step, and short of the end it says 21.
+run-spent : (k : List Instr) (s : State) (o : Option ℕ) → stops k s ≡ o → orSpent o ≡ 21 → run k 0 s ≡ still 21 s
+run-spent k s o e v = run-zero (stops k) (step k) s ∙ ap (λ (q : Option ℕ). still (orSpent q) s) e ∙ ap (λ (n : ℕ). still n s) v
+
+-- A state stops with 20 or with 22.
+stops-says : (k : List Instr) (s : State) (v : ℕ) → stops k s ≡ some v → (v ≡ 20) ⊎ (v ≡ 22)
+stops-says k s v e = go (fetch k (s .place)) e
+  where
+    by : (t : Bool) → cond t (some 22) none ≡ some v → (v ≡ 20) ⊎ (v ≡ 22)
+    by true q = inr (sym (Option·some-injective 22 v q))
+    by false q = absurd (Option·none-ne-some v q)
+
+    go : (o : Option Instr) → stopsOn o (s .store .addresses) ≡ some v → (v ≡ 20) ⊎ (v ≡ 22)
+    go none q = inl (sym (Option·some-injective 20 v q))
+    go (some i) q = by (addressStops (s .store .addresses) (i .word)) q
 
 -- What a step that answers 0 says: nothing is refused, and the state does not stand at the end.
 pub record Goes (dictionary kernel registers bytes : List ℕ) : Type 0 where
@@ -152,35 +237,73 @@ pub record Goes (dictionary kernel registers bytes : List ℕ) : Type 0 where
   pub ready : Ready dictionary kernel registers bytes instrs
   pub on : stops instrs (stateOf registers bytes) ≡ none
 
--- What a step that is answered by anything else says of a run: that the run changes as little and answers the same.
-abbrev Follows : List ℕ → List ℕ → List ℕ → List ℕ → ℕ → Changed → Type 0
-Follows dictionary kernel registers bytes budget one =
-    (numberOf (one .answer) ≡ 0 → Goes dictionary kernel registers bytes)
-    × ((numberOf (one .answer) ≡ 0 → ⊥) → runCall dictionary kernel budget registers bytes ≡ one)
-    × (countOf (one .answer) ≡ 0)
+-- What a step that answers 22 says: nothing is refused, and the state stands at a broken address.
+pub record Halts (dictionary kernel registers bytes : List ℕ) : Type 0 where
+  pub instrs : List Instr
+  pub ready : Ready dictionary kernel registers bytes instrs
+  pub at : stops instrs (stateOf registers bytes) ≡ some 22
+
+-- What a step that is answered by anything but 0 says of a run: that the run changes as little and answers the same, unless it has no budget for 22. 22 names the byte of
+-- its instruction.
+pub record Follows (dictionary kernel registers bytes : List ℕ) (budget : ℕ) (one : Changed) : Type 0 where
+  pub goes : numberOf (one .answer) ≡ 0 → Goes dictionary kernel registers bytes
+  pub stands : (numberOf (one .answer) ≡ 0 → ⊥) → (numberOf (one .answer) ≡ 22 → 0 < budget) → runCall dictionary kernel budget registers bytes ≡ one
+  pub none : countOf (one .answer) ≡ 0
+  pub halts : numberOf (one .answer) ≡ 22 → Halts dictionary kernel registers bytes
+  pub names : numberOf (one .answer) ≡ 22 → offsetOf (one .answer) ≡ 8 * half bytes 4
 
 module _ (dictionary kernel registers bytes : List ℕ) (right : areBytes kernel ≡ true) (small : areBytes bytes ≡ true)
     (budget : ℕ) (le : budget ≤ budgetLimit) where
   abbrev stepper : List Instr → State → Changed
-  stepper k s = steppedAs (stops k s) registers bytes (step k s)
+  stepper k s = steppedAs (stops k s) registers bytes s (step k s)
 
   abbrev begins : State
   begins = stateOf registers bytes
 
-  -- An accepted kernel and a legal state: a step or the end.
+  -- A refusal of what is lent.
+  follows-no : (number offset : ℕ) → (number ≡ 0 → ⊥) → (number ≡ 22 → ⊥)
+      → runCall dictionary kernel budget registers bytes ≡ unchanged (refusal number offset) registers bytes
+      → Follows dictionary kernel registers bytes budget (unchanged (refusal number offset) registers bytes)
+  follows-no number offset first other e =
+      record { goes = λ z. absurd (first z); stands = λ _ _. e; none = refl; halts = λ z. absurd (other z); names = λ z. absurd (other z) }
+
+  -- An accepted kernel and a legal state: a step, the end or a broken address.
   follows-ready : (k : List Instr) → Ready dictionary kernel registers bytes k
       → Follows dictionary kernel registers bytes budget (stepper k begins)
-  follows-ready k r = go (fetch k (begins .place)) refl
+  unfolding stateOf
+  follows-ready k r = go (stops k begins) refl
     where
-      go : (o : Option Instr) → fetch k (begins .place) ≡ o
-          → Follows dictionary kernel registers bytes budget (steppedAs (stopsOn o) registers bytes (step k begins))
-      go none e = (
-        λ z. absurd (omega arith),
-        λ _. run-ready dictionary kernel registers bytes k r budget le ∙ ap ranAs (run-ended k begins (ap stopsOn e) budget)
-            ∙ unchanged-lent dictionary kernel registers bytes right small k r 20 0,
-        refl,
-      )
-      go (some i) e = (λ z. record { instrs = k; ready = r; on = ap stopsOn e }, λ n. absurd (n refl), refl)
+      ran : (v : ℕ) → run k budget begins ≡ still v begins
+          → runCall dictionary kernel budget registers bytes ≡ unchanged (stoppedAs v (begins .place) 0) registers bytes
+      ran v e =
+          run-ready dictionary kernel registers bytes k r budget le ∙ ap ranAs e
+          ∙ unchanged-lent dictionary kernel registers bytes right small k r (stoppedAs v (begins .place) 0)
+
+      go : (o : Option ℕ) → stops k begins ≡ o → Follows dictionary kernel registers bytes budget (steppedAs o registers bytes begins (step k begins))
+      go none e = record {
+        goes = λ _. record { instrs = k; ready = r; on = e };
+        stands = λ n. absurd (n refl);
+        none = refl;
+        halts = λ z. absurd (omega arith);
+        names = λ z. absurd (omega arith);
+      }
+      go (some v) e = by (stops-says k begins v e)
+        where
+          by : (v ≡ 20) ⊎ (v ≡ 22) → Follows dictionary kernel registers bytes budget (unchanged (stoppedAs v (begins .place) 0) registers bytes)
+          by (inl q) = rw q (record {
+            goes = λ z. absurd (omega arith);
+            stands = λ _ _. ran 20 (run-ended k begins (e ∙ ap some q) budget);
+            none = refl;
+            halts = λ z. absurd (omega arith);
+            names = λ z. absurd (omega arith);
+          })
+          by (inr q) = rw q (record {
+            goes = λ z. absurd (omega arith);
+            stands = λ _ h. ran 22 (run-astray k begins (e ∙ ap some q) budget (h refl));
+            none = refl;
+            halts = λ _. record { instrs = k; ready = r; at = e ∙ ap some q };
+            names = λ _. refl;
+          })
 
   -- An accepted kernel and any state: 15 too.
   follows-good : (k : List Instr) → allSized dictionary kernel registers bytes ≡ true → judgedKernel longAndShort dictionary kernel ≡ good k
@@ -191,7 +314,7 @@ module _ (dictionary kernel registers bytes : List ℕ) (right : areBytes kernel
       go : (b : Bool) → stateLegal k registers bytes ≡ b
           → Follows dictionary kernel registers bytes budget (cond b (stepper k begins) (unchanged (refusal 15 0) registers bytes))
       go true e = follows-ready k (record { sizes = sizes; judged = judged; legal = e })
-      go false e = (λ z. absurd (omega arith), λ _. rw (sizes, le-ltb budgetLimit budget le, judged, e), refl)
+      go false e = follows-no 15 0 (λ z. omega arith) (λ z. omega arith) (rw (sizes, le-ltb budgetLimit budget le, judged, e))
 
   -- Any kernel of a right size.
   follows-judged : allSized dictionary kernel registers bytes ≡ true
@@ -202,11 +325,10 @@ module _ (dictionary kernel registers bytes : List ℕ) (right : areBytes kernel
       go : (q : Parsed) → judgedKernel longAndShort dictionary kernel ≡ q → Near (length kernel) instructionLimit q
           → Follows dictionary kernel registers bytes budget (onState registers bytes stepper q)
       go (good k) e h = follows-good k sizes e
-      go (bad number offset) e h = (
-        λ z. absurd (no-zero number (near-number (length kernel) instructionLimit number offset h) z),
-        λ _. rw (sizes, le-ltb budgetLimit budget le, e),
-        refl,
-      )
+      go (bad number offset) e h =
+          let few = near-refused (length kernel) instructionLimit number offset h .0 in
+          follows-no number offset (λ z. no-zero number (near-number (length kernel) instructionLimit number offset h) z) (λ z. omega arith)
+          (rw (sizes, le-ltb budgetLimit budget le, e))
 
   -- Any sizes.
   pub follows : Follows dictionary kernel registers bytes budget (stepCall dictionary kernel registers bytes)
@@ -217,108 +339,13 @@ module _ (dictionary kernel registers bytes : List ℕ) (right : areBytes kernel
           → Follows dictionary kernel registers bytes budget
           (cond b (onState registers bytes stepper (judgedKernel longAndShort dictionary kernel)) (unchanged (refusal 1 0) registers bytes))
       go true e = follows-judged e
-      go false e = (λ z. absurd (omega arith), λ _. rw e, refl)
+      go false e = follows-no 1 0 (λ z. omega arith) (λ z. omega arith) (rw e)
 
-  -- ---- a step that answers 0
-
-  module _ (g : Goes dictionary kernel registers bytes) where
-    -- It leaves bytes in the state.
-    pub goes-bytes : areBytes (stepCall dictionary kernel registers bytes .state) ≡ true
-    goes-bytes = rw (step-ready dictionary kernel registers bytes (g .instrs) (g .ready) (g .on)) (state-bytes _)
-
-    -- A run with no budget then says 21, and changes nothing.
-    pub goes-none : runCall dictionary kernel 0 registers bytes ≡ unchanged (verdict 21 0) registers bytes
-    goes-none =
-        run-ready dictionary kernel registers bytes (g .instrs) (g .ready) 0 (omega arith)
-        ∙ ap ranAs (run-zero (stops (g .instrs)) (step (g .instrs)) begins ∙ ap (λ (o : Option ℕ). still (orSpent o) begins) (g .on))
-        ∙ unchanged-lent dictionary kernel registers bytes right small (g .instrs) (g .ready) 21 0
-
--- ---- a run is the steps that it counts
-
--- What a run within its budget says: it is as many steps as it counts, no more than the budget; where it says 20, a further step says 20; where it
--- says 21, the whole budget is spent and a further step would be made.
-pub record Made (dictionary kernel : List ℕ) (budget : ℕ) (registers bytes : List ℕ) (c : Changed) : Type 0 where
-  pub steps : Steps dictionary kernel (countOf (c .answer)) registers bytes (c .registers) (c .state)
-  pub within : countOf (c .answer) ≤ budget
-  pub ended : numberOf (c .answer) ≡ 20 → numberOf (stepCall dictionary kernel (c .registers) (c .state) .answer) ≡ 20
-  pub spent : numberOf (c .answer) ≡ 21
-      → (countOf (c .answer) ≡ budget) × (numberOf (stepCall dictionary kernel (c .registers) (c .state) .answer) ≡ 0)
-
--- A run that makes no step.
-made-none : (dictionary kernel : List ℕ) (budget : ℕ) (registers bytes : List ℕ) (c : Changed)
-    → countOf (c .answer) ≡ 0 → c .registers ≡ registers → c .state ≡ bytes
-    → (numberOf (c .answer) ≡ 20 → numberOf (stepCall dictionary kernel registers bytes .answer) ≡ 20)
-    → (numberOf (c .answer) ≡ 21 → (0 ≡ budget) × (numberOf (stepCall dictionary kernel registers bytes .answer) ≡ 0))
-    → Made dictionary kernel budget registers bytes c
-made-none dictionary kernel budget registers bytes c n a b ended spent =
-    record {
-      steps = rw (n, a, b) nothing;
-      within = omega arith;
-      ended = λ z. rw (a, b) (ended z);
-      spent = λ z. (n ∙ spent z .0, rw (a, b) (spent z .1));
-    }
-
--- A step never says 21.
-step-not-21 : (dictionary kernel registers bytes : List ℕ) → numberOf (stepCall dictionary kernel registers bytes .answer) ≡ 21 → ⊥
-step-not-21 dictionary kernel registers bytes e =
-    false≢true (sym (ap stepNumbers e) ∙ step-fine dictionary kernel registers bytes .listed)
-
--- A budget of 0 is within the limit.
-no-budget : 0 ≤ budgetLimit
-no-budget = omega arith
-
-module _ (dictionary kernel : List ℕ) (right : areBytes kernel ≡ true) where
-  -- Where a step is not made, neither is one by a run.
-  made-still : (budget : ℕ) → budget ≤ budgetLimit → (registers bytes : List ℕ) → areBytes bytes ≡ true
-      → (numberOf (stepCall dictionary kernel registers bytes .answer) ≡ 0 → ⊥)
-      → Made dictionary kernel budget registers bytes (runCall dictionary kernel budget registers bytes)
-  made-still budget le registers bytes small n =
-      let f = follows dictionary kernel registers bytes right small budget le in
-      let u = step-unchanged dictionary kernel registers bytes n in
-      rw (f .1 n)
-      (made-none dictionary kernel budget registers bytes (stepCall dictionary kernel registers bytes) (f .2) (u .sameRegisters) (u .sameState)
-      (λ z. z) (λ z. absurd (step-not-21 dictionary kernel registers bytes z)))
-
-  -- With no budget,
-  made-zero : (registers bytes : List ℕ) → areBytes bytes ≡ true
-      → Made dictionary kernel 0 registers bytes (runCall dictionary kernel 0 registers bytes)
-  made-zero registers bytes small = go (eqb (numberOf (stepCall dictionary kernel registers bytes .answer)) 0) refl
-    where
-      go : (b : Bool) → eqb (numberOf (stepCall dictionary kernel registers bytes .answer)) 0 ≡ b
-          → Made dictionary kernel 0 registers bytes (runCall dictionary kernel 0 registers bytes)
-      go false e = made-still 0 no-budget registers bytes small (eqb-false _ 0 e)
-      go true e =
-          let z = eqb-true _ 0 e in
-          let g = follows dictionary kernel registers bytes right small 0 no-budget .0 z in
-          rw (goes-none dictionary kernel registers bytes right small 0 no-budget g)
-          (made-none dictionary kernel 0 registers bytes (unchanged (verdict 21 0) registers bytes) refl refl refl
-          (λ w. absurd (omega arith)) (λ w. (refl, z)))
-
-  -- with one step more than a budget for which it is known,
-  made-suc : (n : ℕ) → suc n ≤ budgetLimit
-      → ((registers bytes : List ℕ) → areBytes bytes ≡ true → Made dictionary kernel n registers bytes (runCall dictionary kernel n registers bytes))
-      → (registers bytes : List ℕ) → areBytes bytes ≡ true
-      → Made dictionary kernel (suc n) registers bytes (runCall dictionary kernel (suc n) registers bytes)
-  made-suc n le known registers bytes small = go (eqb (numberOf (stepCall dictionary kernel registers bytes .answer)) 0) refl
-    where
-      go : (b : Bool) → eqb (numberOf (stepCall dictionary kernel registers bytes .answer)) 0 ≡ b
-          → Made dictionary kernel (suc n) registers bytes (runCall dictionary kernel (suc n) registers bytes)
-      go false e = made-still (suc n) le registers bytes small (eqb-false _ 0 e)
-      go true e =
-          let one = stepCall dictionary kernel registers bytes in
-          let z = eqb-true (numberOf (one .answer)) 0 e in
-          let g = follows dictionary kernel registers bytes right small (suc n) le .0 z in
-          let rest = known (one .registers) (one .state) (goes-bytes dictionary kernel registers bytes right small (suc n) le g) in
-          rw (run-suc dictionary kernel registers bytes right small (g .instrs) (g .ready) (g .on) n le)
-          (record {
-            steps = onward (refl, refl, refl) (number-back (one .answer) (step-fine dictionary kernel registers bytes .small) ∙ z) (rest .steps);
-            within = omega (arith, rest .within);
-            ended = rest .ended;
-            spent = λ w. (ap suc (rest .spent w .0), rest .spent w .1);
-          })
-
-  -- and so with any budget that is not refused.
-  pub run-made : (budget : ℕ) → budget ≤ budgetLimit → (registers bytes : List ℕ) → areBytes bytes ≡ true
-      → Made dictionary kernel budget registers bytes (runCall dictionary kernel budget registers bytes)
-  run-made zero le = made-zero
-  run-made (suc n) le = made-suc n le (run-made n (omega arith))
+-- With no budget, where a step is made or an address is broken, a run says 21 and changes nothing.
+module _ (dictionary kernel registers bytes : List ℕ) (right : areBytes kernel ≡ true) (small : areBytes bytes ≡ true) where
+  pub spends-none : (k : List Instr) → Ready dictionary kernel registers bytes k → (o : Option ℕ) → stops k (stateOf registers bytes) ≡ o → orSpent o ≡ 21
+      → runCall dictionary kernel 0 registers bytes ≡ unchanged (verdict 21 0) registers bytes
+  spends-none k r o e v =
+      run-ready dictionary kernel registers bytes k r 0 (omega arith)
+      ∙ ap ranAs (run-spent k (stateOf registers bytes) o e v)
+      ∙ unchanged-lent dictionary kernel registers bytes right small k r (verdict 21 0)

@@ -1,26 +1,28 @@
 -- The calls' cases in the code's order. Assumes nothing.
-use mathlib.Core.Bool.{Bool, true, false, _&&_}
-use mathlib.Core.List.{List}
-use mathlib.Core.Option.{none}
+use mathlib.Core.Bool.{Bool, true, false, cond, _&&_}
+use mathlib.Core.Logic.{_⊎_, inl, inr}
+use mathlib.Core.List.{List, _++_}
+use mathlib.Core.Option.{Option, none, some}
 use mathlib.Core.Path.{_≡_, refl, sym, ap, _∙_, subst}
 use Prim.Native.Nat.{ℕ, _*_, _<_, _≤_}
 use native.Mathlib.Omega.{arith}
 use lib.Dec.{eqb}
-use lib.ListN.{length}
+use lib.ListN.{length, take, length-drop, take-append-drop}
 use borrow.Author.Tests.{eqb-true, eq-eqb, ne-eqb, lt-ltb, le-ltb}
-use Rattle.paper.specs.Limits.{registerBytes, stateLength, budgetLimit}
+use Rattle.paper.specs.Limits.{addressBytes, registerBytes, stateLength, budgetLimit}
 use Rattle.paper.specs.Kernel.{Instr, longAndShort, good}
 use Rattle.paper.specs.Jump.{lands}
 use Rattle.paper.specs.Machine as paper
-use Rattle.paper.specs.Machine.{stops, step, run}
+use Rattle.paper.specs.Machine.{stops, orSpent, step, run}
+use Rattle.laws.specs.Runs.{more, run-zero, run-on}
 use Rattle.paper.specs.Store.{Store}
-use Rattle.paper.specs.State.{stateOf, stateLegal, stateLands, waitsLand, allThree, channelsIn, stateBytes}
-use Rattle.paper.specs.Calls.{refusal, sized, judgedKernel, accepted, Changed, unchanged, allSized, onState, steppedAs, stepCall, ranAs, runCall}
+use Rattle.paper.specs.State.{addressesIn, stateOf, stateLegal, stateLands, waitsLand, allThree, channelsIn, stateBytes}
+use Rattle.paper.specs.Calls.{refusal, sized, judgedKernel, accepted, Changed, unchanged, allSized, onState, stoppedAs, steppedAs, stepCall, ranAs, runCall}
 use Rattle.laws.specs.Same.{state-names}
 use Rattle.laws.specs.Lasting.{lands-before}
 use Rattle.laws.specs.Demands.{Ready, run-ready, step-ready}
-use Rattle.words.specs.declared.answer.Answer.the-variants.{Told, Refused}
-use Rattle.words.specs.Answer.{Left}
+use Rattle.words.specs.declared.answer.Answer.the-variants.{Told, Refused, RefusedWith}
+use Rattle.words.specs.Answer.{answerIs, Left}
 use Rattle.words.specs.declared.answer.Answer.{Answer}
 use Rattle.kernel.specs.declared.walk.Said.{Said}
 use Rattle.kernel.specs.declared.walk.Said.the-variants.{Good, Bad}
@@ -33,11 +35,20 @@ use Rattle.run.specs.declared.calls.Admission.{Admission}
 use Rattle.run.specs.declared.calls.Admission.the-variants.{Fine, Barred}
 use Rattle.run.specs.Landing.{legalBy, legal-same, waits-lands}
 use Rattle.run.specs.declared.running.Outcome.{Outcome}
-use Rattle.run.specs.Running.{Running, running-end, running-on}
+use Rattle.run.specs.Running.{Running, running-end, running-either}
 use Rattle.run.specs.Kernels.{instructions, Takes, end-is, end-not, runnable}
 use Rattle.run.specs.Opening.{Blank}
-use Rattle.run.specs.Outcomes.{Ends, one-step}
+use Rattle.run.specs.Outcomes.{Ends, one-step, no-step}
 use Rattle.laws.specs.Truth.{both-true}
+
+-- No run whose budget is spent says 22.
+never : (o : Option ℕ) → orSpent o ≡ 22 → ⊥
+never none e = let z : _≡_ {A = ℕ} 21 22 = e in omega arith
+never (some v) e = go (eqb v 20) e
+  where
+    go : (t : Bool) → _≡_ {A = ℕ} (cond t 20 21) 22 → ⊥
+    go true e = let z : _≡_ {A = ℕ} 20 22 = e in omega arith
+    go false e = let z : _≡_ {A = ℕ} 21 22 = e in omega arith
 
 -- ---- 1
 
@@ -145,7 +156,7 @@ module _ (dictionary kernel registers bytes : List ℕ) (sizes : Sizes dictionar
 
       pub step-barred : Left (stepCall dictionary kernel registers bytes) (Refused number offset) registers bytes
       unfolding stepCall
-      step-barred = rw (sizes .all, barred (λ k s. steppedAs (stops k s) registers bytes (step k s))) (refl, refl, refl)
+      step-barred = rw (sizes .all, barred (λ k s. steppedAs (stops k s) registers bytes s (step k s))) (refl, refl, refl)
 
       pub run-barred : (budget : ℕ) → budget ≤ budgetLimit → Left (runCall dictionary kernel budget registers bytes) (Refused number offset) registers bytes
       unfolding runCall
@@ -185,9 +196,12 @@ module _ (dictionary kernel registers bytes : List ℕ) (sizes : Sizes dictionar
         (waits-lands k (channelsIn bytes 0 16) (both-true (lands k (stateOf registers bytes .place)) (waitsLand k (channelsIn bytes 0 16)) (legal-parts .1) .1) n p e)
 
   -- The step and the run from where the state stands.
-  module _ (here : List ℕ) (s : Stand) (shows : Shows registers here s (stateOf registers bytes)) (flag0 : s .flags .flag0 < 65536) (flag1 : s .flags .flag1 < 65536)
+  module _ (here : List ℕ) (s : Stand) (shows : Shows registers (addressesIn bytes) here s (stateOf registers bytes)) (flag0 : s .flags .flag0 < 65536) (flag1 : s .flags .flag1 < 65536)
       (room : length kernel < 8 * length here) (few : length here ≤ 65536) where
-    pub opened : Running k registers here s (stateOf registers bytes)
+    sixteen : length (addressesIn bytes) ≡ addressBytes
+    sixteen = length-drop 42 bytes ∙ omega (arith, sizes .state-is)
+
+    pub opened : Running k registers (addressesIn bytes) here s (stateOf registers bytes)
     opened =
         record {
           runs = runnable dictionary kernel taken;
@@ -195,7 +209,7 @@ module _ (dictionary kernel registers bytes : List ℕ) (sizes : Sizes dictionar
               record {
                 holding =
                     record {
-                      store = rw (← (shows .store)) (record { bytes = sizes .registers-are; flag0 = flag0; flag1 = flag1 });
+                      store = rw (← (shows .store)) (record { bytes = sizes .registers-are; flag0 = flag0; flag1 = flag1; addresses = sixteen });
                       count = shows .posted .sixteen;
                     };
                 naming = state-names k (taken .sound) (stateOf registers bytes) (legal-parts .1);
@@ -209,23 +223,61 @@ module _ (dictionary kernel registers bytes : List ℕ) (sizes : Sizes dictionar
     pub step-end : 8 * s .place ≡ length kernel → Left (stepCall dictionary kernel registers bytes) (Told 20 0) registers bytes
     unfolding stepCall
     step-end h =
-        rw (sizes .all, law .judged, law .legal, running-end k registers here s (stateOf registers bytes) opened (end-is dictionary kernel taken (s .place) h)) (refl, refl, refl)
+        rw (sizes .all, law .judged, law .legal, running-end k registers (addressesIn bytes) here s (stateOf registers bytes) opened (end-is dictionary kernel taken (s .place) h)) (refl, refl, refl)
 
-    -- a step away from it, which is a run of one,
-    pub step-made : (8 * s .place ≡ length kernel → ⊥) → (registers′ here′ bytes′ : List ℕ) (out : Outcome)
-        → (ends : Ends k 1 (stateOf registers bytes) registers′ here′ out) → bytes′ ≡ stateBytes (ends .0)
-        → Left (stepCall dictionary kernel registers bytes) (Told 0 0) registers′ bytes′
-    step-made away registers′ here′ bytes′ out ends wrote =
-        let on : stops k (stateOf registers bytes) ≡ none = running-on k registers here s (stateOf registers bytes) opened (end-not dictionary kernel taken (s .place) away) in
-        let same : ends .0 ≡ step k (stateOf registers bytes) = one-step k (stateOf registers bytes) on (out .verdict) (out .steps) (ends .0) (ends .2) in
-        rw (step-ready dictionary kernel registers bytes k ready on, ← same) (refl, ap (λ (st : Store). st .registers) (ends .1 .shows .store), wrote)
+    module _ (registers′ addresses′ here′ : List ℕ) (out : Outcome) (ends : Ends k 1 (stateOf registers bytes) registers′ addresses′ here′ out) (away : 8 * s .place ≡ length kernel → ⊥) where
+      -- What stops a step away from the end is a broken address.
+      stops-away : (stops k (stateOf registers bytes) ≡ none) ⊎ (stops k (stateOf registers bytes) ≡ some 22)
+      stops-away = running-either k registers (addressesIn bytes) here s (stateOf registers bytes) opened (end-not dictionary kernel taken (s .place) away)
+
+      -- a step away from it, which is a run of one, is made if its verdict is not 22,
+      pub step-made : (out .verdict ≡ 22 → ⊥) → (bytes′ : List ℕ) → bytes′ ≡ stateBytes (ends .0)
+          → Left (stepCall dictionary kernel registers bytes) (Told 0 0) registers′ bytes′
+      step-made fine bytes′ wrote = go stops-away
+        where
+          go : (stops k (stateOf registers bytes) ≡ none) ⊎ (stops k (stateOf registers bytes) ≡ some 22) → Left (stepCall dictionary kernel registers bytes) (Told 0 0) registers′ bytes′
+          go (inl on) =
+              let same : ends .0 ≡ step k (stateOf registers bytes) = one-step k (stateOf registers bytes) on (out .verdict) (out .steps) (ends .0) (ends .2) in
+              rw (step-ready dictionary kernel registers bytes k ready on, ← same) (refl, ap (λ (st : Store). st .registers) (ends .1 .shows .store), wrote)
+          go (inr off) = absurd (fine (no-step k (stateOf registers bytes) 22 off (out .verdict) (out .steps) (ends .0) (ends .2) .0))
+
+      -- and else nothing changes.
+      pub step-astray : out .verdict ≡ 22 → (bytes′ : List ℕ) → bytes′ ≡ take 42 bytes ++ addresses′
+          → Left (stepCall dictionary kernel registers bytes) (RefusedWith 22 (8 * out .stand .place) 0) registers′ bytes′
+      unfolding stepCall stateOf
+      step-astray stopped bytes′ wrote = go stops-away
+        where
+          go : (stops k (stateOf registers bytes) ≡ none) ⊎ (stops k (stateOf registers bytes) ≡ some 22)
+              → Left (stepCall dictionary kernel registers bytes) (RefusedWith 22 (8 * out .stand .place) 0) registers′ bytes′
+          go (inl on) =
+              let v = ap (λ (o : paper.Outcome). o .verdict) (ends .2 ∙ run-on (stops k) (step k) 0 (stateOf registers bytes) on ∙ ap more (run-zero (stops k) (step k) (step k (stateOf registers bytes)))) in
+              absurd (never (stops k (step k (stateOf registers bytes))) (sym v ∙ stopped))
+          go (inr off) =
+              let still = no-step k (stateOf registers bytes) 22 off (out .verdict) (out .steps) (ends .0) (ends .2) .1 in
+              let same = ends .1 .shows .store ∙ ap (λ (t : paper.State). t .store) still in
+              let place = ends .1 .shows .place ∙ ap (λ (t : paper.State). t .place) still in
+              rw (sizes .all, law .judged, law .legal, off, place) (
+                refl,
+                ap (λ (st : Store). st .registers) same,
+                wrote ∙ ap (λ (l : List ℕ). take 42 bytes ++ l) (ap (λ (st : Store). st .addresses) same) ∙ take-append-drop 42 bytes,
+              )
 
     -- a run.
-    pub run-made : (budget : ℕ) → budget ≤ budgetLimit → (registers′ here′ bytes′ : List ℕ) (out : Outcome)
-        → (ends : Ends k budget (stateOf registers bytes) registers′ here′ out) → bytes′ ≡ stateBytes (ends .0)
-        → Left (runCall dictionary kernel budget registers bytes) (Told (out .verdict) (out .steps)) registers′ bytes′
-    run-made budget h registers′ here′ bytes′ out ends wrote =
-        rw (run-ready dictionary kernel registers bytes k ready budget h, ← (ends .2)) (refl, ap (λ (st : Store). st .registers) (ends .1 .shows .store), wrote)
+    pub run-made : (budget : ℕ) → budget ≤ budgetLimit → (registers′ addresses′ here′ bytes′ : List ℕ) (out : Outcome)
+        → (ends : Ends k budget (stateOf registers bytes) registers′ addresses′ here′ out) → bytes′ ≡ stateBytes (ends .0)
+        → (answer : Answer) → answerIs answer ≡ stoppedAs (out .verdict) (out .stand .place) (out .steps)
+        → Left (runCall dictionary kernel budget registers bytes) answer registers′ bytes′
+    run-made budget h registers′ addresses′ here′ bytes′ out ends wrote answer is =
+        rw (run-ready dictionary kernel registers bytes k ready budget h, ← (ends .2))
+        (is ∙ ap (λ (p : ℕ). stoppedAs (out .verdict) p (out .steps)) (ends .1 .shows .place), ap (λ (st : Store). st .registers) (ends .1 .shows .store), wrote)
+
+-- How a run's outcome is told.
+module _ (number place steps : ℕ) where
+  pub told-astray : number ≡ 22 → answerIs (RefusedWith 22 (8 * place) steps) ≡ stoppedAs number place steps
+  told-astray e = rw (eq-eqb _ _ e) refl
+
+  pub told-verdict : (number ≡ 22 → ⊥) → answerIs (Told number steps) ≡ stoppedAs number place steps
+  told-verdict n = rw (ne-eqb _ _ n) refl
 
 -- ---- one way for both calls
 

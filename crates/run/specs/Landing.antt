@@ -12,7 +12,7 @@ use Rattle.paper.specs.Kernel.{Instr}
 use Rattle.paper.specs.Jump.{lands}
 use Rattle.paper.specs.Machine as paper
 use Rattle.paper.specs.Machine.{Channel, off, awake, waiting, waitsAt}
-use Rattle.paper.specs.State.{half, channelsIn, stateOf, allThree, waitsLand, stateLegal}
+use Rattle.paper.specs.State.{addressesIn, half, channelsIn, stateOf, allThree, waitsLand, stateLegal}
 use Rattle.laws.specs.Truth.{both-true}
 use Rattle.machine.specs.declared.channels.Channels.{Channels}
 use Rattle.machine.specs.declared.state.State.{State}
@@ -97,7 +97,7 @@ module _ (land : ℕ → Bool) (c : Channels) where
 
 -- ---- the test, of a state that was read from the bytes, part by part as the code goes
 
-module _ (land : ℕ → Bool) (bytes : List ℕ) (s : State) (read : stateIs [] s ≡ stateOf [] bytes) where
+module _ (land : ℕ → Bool) (bytes : List ℕ) (s : State) (read : stateIs [] (addressesIn bytes) s ≡ stateOf [] bytes) where
   by-parts : legalBy land bytes ≡ (allThree bytes 16 && (land (s .place) && waitsBy land (channelsIs (s .channels))))
   unfolding legalBy stateOf
   by-parts =

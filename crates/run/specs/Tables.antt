@@ -127,14 +127,14 @@ entered-three k table p lo hi code i room fetched word ways =
 
 -- ---- a run over a table
 
-module _ (k : List Instr) (end budget start : ℕ) (table : List ℕ) (d : Tabled k end budget start table) (registers here : List ℕ) (s : Stand) (t : State)
-    (r : Running k registers here s t) (away : s .place ≡ end → ⊥) where
+module _ (k : List Instr) (end budget start : ℕ) (table : List ℕ) (d : Tabled k end budget start table) (registers addresses here : List ℕ) (s : Stand) (t : State)
+    (r : Running k registers addresses here s t) (away : s .place ≡ end → ⊥) where
   inside : s .place < end
-  inside = omega (arith, running-before k registers here s t r, d .ends, away)
+  inside = omega (arith, running-before k registers addresses here s t r, d .ends, away)
 
   -- The row where a run stands is in the table,
   pub row-there : (3 * s .place + 2 < length table) × (s .place < 65536)
-  row-there = (omega (arith, inside, d .long), omega (arith, running-place k registers here s t r, r .few))
+  row-there = (omega (arith, inside, d .long), omega (arith, running-place k registers addresses here s t r, r .few))
 
   pub row-away : s .place ≡ endOf k → ⊥
   row-away e = away (e ∙ sym (d .ends))
@@ -151,9 +151,9 @@ module _ (k : List Instr) (end budget start : ℕ) (table : List ℕ) (d : Table
 
   -- and makes the step of the instruction there.
   pub row-steps : (n : ℕ) → (n ≡ 0 → s .place ≡ start) → n < budget → (w : ℕ) (ways : Ways)
-      → w ≡ getD table (3 * s .place) 0 + getD table (3 * s .place + 1) 0 * 2 ^ 64 → ways ≡ waysFrom (getD table (3 * s .place + 2) 0) → Steps k here s t w ways
+      → w ≡ getD table (3 * s .place) 0 + getD table (3 * s .place + 1) 0 * 2 ^ 64 → ways ≡ waysFrom (getD table (3 * s .place + 2) 0) → Steps k addresses here s t w ways
   row-steps n begun h w ways ew e =
-      let i = running-instr k registers here s t r row-away in
-      let f = running-fetched k registers here s t r row-away in
+      let i = running-instr k registers addresses here s t r row-away in
+      let f = running-fetched k registers addresses here s t r row-away in
       let row = row-told n begun h i f in
-      running-steps k registers here s t r row-away i f w ways (ew ∙ row .0) (e ∙ row .1)
+      running-steps k registers addresses here s t r row-away i f w ways (ew ∙ row .0) (e ∙ row .1)

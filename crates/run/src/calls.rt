@@ -53,7 +53,7 @@ fn admit(dictionary: &[u8], kernel: &[u8], state: &[u8], marks: &mut [u8; PLACES
     Admission::Fine
 }
 
-// One step from the lent state; 20 at the end.
+// One step from the lent state; 20 at the end, 22 at a broken address.
 pub fn step(dictionary: &[u8], kernel: &[u8], registers: &mut [u8], state: &mut [u8]) -> Answer
     ensures { λ r. ⌜ Left (stepCall (now (dictionary .entry)) (now (kernel .entry)) (now (registers .entry)) (now (state .entry))) r (now (registers .exit)) (now (state .exit)) ⌝ }
 {
@@ -68,7 +68,7 @@ pub fn step(dictionary: &[u8], kernel: &[u8], registers: &mut [u8], state: &mut 
     }
 }
 
-// Steps from the lent state until the end, 20, or until the budget is spent, 21. 16 for a budget over the limit.
+// Steps from the lent state until the end, 20, a broken address, 22, or until the budget is spent, 21. 16 for a budget over the limit.
 pub fn run(
     dictionary: &[u8],
     kernel: &[u8],

@@ -5,6 +5,7 @@ use crate::table::put_row;
 use machine::ends::enter;
 use machine::ends::leave;
 use words::answer::Answer;
+use words::limits::ADDRESSES_AT;
 use words::limits::PLACES;
 ghost use Prim.Native.Nat.{_*_, _≤_};
 ghost use lib.ListN.{length};
@@ -21,7 +22,7 @@ const SMALL: usize = 512;
 
 // A table of three numbers for each place is lent, and the masks by place are lent blank.
 
-// One step: a run of one, for which the table has the row of its place. 20 at the end, where nothing is written.
+// One step: a run of one, for which the table has the row of its place. 20 at the end and 22 at a broken address, where nothing changes.
 fn step_over(
     dictionary: &[u8],
     kernel: &[u8],
@@ -43,13 +44,24 @@ fn step_over(
         return Answer::Told(20, 0);
     }
     put_row(dictionary, kernel, marks, place, table);
-    let out = run_on(table, end as u64, 1, start, registers, here);
+    let out = run_on(
+        table,
+        end as u64,
+        1,
+        start,
+        registers,
+        &mut state[ADDRESSES_AT..],
+        here,
+    );
     let stand = out.stand;
+    if out.verdict == 22 {
+        return Answer::RefusedWith(22, 8 * stand.place, 0);
+    }
     leave(stand, here, state);
     Answer::Told(0, 0)
 }
 
-// A run.
+// A run. One that a broken address stops keeps the steps that it made.
 fn run_over(
     dictionary: &[u8],
     kernel: &[u8],
@@ -67,9 +79,20 @@ fn run_over(
 {
     let end = fill(dictionary, kernel, marks, table);
     let start = enter(state, here);
-    let out = run_on(table, end, budget, start, registers, here);
+    let out = run_on(
+        table,
+        end,
+        budget,
+        start,
+        registers,
+        &mut state[ADDRESSES_AT..],
+        here,
+    );
     let stand = out.stand;
     leave(stand, here, state);
+    if out.verdict == 22 {
+        return Answer::RefusedWith(22, 8 * stand.place, out.steps);
+    }
     Answer::Told(out.verdict, out.steps)
 }
 

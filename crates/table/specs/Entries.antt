@@ -1,19 +1,18 @@
 -- The table's rule: what the twelve source bits allow, as a number for each of their values. Assumes nothing.
-use mathlib.Core.Bool.{Bool, false, not, _&&_}
+use mathlib.Core.Bool.{Bool, false, not}
 use mathlib.Core.List.{List, [], _∷_}
 use mathlib.Core.Path.{_≡_, _∙_, sym, ap}
 use Prim.Native.Nat.{ℕ, zero, suc, _+_, _≤_, _<_}
 use native.Mathlib.Nat.{add-zero, zero-add, add-suc, suc-add, le-of-suc-le-suc, not-suc-le-zero}
-use lib.Dec.{eqb}
 use lib.ListN.{getD}
-use Rattle.paper.specs.Bits.{bits, bit}
+use Rattle.paper.specs.Bits.{bit}
 use Rattle.paper.specs.Legal.{shapeRefused}
 use Rattle.paper.specs.Enable.{ofBits}
 use Rattle.laws.specs.Masks.{bit-ofBits, bit-ofBits-above}
 
--- The field is direct, its AddrMode being 0, and its region passes 9 at ExecSize 2 to the power k.
+-- The field's region passes 9 at ExecSize 2 to the power k. Its modifier and its AddrMode do not matter.
 abbrev pub passesAt : ℕ → ℕ → Bool
-passesAt field k = eqb (bits field 2 1) 0 && not (shapeRefused k field)
+passesAt field k = not (shapeRefused k field)
 
 -- The entry of a field: bit k is 1 exactly when it passes at k, 0 to 4; other bits are 0.
 unfoldable pub entryOf : ℕ → ℕ

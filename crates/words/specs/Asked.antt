@@ -1,7 +1,7 @@
 -- An operation's row in the code says what the paper's does. Assumes nothing.
 use mathlib.Core.Path.{_≡_}
 use Rattle.paper.specs.Operation.{Plain, traits}
-use Rattle.words.specs.Traits.{readsTwo}
+use Rattle.laws.specs.Sources.{readsTwo}
 use Rattle.words.specs.declared.traits.Row.{Row}
 
 pub record Asked (p : Plain) (r : Row) : Type 0 where

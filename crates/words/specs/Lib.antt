@@ -1,6 +1,5 @@
 -- What the crate's types mean in the paper's terms, and laws that its proofs and its callers cite.
 pub mod Operations
-pub mod Traits
 pub mod Asked
 pub mod Words
 pub mod Bytes

@@ -46,7 +46,7 @@ pub(crate) fn high(w: Word, k: u32, n: u32) -> u64
 }
 
 // The n bits from bit k of a source's own half of the high half on.
-fn of_source(x: Source, w: Word, k: u32, n: u32) -> u64
+pub(crate) fn of_source(x: Source, w: Word, k: u32, n: u32) -> u64
     requires { ⌜ (k < 32) × (n < 64) ⌝ }
     ensures { λ r. ⌜ (r ≡ bits (toWord w) (64 + k + shiftOf (sourceIs x)) n) × (r < 2 ^ n) ⌝ }
 {

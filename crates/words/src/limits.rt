@@ -6,8 +6,14 @@ pub const REGISTER_BYTES: usize = 4096;
 // The dictionary as it is lent: 128 numbers of four bytes.
 pub const DICTIONARY_BYTES: usize = 512;
 
-// The state as it is lent.
-pub const STATE_LENGTH: usize = 42;
+// The address register a0: eight numbers of 16 bits.
+pub const ADDRESS_BYTES: usize = 16;
+
+// The state as it is lent: flags, place and channels, and a0 last.
+pub const STATE_LENGTH: usize = 58;
+
+// Where a0 stands in it.
+pub const ADDRESSES_AT: usize = STATE_LENGTH - ADDRESS_BYTES;
 
 // A kernel's bytes, at the most.
 pub const KERNEL_BYTES: usize = 65536;

@@ -1,12 +1,12 @@
 // Regions: where an operand's elements lie, and at which byte each channel's starts.
+use crate::addresses::dst_register_at;
+use crate::addresses::src_register_at;
 use crate::bytes::Word;
 use crate::fields::Source;
-use crate::fields::dst_register;
 use crate::fields::dst_stride;
 use crate::fields::dst_subregister;
 use crate::fields::dst_type;
 use crate::fields::src_horz_stride;
-use crate::fields::src_register;
 use crate::fields::src_subregister;
 use crate::fields::src_type;
 use crate::fields::src_vert_stride;
@@ -48,7 +48,7 @@ pub fn stride_of(code: u64) -> usize
 pub fn src_region(x: Source, w: Word) -> Region
     ensures { λ r. ⌜ (regionIs r ≡ srcRegion (sourceIs x) (toWord w)) × Small r ⌝ }
 {
-    let origin = (src_register(x, w) * 32 + src_subregister(x, w)) as usize;
+    let origin = (src_register_at(x, w) + src_subregister(x, w)) as usize;
     let vert = stride_of(src_vert_stride(x, w));
     let code = src_width(x, w) as usize;
     let horz = stride_of(src_horz_stride(x, w));
@@ -66,7 +66,7 @@ pub fn src_region(x: Source, w: Word) -> Region
 pub fn dst_region(w: Word) -> Region
     ensures { λ r. ⌜ (regionIs r ≡ dstRegion (toWord w)) × Small r ⌝ }
 {
-    let origin = (dst_register(w) * 32 + dst_subregister(w)) as usize;
+    let origin = (dst_register_at(w) + dst_subregister(w)) as usize;
     let vert = stride_of(dst_stride(w));
     let size = size_of(dst_type(w)) as usize;
     Region {

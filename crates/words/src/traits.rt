@@ -3,7 +3,7 @@ use crate::operation::Plain;
 ghost use mathlib.Core.Path.{_≡_};
 ghost use Rattle.paper.specs.Operation.{traits};
 ghost use Rattle.words.specs.Operations.{plainIs};
-ghost use Rattle.words.specs.Traits.{readsTwo};
+ghost use Rattle.laws.specs.Sources.{readsTwo};
 ghost use Rattle.words.specs.Asked.{Asked};
 
 // The operation reads two sources, and else one; Saturate is served on it; its sources may have modifiers; it is cmp, which sets flags; its

@@ -18,7 +18,7 @@ rowsCall : List Row
 rowsCall =
     -- 1, 16, 15
     (shown (runCall blankDictionary [] 0 (take 4095 clear) (begin 0 0 0) .answer) gives 1 ∷ 0 ∷ 0 ∷ [])
-    ∷ (shown (runCall blankDictionary [] 0 clear (take 41 (begin 0 0 0)) .answer) gives 1 ∷ 0 ∷ 0 ∷ [])
+    ∷ (shown (runCall blankDictionary [] 0 clear (take 57 (begin 0 0 0)) .answer) gives 1 ∷ 0 ∷ 0 ∷ [])
     ∷ (shown (runCall blankDictionary [] 1000001 clear (begin 0 0 0) .answer) gives 16 ∷ 0 ∷ 0 ∷ [])
     ∷ (unstepped (stateIs 0 0 2 0 0xFFFF 0 2) gives 20 ∷ 0 ∷ 0 ∷ [])
     ∷ (unstepped (stateIs 0 0 1 0 0 0 0) gives 15 ∷ 0 ∷ 0 ∷ [])
@@ -47,8 +47,8 @@ rowsCall =
     ∷ (shown (decodeCall dictionaryA (bytesOf 16 longA) (2 ^ 64 - 1)) gives 3 ∷ 0 ∷ 0 ∷ [])
     ∷ (shown (decodeCall dictionaryA (bytesOf 12 longA) 1) gives 3 ∷ 8 ∷ 0 ∷ [])
     -- the start
-    ∷ (written (startCall 0xA5A5 0x1234 0x5678 (room 42)) gives 0 ∷ 0 ∷ 0 ∷ stateIs 0x1234 0x5678 0 0xA5A5 0 0 0)
-    ∷ (written (startCall 0xA5A5 0 0 (room 41)) gives 1 ∷ 0 ∷ 0 ∷ room 41)
+    ∷ (written (startCall 0xA5A5 0x1234 0x5678 (room 58)) gives 0 ∷ 0 ∷ 0 ∷ stateIs 0x1234 0x5678 0 0xA5A5 0 0 0)
+    ∷ (written (startCall 0xA5A5 0 0 (room 57)) gives 1 ∷ 0 ∷ 0 ∷ room 57)
     ∷ []
 
 -- ---- the subregister entry's top five bits, which an immediate covers

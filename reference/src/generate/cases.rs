@@ -1,5 +1,6 @@
 //! From a seed to a call with all its inputs.
 
+use super::addresses::{self, homes, legal_address_word, Homes};
 use super::damage::{short_branch, unlisted_opcode};
 use super::dictionaries::{dictionary_for, lend_dictionary};
 use super::instructions::legal_word;
@@ -8,11 +9,13 @@ use super::kernels::{
 };
 use super::listings::{list_case, read_case};
 use super::logs::{log_append_case, log_read_case, log_run_case, log_runs_case};
-use super::pairs::pair_case;
-use super::states::{mask, registers, state_for};
+use super::pairs::{pair_case, related};
+use super::states::{a0_near, mask, noise, registers, state_for, with_homes, wrong_size};
 use super::{Call, Case, CALLS};
-use crate::calls::BUDGET_LIMIT;
+use crate::answers::{Answer, BAD_ADDRESS};
+use crate::calls::{self, BUDGET_LIMIT};
 use crate::dictionary::Dictionary;
+use crate::locations::A0_ELEMENTS;
 use crate::operations::BRANCHES;
 use crate::packing;
 use crate::random::Random;
@@ -24,15 +27,33 @@ use crate::words::{shorten, LongWord, SHORT_BIT};
 /// new call leaves the cases of all others as they were.
 const FIRST_CALLS: u64 = 9;
 
+/// Of so many rounds of seeds the last has kernels with addresses, from streams of its own, so that
+/// the cases of the others are as they were.
+const ROUNDS: u64 = 4;
+
 /// The case of a seed. `CALLS` seeds in a row give every call.
 pub fn case(seed: u64) -> Case {
     let (round, number) = (seed / CALLS, seed % CALLS);
-    let own =
-        if number < FIRST_CALLS { FIRST_CALLS * round + number } else { number << 56 | round };
+    let (group, turn) = (round / ROUNDS, round % ROUNDS);
+    let with_addresses = turn == ROUNDS - 1;
+    let round = if with_addresses { group } else { (ROUNDS - 1) * group + turn };
+    let own = match number {
+        _ if with_addresses => 1 << 63 | number << 56 | round,
+        0..FIRST_CALLS => FIRST_CALLS * round + number,
+        _ => number << 56 | round,
+    };
     let mut random = Random::new(own);
     let random = &mut random;
     random.number();
-    let (dictionary, call) = match number {
+    let (dictionary, call) = match with_addresses {
+        true => addressed_case(random, number),
+        false => plain_case(random, number),
+    };
+    Case { seed, dictionary, call }
+}
+
+fn plain_case(random: &mut Random, number: u64) -> (Vec<u8>, Call) {
+    match number {
         0 => check_case(random),
         1 => pack_case(random),
         2 => unpack_case(random),
@@ -50,8 +71,52 @@ pub fn case(seed: u64) -> Case {
         15 => list_case(random),
         16 => read_case(random),
         _ => forward_case(random),
+    }
+}
+
+/// The same calls on kernels and words with addresses. Calls that take neither are as ever.
+fn addressed_case(random: &mut Random, number: u64) -> (Vec<u8>, Call) {
+    let homes = &homes(random);
+    let laying = match number {
+        1 => Laying::AllLong,
+        _ => any_laying(random),
     };
-    Case { seed, dictionary, call }
+    let words = |random: &mut Random| [(); 3].map(|()| legal_address_word(random, homes));
+    match number {
+        3 => {
+            let words = words(random);
+            shorten_of(random, words)
+        }
+        4 => {
+            let words = words(random);
+            expand_of(random, words)
+        }
+        7 => addressed_step_case(random, laying, homes),
+        8 => addressed_run_case(random, laying, homes),
+        9 => {
+            let plan = addresses::legal_plan(random, homes);
+            related(random, plan)
+        }
+        0..=2 | 5 | 14 => {
+            let pair = match number == 14 && random.once_in(2) {
+                true => addresses::forward_pair(random, laying, homes),
+                false => addresses::any_pair(random, laying, homes),
+            };
+            judged_of(random, number, pair)
+        }
+        _ => plain_case(random, number),
+    }
+}
+
+/// A call that judges a kernel and runs nothing.
+fn judged_of(random: &mut Random, number: u64, pair: Pair) -> (Vec<u8>, Call) {
+    match number {
+        0 => check_of(random, pair),
+        1 => pack_of(random, pair),
+        2 => unpack_of(random, pair),
+        5 => decode_of(random, pair),
+        _ => forward_of(random, pair),
+    }
 }
 
 pub fn any_laying(random: &mut Random) -> Laying {
@@ -65,6 +130,10 @@ fn mixed_pair(random: &mut Random) -> Pair {
 
 fn check_case(random: &mut Random) -> (Vec<u8>, Call) {
     let pair = mixed_pair(random);
+    check_of(random, pair)
+}
+
+fn check_of(random: &mut Random, pair: Pair) -> (Vec<u8>, Call) {
     (lend_dictionary(random, &pair.dictionary), Call::Check { kernel: pair.kernel })
 }
 
@@ -73,12 +142,20 @@ fn forward_case(random: &mut Random) -> (Vec<u8>, Call) {
     let laying = any_laying(random);
     let pair =
         if random.once_in(3) { forward_pair(random, laying) } else { any_pair(random, laying) };
+    forward_of(random, pair)
+}
+
+fn forward_of(random: &mut Random, pair: Pair) -> (Vec<u8>, Call) {
     (lend_dictionary(random, &pair.dictionary), Call::Forward { kernel: pair.kernel })
 }
 
 fn pack_case(random: &mut Random) -> (Vec<u8>, Call) {
     let laying = if random.once_in(12) { Laying::Mixed } else { Laying::AllLong };
     let pair = any_pair(random, laying);
+    pack_of(random, pair)
+}
+
+fn pack_of(random: &mut Random, pair: Pair) -> (Vec<u8>, Call) {
     let program = read_kernel(&pair.kernel, &pair.dictionary, Accepts::LongOnly);
     let result = program.map_or(0, |program| packing::pack(&program, &pair.dictionary).len());
     let out = output(random, result);
@@ -87,6 +164,10 @@ fn pack_case(random: &mut Random) -> (Vec<u8>, Call) {
 
 fn unpack_case(random: &mut Random) -> (Vec<u8>, Call) {
     let pair = mixed_pair(random);
+    unpack_of(random, pair)
+}
+
+fn unpack_of(random: &mut Random, pair: Pair) -> (Vec<u8>, Call) {
     let program = read_kernel(&pair.kernel, &pair.dictionary, Accepts::LongAndShort);
     let result = program.map_or(0, |program| packing::unpack(&program).len());
     let out = output(random, result);
@@ -107,10 +188,14 @@ pub fn output(random: &mut Random, result: usize) -> Vec<u8> {
 }
 
 fn shorten_case(random: &mut Random) -> (Vec<u8>, Call) {
-    let word = legal_word(random);
-    let others = [word, legal_word(random), legal_word(random)];
-    let dictionary = dictionary_for(random, &others);
-    let word = long_word_to_shorten(random, word);
+    let words = [(); 3].map(|()| legal_word(random));
+    shorten_of(random, words)
+}
+
+/// The first word, under a dictionary for all of them.
+fn shorten_of(random: &mut Random, words: [LongWord; 3]) -> (Vec<u8>, Call) {
+    let dictionary = dictionary_for(random, &words);
+    let word = long_word_to_shorten(random, words[0]);
     let mut bytes = word.to_bytes().to_vec();
     if random.once_in(25) {
         bytes.resize(random.pick(&[0, 8, 15, 17, 32]), 0);
@@ -142,7 +227,12 @@ fn long_word_to_shorten(random: &mut Random, word: LongWord) -> LongWord {
 }
 
 fn expand_case(random: &mut Random) -> (Vec<u8>, Call) {
-    let words = [legal_word(random), legal_word(random), legal_word(random)];
+    let words = [(); 3].map(|()| legal_word(random));
+    expand_of(random, words)
+}
+
+/// The first word shortened, or a stray one, under a dictionary for all of them.
+fn expand_of(random: &mut Random, words: [LongWord; 3]) -> (Vec<u8>, Call) {
     let dictionary = dictionary_for(random, &words);
     let mut bytes = short_word_to_expand(random, words[0], &dictionary);
     if random.once_in(25) {
@@ -169,6 +259,10 @@ fn short_word_to_expand(random: &mut Random, word: LongWord, dictionary: &Dictio
 
 fn decode_case(random: &mut Random) -> (Vec<u8>, Call) {
     let pair = mixed_pair(random);
+    decode_of(random, pair)
+}
+
+fn decode_of(random: &mut Random, pair: Pair) -> (Vec<u8>, Call) {
     let places = pair.kernel.len() / 8;
     let place = match random.below(12) {
         0 => places as u64,
@@ -195,14 +289,14 @@ fn start_to_decode(random: &mut Random, pair: &Pair) -> u64 {
 
 fn start_case(random: &mut Random) -> (Vec<u8>, Call) {
     let length = match random.below(10) {
-        0 => random.pick(&[0, 41, 43, 100]),
+        0 => wrong_size(random),
         _ => STATE_BYTES,
     };
     let call = Call::Start {
         mask: mask(random),
         flag0: random.bits(16) as u16,
         flag1: random.bits(16) as u16,
-        state: random.bytes(length),
+        state: noise(random, length),
     };
     (Vec::new(), call)
 }
@@ -219,7 +313,7 @@ fn runnable_pair(random: &mut Random) -> Pair {
 fn step_case(random: &mut Random) -> (Vec<u8>, Call) {
     let pair = runnable_pair(random);
     let registers = registers(random);
-    let state = state_for(random, &pair, &registers);
+    let state = state_for(random, &pair, &registers, [0; A0_ELEMENTS]);
     let dictionary = lend_dictionary(random, &pair.dictionary);
     (dictionary, Call::Step { kernel: pair.kernel, registers, state })
 }
@@ -227,10 +321,43 @@ fn step_case(random: &mut Random) -> (Vec<u8>, Call) {
 fn run_case(random: &mut Random) -> (Vec<u8>, Call) {
     let pair = runnable_pair(random);
     let registers = registers(random);
-    let state = state_for(random, &pair, &registers);
+    let state = state_for(random, &pair, &registers, [0; A0_ELEMENTS]);
     let budget = budget(random);
     let dictionary = lend_dictionary(random, &pair.dictionary);
     (dictionary, Call::Run { kernel: pair.kernel, budget, registers, state })
+}
+
+/// A kernel with addresses for running, mostly legal, and registers and state for it.
+fn addressed_run(random: &mut Random, laying: Laying, homes: &Homes) -> (Pair, Vec<u8>, Vec<u8>) {
+    let pair = match random.once_in(6) {
+        true => addresses::any_pair(random, laying, homes),
+        false => addresses::legal_pair(random, laying, homes),
+    };
+    let registers = with_homes(registers(random), homes);
+    let a0 = a0_near(random, homes);
+    let state = state_for(random, &pair, &registers, a0);
+    (pair, registers, state)
+}
+
+fn addressed_step_case(random: &mut Random, laying: Laying, homes: &Homes) -> (Vec<u8>, Call) {
+    let (pair, registers, state) = addressed_run(random, laying, homes);
+    let dictionary = lend_dictionary(random, &pair.dictionary);
+    (dictionary, Call::Step { kernel: pair.kernel, registers, state })
+}
+
+/// Where the run meets a bad address, the budget is often spent just before it, or one step on.
+fn addressed_run_case(random: &mut Random, laying: Laying, homes: &Homes) -> (Vec<u8>, Call) {
+    let (pair, registers, state) = addressed_run(random, laying, homes);
+    let dictionary = lend_dictionary(random, &pair.dictionary);
+    let Pair { kernel, .. } = pair;
+    let (mut file, mut ahead) = (registers.clone(), state.clone());
+    let met = Answer::of(calls::run(&dictionary, &kernel, 3_000, &mut file, &mut ahead));
+    let budget = match random.below(4) {
+        0 if met.number == BAD_ADDRESS => met.count as u64,
+        1 if met.number == BAD_ADDRESS => met.count as u64 + 1,
+        _ => budget(random),
+    };
+    (dictionary, Call::Run { kernel, budget, registers, state })
 }
 
 /// A budget: small, middling, seldom the greatest, at times over the limit.

@@ -30,7 +30,12 @@ pub fn damaged_pair(random: &mut Random, laying: Laying) -> Pair {
 }
 
 fn flipped(random: &mut Random, laying: Laying) -> Pair {
-    let mut pair = legal_pair(random, laying);
+    let pair = legal_pair(random, laying);
+    flip(random, pair)
+}
+
+/// The kernel with a few bits flipped.
+pub fn flip(random: &mut Random, mut pair: Pair) -> Pair {
     if !pair.kernel.is_empty() {
         for _ in 0..random.pick(&[1, 1, 1, 2, 5]) {
             let bit = random.below(8 * pair.kernel.len());
@@ -252,7 +257,7 @@ fn large_group(random: &mut Random, word: LongWord) -> LongWord {
 }
 
 /// Rule 8: an operand that its operation doesn't take.
-fn disobedient(random: &mut Random, word: LongWord) -> LongWord {
+pub fn disobedient(random: &mut Random, word: LongWord) -> LongWord {
     match random.below(7) {
         0 => word.with_field(38, 37, 3).with_field(41, 39, random.bits(2)),
         1 => word.with_field(111, 96, random.bits(16)),
@@ -266,7 +271,7 @@ fn disobedient(random: &mut Random, word: LongWord) -> LongWord {
 
 /// Rule 9: a code without meaning, a row that is too wide, a shape on which the laptops hang, or
 /// a destination without a stride.
-fn undefined_region(random: &mut Random, word: LongWord) -> LongWord {
+pub fn undefined_region(random: &mut Random, word: LongWord) -> LongWord {
     let up = random.pick(&[0, 32]);
     let vertical = |word: LongWord, code: usize| word.with_field(88 + up, 85 + up, code as u32);
     let width = |word: LongWord, code: usize| word.with_field(84 + up, 82 + up, code as u32);
@@ -286,13 +291,13 @@ fn undefined_region(random: &mut Random, word: LongWord) -> LongWord {
 }
 
 /// Rule 10.
-fn misaligned(random: &mut Random, word: LongWord) -> LongWord {
+pub fn misaligned(random: &mut Random, word: LongWord) -> LongWord {
     let low = random.pick(&[48, 64, 96]);
     word.with_field(low + 4, low, random.bits(5))
 }
 
 /// Rule 11: too high or too wide.
-fn overreaching(random: &mut Random, word: LongWord) -> LongWord {
+pub fn overreaching(random: &mut Random, word: LongWord) -> LongWord {
     let low = random.pick(&[53, 69, 101]);
     let up = random.pick(&[0, 32]);
     match random.below(5) {

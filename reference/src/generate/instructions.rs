@@ -89,7 +89,7 @@ fn attempt(random: &mut Random, operation: Operation) -> LongWord {
 
 /// Size, quarter, mask control, predicate, condition and saturation. Quarter and predicate are
 /// more common on cmp, whose flag hangs on them.
-fn controls(random: &mut Random, operation: Operation, size: u32) -> LongWord {
+pub fn controls(random: &mut Random, operation: Operation, size: u32) -> LongWord {
     let seldom = if operation == Operation::Cmp { 2 } else { 3 };
     let mut made = word(operation, 1 << size).with_field(89, 89, random.bits(1));
     if size == 3 && random.once_in(seldom) {
@@ -127,7 +127,7 @@ fn destination(random: &mut Random, made: LongWord, channels: usize) -> LongWord
     let stride = random.pick(&[1, 1, 1, 2, 4]);
     let wanted = made.to_register(0, 0, stride, element);
     let region = Region::of_destination(&wanted.destination()).expect("codes are defined");
-    let stride = if span(&region, channels) < 64 { stride } else { 1 };
+    let stride = if region.span(channels) < 64 { stride } else { 1 };
     let fitted = made.to_register(0, 0, stride, element);
     let region = Region::of_destination(&fitted.destination()).expect("codes are defined");
     let (register, subregister) = lie(random, &region, channels);
@@ -198,7 +198,7 @@ fn source_region(random: &mut Random, element: ElementType, channels: usize) -> 
         };
         let probe = LongWord(0).register_source(0, 0, 0, codes, element);
         let region = Region::of_source(&probe.source(0)).expect("codes are defined");
-        if region.serves(channels) && span(&region, channels) < 64 {
+        if region.serves(channels) && region.span(channels) < 64 {
             return codes;
         }
     }
@@ -206,7 +206,7 @@ fn source_region(random: &mut Random, element: ElementType, channels: usize) -> 
 }
 
 /// One element for all channels.
-const SCALAR: RegionCodes = RegionCodes { vertical: 0, width: 0, horizontal: 0 };
+pub const SCALAR: RegionCodes = RegionCodes { vertical: 0, width: 0, horizontal: 0 };
 
 /// Elements side by side, in rows of a width code. A row of one element has no strides.
 fn contiguous(width: u32) -> RegionCodes {
@@ -216,15 +216,10 @@ fn contiguous(width: u32) -> RegionCodes {
     }
 }
 
-/// How many bytes the last byte lies behind the first.
-fn span(region: &Region, channels: usize) -> usize {
-    region.byte_of(channels - 1) + region.element.size() - 1 - region.start
-}
-
 /// A register and a subregister from which the region fits, often in the first registers and
 /// often as high as it can be.
 fn lie(random: &mut Random, region: &Region, channels: usize) -> (u32, u32) {
-    let span = span(region, channels);
+    let span = region.span(channels);
     let size = region.element.size();
     let highest = (63 - span.min(63)).min(31) / size * size;
     let subregister = match random.below(5) {

@@ -55,16 +55,21 @@ pub fn legal_pair(random: &mut Random, laying: Laying) -> Pair {
     finish(random, &plan, laying)
 }
 
-/// A legal kernel whose jumps all go forward: one that would not goes to the next instruction.
+/// A legal kernel whose jumps all go forward.
 pub fn forward_pair(random: &mut Random, laying: Laying) -> Pair {
     let length = length(random);
     let mut plan = plan(random, length);
+    keep_forward(&mut plan);
+    finish(random, &plan, laying)
+}
+
+/// A jump that would not go forward goes to the next instruction.
+pub fn keep_forward(plan: &mut [Planned]) {
     for (own, planned) in plan.iter_mut().enumerate() {
         if let Planned::Branch { targets, .. } = planned {
             targets.iter_mut().for_each(|target| *target = (*target).max(own + 1));
         }
     }
-    finish(random, &plan, laying)
 }
 
 /// Makes the dictionary for a plan and lays the plan down.

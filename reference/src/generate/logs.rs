@@ -1,6 +1,7 @@
 //! Logs to lend: whole, cut off at any byte, changed in a byte, with old bytes behind them; and
 //! values at and past their limits.
 
+use super::states::{noise, wrong_size};
 use super::{Call, Case};
 use crate::log::{record, Values};
 use crate::random::Random;
@@ -35,7 +36,7 @@ pub fn log_append_case(random: &mut Random) -> (Vec<u8>, Call) {
 /// A run's answer with any offset, and a state of which only place and awake mask are read.
 pub fn log_run_case(random: &mut Random) -> (Vec<u8>, Call) {
     let mut values = values(random);
-    let mut state = random.bytes(STATE_BYTES);
+    let mut state = noise(random, STATE_BYTES);
     let mask = u16::from_le_bytes([state[6], state[7]]);
     values[3] = mask.count_ones() as u64;
     if random.once_in(8) {
@@ -46,7 +47,7 @@ pub fn log_run_case(random: &mut Random) -> (Vec<u8>, Call) {
     state[4..6].copy_from_slice(&(place as u16).to_le_bytes());
     let answer = number & 0xFF | (random.bits(24) as u64) << 8 | steps << 32;
     if random.once_in(12) {
-        state.resize(random.pick(&[0, 41, 43, 58]), 0);
+        state.resize(wrong_size(random), 0);
     }
     let Lent { log, count } = lent(random, &values);
     (Vec::new(), Call::LogRun { log, count, answer, state })

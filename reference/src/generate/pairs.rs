@@ -18,7 +18,11 @@ pub fn pair_case(random: &mut Random) -> (Vec<u8>, Call) {
     match random.below(8) {
         0 => long_refused(random),
         1 => sent_refused(random),
-        _ => related(random),
+        _ => {
+            let length = length(random);
+            let plan = plan(random, length);
+            related(random, plan)
+        }
     }
 }
 
@@ -44,9 +48,7 @@ fn sent_refused(random: &mut Random) -> (Vec<u8>, Call) {
 }
 
 /// A legal long kernel, and its program laid down otherwise, at times changed.
-fn related(random: &mut Random) -> (Vec<u8>, Call) {
-    let length = length(random);
-    let plan = plan(random, length);
+pub fn related(random: &mut Random, plan: Vec<Planned>) -> (Vec<u8>, Call) {
     let laying = if random.once_in(12) { Laying::Mixed } else { Laying::AllLong };
     let pair = finish(random, &plan, laying);
     let sent = match random.below(5) {

@@ -1,9 +1,11 @@
 //! States and register files to lend.
 
+use super::addresses::{Homes, HOMES_REGISTER};
 use super::kernels::Pair;
+use crate::locations::{A0_BYTES, A0_ELEMENTS};
 use crate::machine;
 use crate::random::Random;
-use crate::regions::FILE_BYTES;
+use crate::regions::{FILE_BYTES, REGISTER_BYTES};
 use crate::rules::{read_kernel, Accepts, Program};
 use crate::state::{State, CHANNELS, STATE_BYTES};
 
@@ -22,11 +24,17 @@ fn filling(random: &mut Random, length: usize) -> Vec<u8> {
     }
 }
 
-/// A state to lend for a kernel: fresh, in the middle of a run, made up, or illegal.
-pub fn state_for(random: &mut Random, pair: &Pair, registers: &[u8]) -> Vec<u8> {
+/// A state to lend for a kernel: fresh but for these numbers in a0, in the middle of a run, made
+/// up, or illegal.
+pub fn state_for(
+    random: &mut Random,
+    pair: &Pair,
+    registers: &[u8],
+    a0: [u16; A0_ELEMENTS],
+) -> Vec<u8> {
     let read = read_kernel(&pair.kernel, &pair.dictionary, Accepts::LongAndShort);
     let Ok(program) = read else { return any_bytes(random) };
-    let fresh = State::start(mask(random), flag(random), flag(random));
+    let fresh = State { a0, ..State::start(mask(random), flag(random), flag(random)) };
     let state = match random.below(10) {
         0..=2 => fresh,
         3..=5 if registers.len() == FILE_BYTES => advanced(random, fresh, &program, registers),
@@ -37,6 +45,30 @@ pub fn state_for(random: &mut Random, pair: &Pair, registers: &[u8]) -> Vec<u8> 
         1 if random.once_in(3) => wrong_length(random, &state),
         _ => state.to_bytes().to_vec(),
     }
+}
+
+/// What a0 holds before a run: mostly the homes, at times with one number beside its home or
+/// elsewhere, at times any numbers.
+pub fn a0_near(random: &mut Random, homes: &Homes) -> Homes {
+    let mut a0 = *homes;
+    let element = random.below(A0_ELEMENTS);
+    match random.below(12) {
+        0 => a0[element] ^= 1 << random.below(6),
+        1 => a0[element] = random.bits(16) as u16,
+        2 => a0 = std::array::from_fn(|_| random.bits(16) as u16),
+        3 => a0 = [random.pick(&[0, 512, 4095, 0x7FFF, 0xFFFF]); A0_ELEMENTS],
+        _ => {}
+    }
+    a0
+}
+
+/// The registers with the homes at the front of one of them.
+pub fn with_homes(mut registers: Vec<u8>, homes: &Homes) -> Vec<u8> {
+    let start = HOMES_REGISTER * REGISTER_BYTES;
+    if let Some(front) = registers.get_mut(start..start + A0_BYTES) {
+        front.copy_from_slice(&homes.map(u16::to_le_bytes).concat());
+    }
+    registers
 }
 
 /// A mask: often all channels, at times none.
@@ -118,17 +150,30 @@ fn spoiled(random: &mut Random, state: State, program: &Program) -> State {
     state
 }
 
+/// A length that no state has: of none, of one without a0, a byte less, a byte more.
+pub fn wrong_size(random: &mut Random) -> usize {
+    random.pick(&[0, STATE_BYTES - A0_BYTES, STATE_BYTES - 1, STATE_BYTES + 1])
+}
+
 fn wrong_length(random: &mut Random, state: &State) -> Vec<u8> {
     let mut bytes = state.to_bytes().to_vec();
-    bytes.resize(random.pick(&[0, 41, 43, 64]), 0);
+    bytes.resize(wrong_size(random), 0);
+    bytes
+}
+
+/// So many random bytes for a state, those of a0 from a stream of their own.
+pub fn noise(random: &mut Random, length: usize) -> Vec<u8> {
+    let mut aside = random.beside(0xA0);
+    let mut bytes = random.bytes(length.min(STATE_BYTES - A0_BYTES));
+    bytes.extend(aside.bytes(length - bytes.len()));
     bytes
 }
 
 /// Bytes for a state that won't be read, or a fresh state.
 fn any_bytes(random: &mut Random) -> Vec<u8> {
     match random.below(10) {
-        0 => random.bytes(STATE_BYTES - 1),
-        1..=3 => random.bytes(STATE_BYTES),
+        0 => noise(random, STATE_BYTES - 1),
+        1..=3 => noise(random, STATE_BYTES),
         _ => State::start(mask(random), 0, 0xFFFF).to_bytes().to_vec(),
     }
 }

@@ -1,15 +1,17 @@
-//! What a run works on: registers, flags and channels, the waiting ones by where they wait.
+//! What a run works on: registers, flags, a0 and channels, the waiting ones by where they wait.
 
 use crate::channels::Registers;
-use crate::decoded::{number_of, Predicate, Vote};
+use crate::decoded::{number_of, Origin, Predicate, Vote};
+use crate::locations::A0_ELEMENTS;
 use crate::rules::Program;
 use crate::state::{State, CHANNELS};
 
-/// Registers, flags and channels during a run. A channel is in the awake mask, in one waiting
+/// Registers, flags, a0 and channels during a run. A channel is in the awake mask, in one waiting
 /// mask, or off.
 pub struct Machine<'a> {
     pub registers: &'a mut Registers,
     pub flags: [u16; 2],
+    pub a0: [u16; A0_ELEMENTS],
     pub awake: u16,
     /// The channels that wait at each instruction number, the end being the last.
     waiting_at: Vec<u16>,
@@ -27,7 +29,8 @@ impl Machine<'_> {
             let place = state.waiting_places[channel] as usize;
             waiting_at[number_of(program, place) as usize] |= 1 << channel;
         }
-        let machine = Machine { registers, flags: state.flags, awake: state.awake, waiting_at };
+        let State { flags, a0, awake, .. } = *state;
+        let machine = Machine { registers, flags, a0, awake, waiting_at };
         (machine, number_of(program, state.place as usize) as usize)
     }
 
@@ -35,12 +38,23 @@ impl Machine<'_> {
     pub fn end(&self, program: &Program, number: usize) -> State {
         let mut state = State::start(self.awake, self.flags[0], self.flags[1]);
         state.place = program.place_of(number) as u16;
+        state.a0 = self.a0;
         for (number, &channels) in self.waiting_at.iter().enumerate().filter(|(_, &at)| at != 0) {
             for channel in (0..CHANNELS).filter(|channel| (channels >> channel) & 1 == 1) {
                 state.put_to_wait(channel, program.place_of(number));
             }
         }
         state
+    }
+
+    /// Where an operand begins now: a byte of the register file, or an element of a0.
+    #[inline]
+    pub fn start(&self, origin: &Origin) -> usize {
+        match origin {
+            Origin::Register(start) => *start as usize,
+            Origin::Address(address) => address.start(&self.a0) as usize,
+            Origin::A0(first) => *first as usize,
+        }
     }
 
     /// Wakes the channels that wait at an instruction number.

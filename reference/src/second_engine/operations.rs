@@ -100,8 +100,8 @@ impl<const N: usize, L: Lane> Work<N, L> {
         Box::new(move |machine| {
             let enabled = self.awake(machine) & self.holding(machine);
             if enabled != 0 {
-                let results = self.sources[0].values(machine.registers).map(&operation);
-                self.target.write(machine.registers, results, enabled);
+                let results = self.sources[0].values(machine).map(&operation);
+                self.target.write(machine, results, enabled);
             }
             self.next
         })
@@ -112,10 +112,10 @@ impl<const N: usize, L: Lane> Work<N, L> {
         Box::new(move |machine| {
             let enabled = self.awake(machine) & self.holding(machine);
             if enabled != 0 {
-                let left = self.sources[0].values(machine.registers);
-                let right = self.sources[1].values(machine.registers);
+                let left = self.sources[0].values(machine);
+                let right = self.sources[1].values(machine);
                 let results = std::array::from_fn(|n| operation(left[n], right[n]));
-                self.target.write(machine.registers, results, enabled);
+                self.target.write(machine, results, enabled);
             }
             self.next
         })
@@ -127,10 +127,10 @@ impl<const N: usize, L: Lane> Work<N, L> {
             let enabled = self.awake(machine);
             if enabled != 0 {
                 let holding = self.holding(machine);
-                let left = self.sources[0].values(machine.registers);
-                let right = self.sources[1].values(machine.registers);
+                let left = self.sources[0].values(machine);
+                let right = self.sources[1].values(machine);
                 let choose = |n| if (holding >> n) & 1 == 1 { left[n] } else { right[n] };
-                self.target.write(machine.registers, std::array::from_fn(choose), enabled);
+                self.target.write(machine, std::array::from_fn(choose), enabled);
             }
             self.next
         })
@@ -140,13 +140,13 @@ impl<const N: usize, L: Lane> Work<N, L> {
     fn compare(self, condition: impl Fn(L, L) -> bool + 'static) -> Step {
         Box::new(move |machine| {
             let enabled = self.awake(machine) & self.holding(machine);
-            let left = self.sources[0].values(machine.registers);
-            let right = self.sources[1].values(machine.registers);
+            let left = self.sources[0].values(machine);
+            let right = self.sources[1].values(machine);
             let found: [bool; N] = std::array::from_fn(|n| condition(left[n], right[n]));
             let bits = (0..N).fold(0, |bits, n| bits | (found[n] as u16) << n) & enabled;
             let kept = machine.flags[self.flag] & !(enabled << self.first_channel);
             machine.flags[self.flag] = kept | bits << self.first_channel;
-            self.target.write(machine.registers, found.map(|bit| L::of(bit as i64)), enabled);
+            self.target.write(machine, found.map(|bit| L::of(bit as i64)), enabled);
             self.next
         })
     }

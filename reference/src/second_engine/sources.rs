@@ -1,11 +1,13 @@
 //! Reading a source into lanes.
 
 use super::lanes::{Element, Lane};
+use super::machine::Machine;
 use crate::channels::Registers;
-use crate::decoded::{self, Layout, Modifier};
+use crate::decoded::{self, Layout, Modifier, Origin};
 use crate::operations::ElementType;
 
-type Load<const N: usize, L> = fn(&Source<N, L>, &Registers) -> [L; N];
+/// Reads a source whose first element lies at this byte.
+type Load<const N: usize, L> = fn(&Source<N, L>, &Machine, usize) -> [L; N];
 type Modify<const N: usize, L> = Option<fn([L; N]) -> [L; N]>;
 
 /// A source of `N` channels with the functions that read it.
@@ -14,45 +16,42 @@ pub struct Source<const N: usize, L> {
     modify: Modify<N, L>,
     /// The value of an immediate.
     value: L,
-    /// The first byte of each channel's element.
+    origin: Origin,
+    /// How many bytes each channel's element lies behind the first.
     offsets: [u16; N],
 }
 
 impl<const N: usize, L: Lane> Source<N, L> {
     pub fn of(source: &decoded::Source) -> Source<N, L> {
         match source {
-            decoded::Source::Immediate(value) => {
-                Source { load: immediate, modify: None, value: L::of(*value), offsets: [0; N] }
-            }
-            decoded::Source::Elements { layout, element, modifier } => Source {
-                load: load_of(*element, layout),
+            decoded::Source::Immediate(value) => Source {
+                load: immediate,
+                modify: None,
+                value: L::of(*value),
+                origin: Origin::Register(0),
+                offsets: [0; N],
+            },
+            decoded::Source::Elements { origin, layout, element, modifier } => Source {
+                load: match origin {
+                    Origin::A0(_) => of_a0,
+                    _ => load_of(*element, layout),
+                },
                 modify: modify_of(*element, *modifier),
                 value: L::of(0),
-                offsets: std::array::from_fn(|n| offset(layout, *element, n) as u16),
+                origin: *origin,
+                offsets: std::array::from_fn(|n| layout.distance(n, element.size()) as u16),
             },
         }
     }
 
     /// The values of the source's channels.
     #[inline]
-    pub fn values(&self, registers: &Registers) -> [L; N] {
-        let values = (self.load)(self, registers);
+    pub fn values(&self, machine: &Machine) -> [L; N] {
+        let start = machine.start(&self.origin);
+        let values = (self.load)(self, machine, start);
         match self.modify {
             Some(modify) => modify(values),
             None => values,
-        }
-    }
-}
-
-/// The first byte of channel n's element.
-fn offset(layout: &Layout, element: ElementType, n: usize) -> usize {
-    match *layout {
-        Layout::Single { start } => start,
-        Layout::Packed { start } => start + n * element.size(),
-        Layout::Rows { start, row_step, column_step, width_shift } => {
-            let row = n >> width_shift;
-            let column = n - (row << width_shift);
-            start + row * row_step + column * column_step
         }
     }
 }
@@ -70,45 +69,55 @@ fn load_of<const N: usize, L: Lane>(element: ElementType, layout: &Layout) -> Lo
 
 fn load_of_element<E: Element, const N: usize, L: Lane>(layout: &Layout) -> Load<N, L> {
     match layout {
-        Layout::Single { .. } => single::<E, N, L>,
-        Layout::Packed { .. } => side_by_side::<E, N, L>,
+        Layout::Single => single::<E, N, L>,
+        Layout::Packed => side_by_side::<E, N, L>,
         Layout::Rows { .. } => here_and_there::<E, N, L>,
     }
 }
 
-fn immediate<const N: usize, L: Lane>(source: &Source<N, L>, _: &Registers) -> [L; N] {
+fn immediate<const N: usize, L: Lane>(source: &Source<N, L>, _: &Machine, _: usize) -> [L; N] {
     [source.value; N]
+}
+
+/// Elements of a0, which are uw. The start is one of them, too.
+fn of_a0<const N: usize, L: Lane>(
+    source: &Source<N, L>,
+    machine: &Machine,
+    start: usize,
+) -> [L; N] {
+    source.offsets.map(|offset| L::of(machine.a0[start + offset as usize / 2] as i64))
 }
 
 /// One element for all channels.
 fn single<E: Element, const N: usize, L: Lane>(
-    source: &Source<N, L>,
-    registers: &Registers,
+    _: &Source<N, L>,
+    machine: &Machine,
+    start: usize,
 ) -> [L; N] {
-    [element_at::<E, L>(registers, source.offsets[0]); N]
+    [element_at::<E, L>(machine.registers, start); N]
 }
 
 /// Elements that lie side by side.
 fn side_by_side<E: Element, const N: usize, L: Lane>(
-    source: &Source<N, L>,
-    registers: &Registers,
+    _: &Source<N, L>,
+    machine: &Machine,
+    start: usize,
 ) -> [L; N] {
-    let start = source.offsets[0] as usize;
-    let bytes = &registers[start..start + N * E::SIZE];
+    let bytes = &machine.registers[start..start + N * E::SIZE];
     std::array::from_fn(|n| L::of(E::value(&bytes[n * E::SIZE..(n + 1) * E::SIZE])))
 }
 
 /// Elements that lie anywhere.
 fn here_and_there<E: Element, const N: usize, L: Lane>(
     source: &Source<N, L>,
-    registers: &Registers,
+    machine: &Machine,
+    start: usize,
 ) -> [L; N] {
-    source.offsets.map(|offset| element_at::<E, L>(registers, offset))
+    source.offsets.map(|offset| element_at::<E, L>(machine.registers, start + offset as usize))
 }
 
 #[inline]
-fn element_at<E: Element, L: Lane>(registers: &Registers, offset: u16) -> L {
-    let start = offset as usize;
+fn element_at<E: Element, L: Lane>(registers: &Registers, start: usize) -> L {
     L::of(E::value(&registers[start..start + E::SIZE]))
 }
 

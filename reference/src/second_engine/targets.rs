@@ -1,28 +1,32 @@
 //! Writing results to a destination.
 
 use super::lanes::{Element, Lane};
-use crate::channels::Registers;
-use crate::decoded::Destination;
+use super::machine::Machine;
+use crate::decoded::{Destination, Origin};
 use crate::operations::ElementType;
 
 /// A destination of `N` channels with the function that writes it.
 pub struct Target<const N: usize, L> {
     store: Store<N, L>,
-    start: usize,
+    origin: Origin,
     /// Bytes from one element to the next.
     step: usize,
 }
 
-type Store<const N: usize, L> = fn(&Target<N, L>, &mut Registers, [L; N], u16);
+/// Writes the enabled ones of the results, the first where the destination begins.
+type Store<const N: usize, L> = fn(&Target<N, L>, &mut Machine, usize, [L; N], u16);
 
 impl<const N: usize, L: Lane> Target<N, L> {
     /// The target of a destination, none being null.
     pub fn of(destination: &Option<Destination>) -> Target<N, L> {
         match destination {
-            None => Target { store: |_, _, _, _| (), start: 0, step: 0 },
+            None => Target { store: |_, _, _, _, _| (), origin: Origin::Register(0), step: 0 },
             Some(destination) => Target {
-                store: store_of(destination),
-                start: destination.start,
+                store: match destination.origin {
+                    Origin::A0(_) => store_of_a0(destination),
+                    _ => store_of(destination),
+                },
+                origin: destination.origin,
                 step: destination.step,
             },
         }
@@ -30,8 +34,35 @@ impl<const N: usize, L: Lane> Target<N, L> {
 
     /// Writes the enabled ones of the results.
     #[inline]
-    pub fn write(&self, registers: &mut Registers, results: [L; N], enabled: u16) {
-        (self.store)(self, registers, results, enabled)
+    pub fn write(&self, machine: &mut Machine, results: [L; N], enabled: u16) {
+        let start = machine.start(&self.origin);
+        (self.store)(self, machine, start, results, enabled)
+    }
+}
+
+/// The function that writes a0, whose elements are uw.
+fn store_of_a0<const N: usize, L: Lane>(destination: &Destination) -> Store<N, L> {
+    match destination.saturates {
+        false => in_a0,
+        true => |target, machine, start, results, enabled| {
+            in_a0(target, machine, start, clamped::<u16, N, L>(results), enabled)
+        },
+    }
+}
+
+/// Elements of a0, from one on.
+fn in_a0<const N: usize, L: Lane>(
+    target: &Target<N, L>,
+    machine: &mut Machine,
+    start: usize,
+    results: [L; N],
+    enabled: u16,
+) {
+    for (n, value) in results.into_iter().enumerate() {
+        if (enabled >> n) & 1 == 1 {
+            let value: i64 = value.into();
+            machine.a0[start + n * target.step / 2] = value as u16;
+        }
     }
 }
 
@@ -50,11 +81,11 @@ fn store_of_element<E: Element, const N: usize, L: Lane>(destination: &Destinati
     match (destination.step == E::SIZE, destination.saturates) {
         (true, false) => side_by_side::<E, N, L>,
         (false, false) => here_and_there::<E, N, L>,
-        (true, true) => |target, registers, results, enabled| {
-            side_by_side::<E, N, L>(target, registers, clamped::<E, N, L>(results), enabled)
+        (true, true) => |target, machine, start, results, enabled| {
+            side_by_side::<E, N, L>(target, machine, start, clamped::<E, N, L>(results), enabled)
         },
-        (false, true) => |target, registers, results, enabled| {
-            here_and_there::<E, N, L>(target, registers, clamped::<E, N, L>(results), enabled)
+        (false, true) => |target, machine, start, results, enabled| {
+            here_and_there::<E, N, L>(target, machine, start, clamped::<E, N, L>(results), enabled)
         },
     }
 }
@@ -69,14 +100,15 @@ fn clamped<E: Element, const N: usize, L: Lane>(results: [L; N]) -> [L; N] {
 /// Elements that lie side by side, each modulo its type's width.
 fn side_by_side<E: Element, const N: usize, L: Lane>(
     target: &Target<N, L>,
-    registers: &mut Registers,
+    machine: &mut Machine,
+    start: usize,
     results: [L; N],
     enabled: u16,
 ) {
     if enabled != u16::MAX >> (16 - N) {
-        return here_and_there::<E, N, L>(target, registers, results, enabled);
+        return here_and_there::<E, N, L>(target, machine, start, results, enabled);
     }
-    let bytes = &mut registers[target.start..target.start + N * E::SIZE];
+    let bytes = &mut machine.registers[start..start + N * E::SIZE];
     for (bytes, value) in bytes.chunks_exact_mut(E::SIZE).zip(results) {
         E::put(value.into(), bytes);
     }
@@ -85,14 +117,15 @@ fn side_by_side<E: Element, const N: usize, L: Lane>(
 /// Elements that lie apart or are not all enabled, each modulo its type's width.
 fn here_and_there<E: Element, const N: usize, L: Lane>(
     target: &Target<N, L>,
-    registers: &mut Registers,
+    machine: &mut Machine,
+    start: usize,
     results: [L; N],
     enabled: u16,
 ) {
     for (n, value) in results.into_iter().enumerate() {
         if (enabled >> n) & 1 == 1 {
-            let start = target.start + n * target.step;
-            E::put(value.into(), &mut registers[start..start + E::SIZE]);
+            let start = start + n * target.step;
+            E::put(value.into(), &mut machine.registers[start..start + E::SIZE]);
         }
     }
 }

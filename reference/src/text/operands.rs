@@ -1,14 +1,18 @@
-//! The operands of a line: destination, register sources and immediates. Each function
-//! refuses what a word has no code or no room for.
+//! The operands of a line: destination, sources in registers, by address or in a0, and immediates.
+//! Each function refuses what a word has no code or no room for.
 
 use super::{listed, whole_number, Fault};
 use crate::assemble::{region, RegionCodes, STRIDES, VERTICAL_STRIDES, WIDTHS};
+use crate::locations::A0_ELEMENTS;
 use crate::operations::{ElementType, Operation, TYPES};
 use crate::regions::REGISTER_BYTES;
 use crate::words::LongWord;
 
 /// The greatest register that a word can name. The bench has fewer, and refuses the others.
 const LAST_REGISTER: u32 = 255;
+
+/// The greatest number of bytes that a word can add to an address; it can take off one more.
+const LAST_ADDED: u32 = 511;
 
 /// What may stand before a register source, in the order of the codes.
 const MODIFIERS: [&str; 4] = ["", "|", "-", "-|"];
@@ -47,8 +51,11 @@ fn destination(word: LongWord, text: &str) -> Result<LongWord, Fault> {
     let (place, stride) = bracketed(place)
         .ok_or_else(|| format!("{text} is no destination, such as r4<1>:w or null:w"))?;
     let stride = listed("destination stride", stride, &STRIDES)?;
-    let (register, subregister) = register(place, element)?;
-    Ok(word.to_register(register, subregister, stride, element))
+    Ok(match origin(place, element)? {
+        Origin::Register(register, byte) => word.to_register(register, byte, stride, element),
+        Origin::A0(byte) => word.to_a0(byte, stride, element),
+        Origin::Address(address) => word.to_address(address, stride, element),
+    })
 }
 
 fn source(word: LongWord, which: usize, text: &str, last: bool) -> Result<LongWord, Fault> {
@@ -72,9 +79,61 @@ fn register_source(
     let (place, codes) = bracketed(bare)
         .ok_or_else(|| format!("{text} is no source, such as r4<8;8,1> or a number"))?;
     let codes = region_codes(codes)?;
-    let (register, subregister) = register(place, element)?;
-    let word = word.register_source(which, register, subregister, codes, element);
+    let word = match origin(place, element)? {
+        Origin::Register(register, byte) => {
+            word.register_source(which, register, byte, codes, element)
+        }
+        Origin::A0(byte) => word.a0_source(which, byte, codes, element),
+        Origin::Address(address) => word.address_source(which, address, codes, element),
+    };
     Ok(word.modified(which, modifier))
+}
+
+/// Where an operand begins.
+enum Origin {
+    /// At a byte of a register.
+    Register(u32, u32),
+    /// At a byte of a0.
+    A0(u32),
+    /// Where an element of a0 says, and so many bytes on.
+    Address((u32, i32)),
+}
+
+fn origin(place: &str, element: ElementType) -> Result<Origin, Fault> {
+    if let Some(inner) = place.strip_prefix("r[").and_then(|rest| rest.strip_suffix(']')) {
+        return Ok(Origin::Address(address(inner)?));
+    }
+    let (name, number) = place.split_once('.').unwrap_or((place, "0"));
+    if name == "a0" {
+        return Ok(Origin::A0(subregister(number, element)?));
+    }
+    let bare = name.strip_prefix('r').ok_or_else(|| format!("{place} is no register"))?;
+    let register = up_to("register", bare, LAST_REGISTER)?;
+    Ok(Origin::Register(register, subregister(number, element)?))
+}
+
+/// A subregister in bytes, told in elements of a type.
+fn subregister(number: &str, element: ElementType) -> Result<u32, Fault> {
+    let size = element.size() as u32;
+    let last = REGISTER_BYTES as u32 / size - 1;
+    Ok(size * up_to("subregister", number, last)?)
+}
+
+/// An element of a0, and how many bytes are added to it.
+fn address(text: &str) -> Result<(u32, i32), Fault> {
+    let sign = text.find(['+', '-']).unwrap_or(text.len());
+    let (name, added) = text.split_at(sign);
+    let bare = name.trim().strip_prefix("a0");
+    let bare = bare.filter(|bare| bare.is_empty() || bare.starts_with('.'));
+    let bare = bare.ok_or_else(|| format!("[{text}] is no address, such as [a0.2 + 12]"))?;
+    let number = bare.strip_prefix('.').unwrap_or("0");
+    let element = up_to("address element", number, A0_ELEMENTS as u32 - 1)?;
+    let added = match added.split_at_checked(1) {
+        Some(("-", digits)) => -(up_to("address offset", digits.trim(), LAST_ADDED + 1)? as i32),
+        Some((_, digits)) => up_to("address offset", digits.trim(), LAST_ADDED)? as i32,
+        None => 0,
+    };
+    Ok((element, added))
 }
 
 /// The code of the modifier before a register, and the register.
@@ -97,16 +156,6 @@ fn region_codes(text: &str) -> Result<RegionCodes, Fault> {
         listed("width", width, &WIDTHS)?,
         listed("horizontal stride", horizontal, &STRIDES)?,
     ))
-}
-
-/// A register and its subregister in bytes.
-fn register(place: &str, element: ElementType) -> Result<(u32, u32), Fault> {
-    let bare = place.strip_prefix('r').ok_or_else(|| format!("{place} is no register"))?;
-    let (register, subregister) = bare.split_once('.').unwrap_or((bare, "0"));
-    let register = up_to("register", register, LAST_REGISTER)?;
-    let size = element.size() as u32;
-    let last = REGISTER_BYTES as u32 / size - 1;
-    Ok((register, size * up_to("subregister", subregister, last)?))
 }
 
 /// A number that is no greater than the last one allowed.

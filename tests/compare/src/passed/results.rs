@@ -217,9 +217,9 @@ fn runs_differ((stored, given): (&Run, &Run)) -> Option<String> {
     of_pair(0).or_else(|| of_pair(1))
 }
 
-/// The pair's runs are alike: answer, registers, flags and masks; only the places may differ.
+/// The pair's runs are alike: answer, registers, flags, masks and a0; only the places may differ.
 pub fn alike(run: &Run) -> bool {
     let [long, packed] = &run.ran;
-    let told = |ran: &Ran| [&ran.state[..4], &ran.state[6..10]].concat();
+    let told = |ran: &Ran| [&ran.state[..4], &ran.state[6..10], &ran.state[42..]].concat();
     long.answer == packed.answer && long.digest == packed.digest && told(long) == told(packed)
 }

@@ -17,6 +17,9 @@ pub type Fault = String;
 const SAME: &str = "=";
 /// Stands for no bytes.
 const NONE: &str = "-";
+/// Bytes of a state when the file was first stored, before it had a0 behind them. The kernels of
+/// that day use no a0, which starts as zero and so stays zero.
+const STORED_STATE_BYTES: usize = 42;
 
 /// The remarks at a file's front.
 pub fn remarks(text: &str) -> String {
@@ -159,10 +162,10 @@ impl Line<'_> {
         bytes.ok_or_else(|| self.fault(&format!("{text} is no bytes")))
     }
 
-    /// A field that is a state without the zeros at its end.
+    /// A field that is a state without the zeros at its end, those of a0 among them.
     fn state(&self, field: usize) -> Result<Vec<u8>, Fault> {
         let mut bytes = if self.fields[field] == NONE { Vec::new() } else { self.bytes(field)? };
-        if bytes.len() > STATE_BYTES {
+        if bytes.len() > STORED_STATE_BYTES {
             return Err(self.fault("a state is too long"));
         }
         bytes.resize(STATE_BYTES, 0);

@@ -1,17 +1,27 @@
 -- The masks, results, registers and flags that are made are those of which the effect consists (`Executed`). Assumes nothing.
-use Rattle.laws.specs.Regions.{LegalPlain, legal-plain}
+use lib.ListN.{length}
+use Rattle.paper.specs.Word.{src0, dstIsA0, srcIsA0}
+use Rattle.paper.specs.Legal.{bytesIn}
+use Rattle.laws.specs.Sources.{first-source}
 use Rattle.words.specs.Words.{toWord}
 use Rattle.words.specs.Operations.{plainIs}
-use Rattle.execute.specs.Readable.{legal-writable}
-use Rattle.execute.proofs.Executed.{Made, registers-made, flag0-made, flag1-made, flags-less}
-use mathlib.Core.Path.{refl}
+use Rattle.execute.specs.Readable.{Acting, not-destination, not-source, legal-writable}
+use Rattle.execute.proofs.Executed.{Made, direct-registers, direct-flags, direct-less}
+use mathlib.Core.Path.{_≡_, refl, sym, ap, _∙_}
 use borrow.Author.Needs.{needs}
 use Rattle.execute.proofs.many.execute_many.Statement.{statement}
 use Rattle.execute.proofs.many.execute_many.Tie as tie
 
--- The word is legal.
-legal : (s : tie.Start) → LegalPlain (plainIs (s .args .p)) (toWord (s .args .w))
-legal s = legal-plain (plainIs (s .args .p)) (toWord (s .args .w)) (s .pre .0 .0) (s .pre .0 .1)
+-- The word can be executed.
+legal : (s : tie.Start) → Acting (plainIs (s .args .p)) (toWord (s .args .w))
+legal s = s .pre .0 .0
+
+-- What it reads and what it writes are registers.
+reads : (s : tie.Start) → length (s .args .registers .now) ≡ bytesIn (srcIsA0 src0 (toWord (s .args .w)))
+reads s = let p = plainIs (s .args .p) in s .pre .1 .0 ∙ ap bytesIn (sym (not-source p (toWord (s .args .w)) (s .pre .0 .1) src0 (first-source p)))
+
+writes : (s : tie.Start) → length (s .args .registers .now) ≡ bytesIn (dstIsA0 (toWord (s .args .w)))
+writes s = s .pre .1 .0 ∙ ap bytesIn (sym (not-destination (plainIs (s .args .p)) (toWord (s .args .w)) (s .pre .0 .1)))
 
 -- Where the call started.
 abbrev start : tie.After-flags-after → tie.Start
@@ -46,7 +56,7 @@ quarter-mask-requires c κs = search needs
 results-requires : tie.Need-results-requires
 results-requires c κs =
     let s = c .before .before .before .before .before .before .before in
-    (legal s, s .pre .1 .0, refl)
+    (legal s, reads s, refl)
 
 quarter-mask-requires-2 : tie.Need-quarter-mask-requires-2
 quarter-mask-requires-2 c κs = search needs
@@ -54,7 +64,7 @@ quarter-mask-requires-2 c κs = search needs
 write-requires : tie.Need-write-requires
 write-requires c κs =
     let s = c .before .before .before .before .before .before .before .before .before .before .before in
-    (legal-writable (plainIs (s .args .p)) (toWord (s .args .w)) (legal s), s .pre .1 .0)
+    (legal-writable (plainIs (s .args .p)) (toWord (s .args .w)) (legal s), writes s)
 
 flags-after-requires : tie.Need-flags-after-requires
 flags-after-requires c κs = legal (c .before .before .before .before .before .before .before .before .before .before .before .before .before .before .before)
@@ -68,10 +78,10 @@ returns c =
     let p = plainIs (s .args .p) in
     let w = toWord (s .args .w) in
     let registers = s .args .registers .now in (
-      registers-made p w (s .args .awake) registers (s .args .flags) _ _ _ _ _ _ (s .pre .0 .0) (legal s) (made c) _ (c .before .before .before .before .write .ensures),
+      direct-registers p w (s .args .awake) registers (s .args .flags) _ _ _ _ _ _ (legal s) (s .pre .0 .1) (made c) _ (c .before .before .before .before .write .ensures),
       (
-        (flag0-made p w (s .args .awake) registers (s .args .flags) _ _ _ _ _ _ (s .pre .0 .0) (legal s) (made c) _ (c .flags-after .ensures), flag1-made p w (s .args .awake) registers (s .args .flags) _ _ _ _ _ _ (s .pre .0 .0) (legal s) (made c) _ (c .flags-after .ensures)),
-        flags-less p w (s .args .awake) registers (s .args .flags) _ _ _ _ _ _ (s .pre .0 .0) (legal s) (made c) _ (c .flags-after .ensures) (s .pre .1 .0) (s .pre .1 .2) (s .pre .1 .3),
+        direct-flags p w (s .args .awake) registers (s .args .flags) _ _ _ _ _ _ (legal s) (s .pre .0 .1) (made c) _ (c .flags-after .ensures),
+        direct-less p w (s .args .awake) registers (s .args .flags) _ _ _ _ _ _ (legal s) (s .pre .0 .1) (made c) _ (c .flags-after .ensures) (s .pre .1 .0) (s .pre .1 .2) (s .pre .1 .3),
       ),
     )
 

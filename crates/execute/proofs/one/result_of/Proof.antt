@@ -5,7 +5,7 @@ use lib.Dec.{lit<}
 use borrow.Author.Tests.{eq-eqb, ne-eqb}
 use Rattle.paper.specs.Word.{src0, dstType}
 use Rattle.words.specs.Operations.{plainIs}
-use Rattle.words.specs.Traits.{first-source}
+use Rattle.laws.specs.Sources.{first-source}
 use Rattle.words.specs.Words.{toWord}
 use Rattle.execute.specs.Readable.{legal-type, legal-readable}
 use Rattle.execute.specs.Results.{read-operands, kept-stays, kept-clamped}

@@ -1,10 +1,11 @@
 -- Where src1 is not read, what stands for 0 is near. Assumes nothing.
-use mathlib.Core.Path.{refl, sym, _∙_}
+use mathlib.Core.Path.{refl, sym, _∙_, ap}
 use Rattle.paper.specs.Word.{src1}
+use Rattle.paper.specs.Legal.{bytesIn}
 use Rattle.words.specs.Operations.{plainIs}
-use Rattle.words.specs.Traits.{second-source}
+use Rattle.laws.specs.Sources.{second-source}
 use Rattle.words.specs.Words.{toWord}
-use Rattle.execute.specs.Readable.{legal-readable}
+use Rattle.execute.specs.Readable.{one-file, legal-readable}
 use Rattle.execute.specs.Results.{second-read, second-none}
 use Rattle.execute.specs.Single.{zero-near}
 use borrow.Author.Needs.{needs}
@@ -18,7 +19,8 @@ second-number-requires : tie.Need-second-number-requires
 second-number-requires c κs =
     let s = c .before .before .before in
     let p = plainIs (s .args .p) in
-    (legal-readable p (toWord (s .args .w)) (s .pre .0) src1 (second-source p (sym (c .before .reads-two .ensures) ∙ c .if1 .taken)), s .pre .1)
+    let two = sym (c .before .reads-two .ensures) ∙ c .if1 .taken in
+    (legal-readable p (toWord (s .args .w)) (s .pre .0) src1 (second-source p two), s .pre .1 ∙ ap bytesIn (sym (one-file p (toWord (s .args .w)) (s .pre .0) two)))
 
 returns : tie.Need-returns
 returns c = second-read _ _ _ _ _ _ (sym (c .before .before .reads-two .ensures) ∙ c .before .if1 .taken) (c .second-number .ensures)

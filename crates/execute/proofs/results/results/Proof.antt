@@ -4,7 +4,7 @@ use Prim.Native.Nat.{ℕ}
 use lib.Dec.{eqb}
 use Rattle.paper.specs.Word.{src0}
 use Rattle.words.specs.Operations.{plainIs}
-use Rattle.words.specs.Traits.{first-source}
+use Rattle.laws.specs.Sources.{first-source}
 use Rattle.words.specs.Words.{toWord}
 use Rattle.execute.specs.Readable.{legal-count, legal-type, legal-readable}
 use Rattle.execute.specs.Results.{zeros-near, read-sixteen, read-operands, combined-sixteen, results-made}

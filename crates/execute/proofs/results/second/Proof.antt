@@ -1,10 +1,11 @@
 -- Where src1 is not read, the zeros that were there are near. Assumes nothing.
-use mathlib.Core.Path.{sym, _∙_}
+use mathlib.Core.Path.{sym, _∙_, ap}
 use Rattle.paper.specs.Word.{src1}
+use Rattle.paper.specs.Legal.{bytesIn}
 use Rattle.words.specs.Operations.{plainIs}
-use Rattle.words.specs.Traits.{second-source}
+use Rattle.laws.specs.Sources.{second-source}
 use Rattle.words.specs.Words.{toWord}
-use Rattle.execute.specs.Readable.{legal-readable}
+use Rattle.execute.specs.Readable.{one-file, legal-readable}
 use Rattle.execute.specs.Results.{second-read, second-none}
 use borrow.Author.Needs.{needs}
 use Rattle.execute.proofs.results.second.Statement.{statement}
@@ -18,7 +19,7 @@ second-operand-requires c κs =
     let s = c .before .before .before .before in
     let p = plainIs (s .args .p) in
     let two = sym (c .before .before .reads-two .ensures) ∙ c .before .if1 .taken in
-    (legal-readable p (toWord (s .args .w)) (s .pre .0 .0) src1 (second-source p two), s .pre .0 .1, s .pre .0 .2, s .pre .0 .3)
+    (legal-readable p (toWord (s .args .w)) (s .pre .0 .0) src1 (second-source p two), s .pre .0 .1, s .pre .0 .2 ∙ ap bytesIn (sym (one-file p (toWord (s .args .w)) (s .pre .0 .0) two)), s .pre .0 .3)
 
 returns : tie.Need-returns
 returns c = second-read _ _ _ _ _ _ (sym (c .before .before .before .reads-two .ensures) ∙ c .before .before .if1 .taken) (c .second-operand .ensures)

@@ -21,4 +21,5 @@ unfolding tooFar
 returns c = cc
 
 pub too-far-spec : {M : Type 1} → statement M
-too-far-spec = tie.close (tie.spec add-byte-before byte-before-requires add-either either-requires returns)
+too-far-spec =
+    tie.close (tie.spec add-byte-before byte-before-requires add-either either-requires returns)

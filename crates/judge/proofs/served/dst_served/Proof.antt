@@ -7,8 +7,14 @@ use Rattle.judge.proofs.served.dst_served.Tie as tie
 dst-addr-mode-requires : tie.Need-dst-addr-mode-requires
 dst-addr-mode-requires c κs = search needs
 
-dst-type-requires : tie.Need-dst-type-requires
-dst-type-requires c κs = search needs
+is-null-requires : tie.Need-is-null-requires
+is-null-requires c κs = search needs
+
+dst-is-a0-requires : tie.Need-dst-is-a0-requires
+dst-is-a0-requires c κs = search needs
+
+either-requires : tie.Need-either-requires
+either-requires c κs = search needs
 
 both-requires : tie.Need-both-requires
 both-requires c κs = search needs
@@ -16,28 +22,30 @@ both-requires c κs = search needs
 dst-file-requires : tie.Need-dst-file-requires
 dst-file-requires c κs = search needs
 
-is-null-requires : tie.Need-is-null-requires
-is-null-requires c κs = search needs
+either-requires-2 : tie.Need-either-requires-2
+either-requires-2 c κs = search needs
 
-either-requires : tie.Need-either-requires
-either-requires c κs = search needs
+dst-type-requires : tie.Need-dst-type-requires
+dst-type-requires c κs = search needs
 
 both-requires-2 : tie.Need-both-requires-2
 both-requires-2 c κs = search needs
 
 returns : tie.Need-returns
 unfolding dstServed
-returns c = rw (c .both2 .ensures, c .before .either .ensures, c .before .before .is-null .ensures, c .before .before .before .dst-file .ensures .0, c .before .before .before .before .both .ensures, c .before .before .before .before .before .dst-type .ensures .0, c .before .before .before .before .before .before .dst-addr-mode .ensures .0)
+returns c = rw (c .both2 .ensures, c .before .dst-type .ensures .0, c .before .before .either2 .ensures, c .before .before .before .dst-file .ensures .0, c .before .before .before .before .both .ensures, c .before .before .before .before .before .either .ensures, c .before .before .before .before .before .before .dst-is-a0 .ensures, c .before .before .before .before .before .before .before .is-null .ensures, c .before .before .before .before .before .before .before .before .dst-addr-mode .ensures .0)
 
 pub dst-served-spec : {M : Type 1} → statement M
 dst-served-spec =
     tie.close
     (tie.spec
     dst-addr-mode-requires
-    dst-type-requires
+    is-null-requires
+    dst-is-a0-requires
+    either-requires
     both-requires
     dst-file-requires
-    is-null-requires
-    either-requires
+    either-requires-2
+    dst-type-requires
     both-requires-2
     returns)

@@ -16,17 +16,23 @@ src-served-requires-2 c κs = search needs
 negated-requires-2 : tie.Need-negated-requires-2
 negated-requires-2 c κs = search needs
 
-dst-served-requires : tie.Need-dst-served-requires
-dst-served-requires c κs = search needs
-
 any-source-requires : tie.Need-any-source-requires
 any-source-requires c κs = search needs
 
 negated-requires-3 : tie.Need-negated-requires-3
 negated-requires-3 c κs = search needs
 
+dst-served-requires : tie.Need-dst-served-requires
+dst-served-requires c κs = search needs
+
+a0-served-requires : tie.Need-a0-served-requires
+a0-served-requires c κs = search needs
+
 both-requires : tie.Need-both-requires
 both-requires c κs = search needs
+
+both-requires-2 : tie.Need-both-requires-2
+both-requires-2 c κs = search needs
 
 compares-requires : tie.Need-compares-requires
 compares-requires c κs = search needs
@@ -37,11 +43,11 @@ saturates-requires c κs = search needs
 control-served-requires : tie.Need-control-served-requires
 control-served-requires c κs = search needs
 
-both-requires-2 : tie.Need-both-requires-2
-both-requires-2 c κs = search needs
+both-requires-3 : tie.Need-both-requires-3
+both-requires-3 c κs = search needs
 
 returns : tie.Need-returns
-returns c = rw (plain-served, c .both2 .ensures, c .before .control-served .ensures, c .before .before .saturates .ensures, c .before .before .before .compares .ensures, c .before .before .before .before .both .ensures, c .before .before .before .before .before .negated3 .ensures, c .before .before .before .before .before .before .any-source .ensures, c .before .before .before .before .before .before .before .dst-served .ensures, c .before .before .before .before .before .before .before .before .negated2 .ensures, c .before .before .before .before .before .before .before .before .before .src-served2 .ensures, c .before .before .before .before .before .before .before .before .before .before .negated .ensures, c .before .before .before .before .before .before .before .before .before .before .before .src-served .ensures)
+returns c = rw (plain-served, c .both3 .ensures, c .before .control-served .ensures, c .before .before .saturates .ensures, c .before .before .before .compares .ensures, c .before .before .before .before .both2 .ensures, c .before .before .before .before .before .both .ensures, c .before .before .before .before .before .before .a0-served .ensures, c .before .before .before .before .before .before .before .dst-served .ensures, c .before .before .before .before .before .before .before .before .negated3 .ensures, c .before .before .before .before .before .before .before .before .before .any-source .ensures, c .before .before .before .before .before .before .before .before .before .before .negated2 .ensures, c .before .before .before .before .before .before .before .before .before .before .before .src-served2 .ensures, c .before .before .before .before .before .before .before .before .before .before .before .before .negated .ensures, c .before .before .before .before .before .before .before .before .before .before .before .before .before .src-served .ensures)
 
 pub plain-served-spec : {M : Type 1} → statement M
 plain-served-spec =
@@ -51,12 +57,14 @@ plain-served-spec =
     negated-requires
     src-served-requires-2
     negated-requires-2
-    dst-served-requires
     any-source-requires
     negated-requires-3
+    dst-served-requires
+    a0-served-requires
     both-requires
+    both-requires-2
     compares-requires
     saturates-requires
     control-served-requires
-    both-requires-2
+    both-requires-3
     returns)

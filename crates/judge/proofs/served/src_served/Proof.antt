@@ -7,14 +7,20 @@ use Rattle.judge.proofs.served.src_served.Tie as tie
 src-type-requires : tie.Need-src-type-requires
 src-type-requires c κs = search needs
 
-src-file-requires : tie.Need-src-file-requires
-src-file-requires c κs = search needs
+src-is-a0-requires : tie.Need-src-is-a0-requires
+src-is-a0-requires c κs = search needs
 
 src-addr-mode-requires : tie.Need-src-addr-mode-requires
 src-addr-mode-requires c κs = search needs
 
 both-requires : tie.Need-both-requires
 both-requires c κs = search needs
+
+src-file-requires : tie.Need-src-file-requires
+src-file-requires c κs = search needs
+
+either-requires : tie.Need-either-requires
+either-requires c κs = search needs
 
 both-requires-2 : tie.Need-both-requires-2
 both-requires-2 c κs = search needs
@@ -27,16 +33,18 @@ chosen-requires c κs = search needs
 
 returns : tie.Need-returns
 unfolding srcServed
-returns c = rw (c .chosen .ensures, c .before .is-immediate .ensures, c .before .before .both2 .ensures, c .before .before .before .both .ensures, c .before .before .before .before .src-addr-mode .ensures .0, c .before .before .before .before .before .src-file .ensures .0, c .before .before .before .before .before .before .src-type .ensures .0)
+returns c = rw (c .chosen .ensures, c .before .is-immediate .ensures, c .before .before .both2 .ensures, c .before .before .before .either .ensures, c .before .before .before .before .src-file .ensures .0, c .before .before .before .before .before .both .ensures, c .before .before .before .before .before .before .src-addr-mode .ensures .0, c .before .before .before .before .before .before .before .src-is-a0 .ensures, c .before .before .before .before .before .before .before .before .src-type .ensures .0)
 
 pub src-served-spec : {M : Type 1} → statement M
 src-served-spec =
     tie.close
     (tie.spec
     src-type-requires
-    src-file-requires
+    src-is-a0-requires
     src-addr-mode-requires
     both-requires
+    src-file-requires
+    either-requires
     both-requires-2
     is-immediate-requires
     chosen-requires

@@ -21,7 +21,7 @@ returns : tie.Need-returns
 returns c =
     λ registers t shows.
     c .before .before .write-state .ensures registers
-    ∙ ap stateBytes (leave-state registers _ _ t shows _ refl (c .before .before .before .before .channels-from .ensures _ (shows .posted) .0) refl)
+    ∙ ap stateBytes (leave-state registers _ _ _ t shows _ refl (c .before .before .before .before .channels-from .ensures _ (shows .posted) .0) refl)
 
 pub leave-spec : {M : Type 1} → statement M
 leave-spec = tie.close (tie.spec channels-from-requires write-state-requires same-length returns)

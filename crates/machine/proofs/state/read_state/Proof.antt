@@ -1,5 +1,5 @@
 -- Each number is the one in the bytes. Assumes nothing.
-use Rattle.paper.specs.State.{stateOf}
+use Rattle.paper.specs.State.{addressesIn, stateOf}
 use borrow.Author.Needs.{needs}
 use Rattle.machine.proofs.state.read_state.Statement.{statement}
 use Rattle.machine.proofs.state.read_state.Tie as tie
@@ -24,7 +24,7 @@ returns c =
     let place = c .before .read23 .ensures in
     let channels = c .read-channels .ensures in (
       (λ registers. λ i. record {
-        store = record { registers = registers; flag0 = flag0 .0 i; flag1 = flag1 .0 i };
+        store = record { registers = registers; flag0 = flag0 .0 i; flag1 = flag1 .0 i; addresses = addressesIn (c .before .before .before .before .before .args .bytes .now) };
         channels = channels .0 i;
         place = place .0 i;
       }),

@@ -1,6 +1,6 @@
 -- Each part of the region is what its field says. Assumes nothing.
 use mathlib.Core.Path.{ap, ap₂, _∙_}
-use Prim.Native.Nat.{ℕ, _+_, _*_}
+use Prim.Native.Nat.{ℕ, _+_}
 use native.Mathlib.Omega.{arith}
 use Rattle.paper.specs.Value.{sizeOf}
 use Rattle.paper.specs.Region.{countOf, strideOf}
@@ -11,7 +11,7 @@ use Rattle.words.proofs.region.src_region.Tie as tie
 use Rattle.words.proofs.region.src_region.Reads as reads
 use Rattle.words.proofs.region.src_region.Lts as lts
 use Rattle.words.proofs.fields.src_horz_stride.Reads as src-horz-stride-reads
-use Rattle.words.proofs.fields.src_register.Reads as src-register-reads
+use Rattle.words.proofs.addresses.src_register_at.Reads as src-register-at-reads
 use Rattle.words.proofs.fields.src_subregister.Reads as src-subregister-reads
 use Rattle.words.proofs.fields.src_type.Reads as src-type-reads
 use Rattle.words.proofs.fields.src_vert_stride.Reads as src-vert-stride-reads
@@ -20,12 +20,8 @@ use Rattle.words.proofs.region.stride_of.Reads as stride-of-reads
 use Rattle.words.proofs.types.size_of.Reads as size-of-reads
 
 -- src/region.rt:51:19
-src-register-requires : tie.Need-src-register-requires
-src-register-requires c κs = search needs
-
--- src/region.rt:51:19
-mul-origin : tie.Need-mul-origin
-mul-origin c = search needs
+src-register-at-requires : tie.Need-src-register-at-requires
+src-register-at-requires c κs = search needs
 
 -- src/region.rt:51:45
 src-subregister-requires : tie.Need-src-subregister-requires
@@ -67,7 +63,7 @@ size-of-requires c κs = search needs
 returns : tie.Need-returns
 returns c = (
   region-is _ _
-      (ap₂ (λ (a b : ℕ). a * 32 + b) (c .before .before .before .before .before .before .before .before .src-register .ensures .0) (c .before .before .before .before .before .before .before .src-subregister .ensures .0))
+      (ap₂ (λ (a b : ℕ). a + b) (c .before .before .before .before .before .before .before .before .src-register-at .ensures .0) (c .before .before .before .before .before .before .before .src-subregister .ensures .0))
       (c .before .before .before .before .before .stride-of .ensures .0 ∙ ap strideOf (c .before .before .before .before .before .before .src-vert-stride .ensures .0))
       (ap countOf (c .before .before .before .before .src-width .ensures .0))
       (c .before .before .stride-of2 .ensures .0 ∙ ap strideOf (c .before .before .before .src-horz-stride .ensures .0))
@@ -79,8 +75,7 @@ pub src-region-spec : {M : Type 1} → statement M
 src-region-spec =
     tie.close
     (tie.spec
-    src-register-requires
-    mul-origin
+    src-register-at-requires
     src-subregister-requires
     add-origin
     src-vert-stride-requires
