@@ -1,6 +1,6 @@
 -- The rules over an operation's sources, by the first and the second source. Assumes nothing.
 use mathlib.Core.Bool.{Bool, true, false, not, cond, _&&_, _||_}
-use mathlib.Core.Path.{_≡_, ap, ap₂}
+use mathlib.Core.Path.{_≡_, refl, sym, ap, ap₂}
 use Prim.Native.Nat.{ℕ}
 use lib.Dec.{eqb}
 use Rattle.paper.specs.Bits.{bit}
@@ -12,7 +12,7 @@ use Rattle.paper.specs.Legal.{controlServed, dstServed, srcServed, usesA0, move
 use Rattle.paper.specs.Legal.{unequalHalves, badModifier, ownRuleBroken, operandRuleBroken}
 use Rattle.paper.specs.Legal.{someOperand, srcShapeBroken, shapeBroken, unaligned, alignmentBroken}
 use Rattle.paper.specs.Legal.{bytesIn, tooFar, regionTooFar, lastChannel, reachBroken}
-use Rattle.paper.specs.Legal.{reservedSet, branchServed, later, refusalOf}
+use Rattle.paper.specs.Legal.{reservedSet, branchServed, orElse, later, refusalOf}
 use Rattle.laws.specs.Regions.{dstRegion, destination-element}
 use Rattle.laws.specs.Sources.{readsTwo, two-counted}
 use Rattle.table.specs.Entries.{entryOf}
@@ -101,7 +101,18 @@ pub reach-rule : (p : Plain) (w : ℕ) → reachBroken p w ≡ operandTest p w (
 unfolding reachBroken
 reach-rule p w = some-operand p w (dstFar w) (λ x. srcFar x w)
 
+-- ---- what is told of a0
+
+-- A test that is asked where a0 may have a part, and that fails where it has none, is the test.
+pub asked : (looks t : Bool) → (looks ≡ false → t ≡ false) → (looks && t) ≡ t
+asked true t f = refl
+asked false t f = sym (f refl)
+
 -- ---- the six in order, by which rule is the first that is broken
+
+-- 10 and 11, by which of them is the first.
+abbrev pub placesOf : Plain → ℕ → ℕ
+placesOf p w = orElse (alignmentBroken p w) 10 (orElse (reachBroken p w) 11 0)
 
 module _ (p : Plain) (w : ℕ) where
   pub later-field : plainServed p w ≡ false → later (plain p) w ≡ 7
@@ -119,17 +130,9 @@ module _ (p : Plain) (w : ℕ) where
       later-shape d = rw (a, b, d)
 
       module _ (d : shapeBroken p w ≡ false) where
-        pub later-alignment : alignmentBroken p w ≡ true → later (plain p) w ≡ 10
+        pub later-places : later (plain p) w ≡ placesOf p w
         unfolding later
-        later-alignment e = rw (a, b, d, e)
-
-        pub later-reach : alignmentBroken p w ≡ false → reachBroken p w ≡ true → later (plain p) w ≡ 11
-        unfolding later
-        later-reach e f = rw (a, b, d, e, f)
-
-        pub later-nothing : alignmentBroken p w ≡ false → reachBroken p w ≡ false → later (plain p) w ≡ 0
-        unfolding later
-        later-nothing e f = rw (a, b, d, e, f)
+        later-places = rw (a, b, d)
 
 pub later-branch : (b : Branch) (w : ℕ) (t : Bool) → branchServed b w ≡ t → later (branch b) w ≡ cond t 0 7
 unfolding later

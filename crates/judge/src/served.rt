@@ -22,7 +22,6 @@ use words::fields::exec_size;
 use words::fields::immediate_form;
 use words::fields::is_immediate;
 use words::fields::is_null;
-use words::fields::operation;
 use words::fields::pred_ctrl;
 use words::fields::qtr_ctrl;
 use words::fields::saturate;
@@ -32,23 +31,22 @@ use words::fields::src_type;
 use words::fields::we_ctrl;
 use words::operation::Branch;
 use words::operation::Plain;
-use words::operation::is_branch;
 use words::region::count_of;
 use words::traits::compares;
 use words::traits::saturates;
 ghost use mathlib.Core.Path.{_≡_};
-ghost use Rattle.paper.specs.Operation.{jmpi, isMov};
+ghost use Rattle.paper.specs.Operation.{jmpi, isMov, isBranch, operation};
 ghost use Rattle.paper.specs.Enable.{groupOf};
 ghost use Rattle.paper.specs.Legal.{reservedSet, quarterServed, predicateServed, conditionServed, controlServed, dstServed, srcServed, usesA0, movesWords, plainServed, structured, ownNeeds, branchServed};
 ghost use Rattle.words.specs.Operations.{plainIs, branchIs};
 ghost use Rattle.words.specs.Words.{toWord, sourceIs};
 ghost use Rattle.judge.specs.Rules.{a0Served};
 
-// 6: bit 7; for all but branches 47 or 95:90, or 127:121 outside immediate form.
-pub fn reserved_set(w: Word) -> bool
+// 6: bit 7; for all but branches, which are told, 47 or 95:90, or 127:121 outside immediate form.
+pub fn reserved_set(jumps: bool, w: Word) -> bool
+    requires { ⌜ jumps ≡ isBranch (operation (toWord w)) ⌝ }
     ensures { λ r. ⌜ r ≡ reservedSet (toWord w) ⌝ }
 {
-    let jumps = is_branch(operation(w));
     let top = both(negated(immediate_form(w)), negated(bits_121(w) == 0));
     let further = either(bit_47(w) == 1, either(negated(bits_90(w) == 0), top));
     either(bit_7(w) == 1, both(negated(jumps), further))
