@@ -116,11 +116,11 @@ pub fn move_at(
     ensures { λ r. ⌜ (r .flags .flag0 < 65536) × (r .flags .flag1 < 65536) × (length (now (here .exit)) ≡ length (now (here .entry))) ⌝ }
 {
     let flags = s.flags;
-    let up = rouse(s.awake, s.place, here);
-    transfer(w, up, flags, registers, addresses);
+    let woken = rouse(s.awake, s.place, here);
+    transfer(w, woken, flags, registers, addresses);
     Stand {
         flags: flags,
-        awake: up,
+        awake: woken,
         place: ways.next,
     }
 }
