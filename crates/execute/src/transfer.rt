@@ -21,7 +21,6 @@ ghost use Prim.Native.Nat.{ℕ, _<_};
 ghost use lib.ListN.{length};
 ghost use Rattle.paper.specs.Limits.{addressBytes, registerBytes};
 ghost use Rattle.paper.specs.Word.{src0, dstIsA0, srcIsA0};
-ghost use Rattle.paper.specs.Legal.{bytesIn};
 ghost use Rattle.paper.specs.Operation.{mov};
 ghost use Rattle.paper.specs.Effect.{fileIn, plainEffect};
 ghost use Rattle.words.specs.Words.{toWord};
@@ -41,26 +40,19 @@ pub fn uses_a0(w: Word) -> bool
     src_is_a0(Source::First, w)
 }
 
-// What the channels of a mov make of the file that its source stands in, which is lent.
-fn moved_from(w: Word, file: &[u8], made: &mut [u64; 16])
-    requires { ⌜ Acting mov (toWord w) × (length (now file) ≡ bytesIn (srcIsA0 src0 (toWord w))) × (length (now made) ≡ 16) ⌝ }
-    ensures { λ r. ⌜ ((predicate : ℕ) → Makes mov (toWord w) predicate (now (file .entry)) (now (made .exit))) ⌝ }
-{
-    let n = channels(w);
-    operand_by_element(w, n, file, made);
-    clamp_all(saturate(w) == 1, dst_type(w), n, made);
-}
-
-// The same: a0 is read, or registers.
+// What the channels of a mov make: a0 is read, or registers.
 fn moved(w: Word, flags: Flags, registers: &[u8], addresses: &[u8], made: &mut [u64; 16])
     requires { ⌜ Acting mov (toWord w) × (length (now registers) ≡ registerBytes) × (length (now addresses) ≡ addressBytes) × (length (now made) ≡ 16) ⌝ }
     ensures { λ r. ⌜ ((predicate : ℕ) → Makes mov (toWord w) predicate (fileIn (srcIsA0 src0 (toWord w)) (storeOf (now (registers .entry)) flags (now (addresses .entry)))) (now (made .exit))) ⌝ }
 {
+    let n = channels(w);
     if src_is_a0(Source::First, w) {
-        moved_from(w, addresses, made);
+        operand_by_element(w, n, addresses, made);
+        clamp_all(saturate(w) == 1, dst_type(w), n, made);
         return;
     }
-    moved_from(w, registers, made);
+    operand_by_element(w, n, registers, made);
+    clamp_all(saturate(w) == 1, dst_type(w), n, made);
 }
 
 // Results stored in a0, or in registers.

@@ -1,6 +1,6 @@
 -- The rules over an operation's sources, by the first and the second source. Assumes nothing.
 use mathlib.Core.Bool.{Bool, true, false, not, cond, _&&_, _||_}
-use mathlib.Core.Path.{_≡_, refl, sym, ap, ap₂}
+use mathlib.Core.Path.{_≡_, refl, sym, ap, ap₂, _∙_}
 use Prim.Native.Nat.{ℕ}
 use lib.Dec.{eqb}
 use Rattle.paper.specs.Bits.{bit}
@@ -15,6 +15,7 @@ use Rattle.paper.specs.Legal.{bytesIn, tooFar, regionTooFar, lastChannel, reach
 use Rattle.paper.specs.Legal.{reservedSet, branchServed, orElse, later, refusalOf}
 use Rattle.laws.specs.Regions.{dstRegion, destination-element}
 use Rattle.laws.specs.Sources.{readsTwo, two-counted}
+use Rattle.words.specs.Unaided.{Unaided}
 use Rattle.table.specs.Entries.{entryOf}
 use Rattle.judge.specs.Sources.{anySource, any-source}
 
@@ -33,11 +34,30 @@ pub moves-words : (p : Plain) (w : ℕ)
 unfolding movesWords
 moves-words p w = ap (λ (b : Bool). isMov p && (eqb (dstType w) 2 && not b)) (any-source p (λ x. not (eqb (srcType x w) 2)))
 
-pub plain-served : (p : Plain) (w : ℕ)
-    → plainServed p w
-    ≡ (controlServed (traits p .compares) (traits p .saturates) w
-    && (dstServed w && (not (anySource p (not (srcServed w src0)) (not (srcServed w src1))) && a0Served p w)))
-unfolding plainServed
+-- 7 of the operands of an operation, and of a0 among them.
+unfoldable pub operandsServed : Plain → ℕ → Bool
+operandsServed p w = dstServed w && (not (anySource p (not (srcServed w src0)) (not (srcServed w src1))) && a0Served p w)
+
+-- Where a0 has no part it is not asked for.
+pub served-unaided : (p : Plain) (w : ℕ) → Unaided w
+    → operandsServed p w ≡ (dstServed w && not (anySource p (not (srcServed w src0)) (not (srcServed w src1))))
+unfolding operandsServed
+served-unaided p w u =
+    let none : usesA0 p w ≡ false = uses-a0 p w ∙ rw (u .destination, u .source src0, u .source src1) (nowhere (readsTwo p)) in
+    ap (λ (b : Bool). dstServed w && b)
+    (ap (λ (b : Bool). not (anySource p (not (srcServed w src0)) (not (srcServed w src1))) && (not b || movesWords p w)) none
+    ∙ kept (not (anySource p (not (srcServed w src0)) (not (srcServed w src1)))))
+  where
+    nowhere : (t : Bool) → (false || (false || (t && false))) ≡ false
+    nowhere true = refl
+    nowhere false = refl
+
+    kept : (b : Bool) → (b && true) ≡ b
+    kept true = refl
+    kept false = refl
+
+pub plain-served : (p : Plain) (w : ℕ) → plainServed p w ≡ (controlServed (traits p .compares) (traits p .saturates) w && operandsServed p w)
+unfolding plainServed operandsServed
 plain-served p w =
     ap (λ (b : Bool). controlServed (traits p .compares) (traits p .saturates) w && (dstServed w && (not b && a0Served p w)))
     (any-source p (λ x. not (srcServed w x)))

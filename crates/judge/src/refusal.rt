@@ -71,7 +71,8 @@ pub(crate) fn judge_plain(regions: &[u8; FIELDS], p: Plain, w: Word) -> Broken
     requires { ⌜ now regions ≡ regionTable ⌝ }
     ensures { λ r. ⌜ numberOf r ≡ later (plain (plainIs p)) (toWord w) ⌝ }
 {
-    if !plain_served(p, w) {
+    let looks = looks_at_a0(w);
+    if !plain_served(looks, p, w) {
         return Broken::Field;
     }
     if operand_rule_broken(p, w) {
@@ -80,7 +81,7 @@ pub(crate) fn judge_plain(regions: &[u8; FIELDS], p: Plain, w: Word) -> Broken
     if shape_broken(regions, p, w) {
         return Broken::Shape;
     }
-    if looks_at_a0(w) {
+    if looks {
         return judge_places(p, w);
     }
     judge_places_unaided(p, w)
