@@ -52,20 +52,6 @@ rulesBroken p w = alignmentBroken p w || reachBroken p w
 
 -- ---- no operand by address
 
--- No operand is by address, whatever the operation.
-pub record Direct (w : ℕ) : Type 0 where
-  pub destination : dstByAddress w ≡ false
-  pub first : srcByAddress src0 w ≡ false
-  pub second : srcByAddress src1 w ≡ false
-
--- Then every operand of any operation is named directly.
-pub direct-named : (p : Plain) (w : ℕ) → Direct w → Named p w
-direct-named p w d = record { destination = d .destination; source = λ x m. each x }
-  where
-    each : (x : Source) → srcByAddress x w ≡ false
-    each src0 = d .first
-    each src1 = d .second
-
 -- An operand of operation p is by address.
 abbrev pub someAddressed : Plain → ℕ → Bool
 someAddressed p w = dstByAddress w || anySource p (srcByAddress src0 w) (srcByAddress src1 w)
@@ -244,22 +230,3 @@ module _ (p : Plain) (addresses : List ℕ) (w : ℕ) where
       → Says r (addressBroken p addresses w) (settled p addresses w)
   unfolding addressBroken
   says-settled r s = s
-
--- ---- the bits
-
--- Where the three bits in which an AddrMode may stand are 0, no operand is by address.
-pub bits-direct : (lo hi : ℕ) → lo < 2 ^ 64 → not (eqb (lo / 2 ^ 63 + hi / 2 ^ 15 % 2 + hi / 2 ^ 47 % 2) 0) ≡ false → Direct (lo + hi * 2 ^ 64)
-bits-direct lo hi h e =
-    let n : lo / 2 ^ 63 + hi / 2 ^ 15 % 2 + hi / 2 ^ 47 % 2 ≡ 0 = eqb-true _ 0 (not-false _ e) in
-    let d : bits (lo + hi * 2 ^ 64) 63 1 ≡ 0 = bits-within 64 63 1 lo hi (omega arith) ∙ omega (arith, n) in
-    let f : bits (lo + hi * 2 ^ 64) 79 1 ≡ 0 = bits-high 64 15 1 hi h ∙ omega (arith, n) in
-    let s : bits (lo + hi * 2 ^ 64) 111 1 ≡ 0 = bits-high 64 47 1 hi h ∙ omega (arith, n) in
-    record {
-      destination = rw d;
-      first = rw f (neither (isImmediate src0 (lo + hi * 2 ^ 64)));
-      second = rw s (neither (isImmediate src1 (lo + hi * 2 ^ 64)));
-    }
-  where
-    neither : (b : Bool) → (not b && false) ≡ false
-    neither true = refl
-    neither false = refl

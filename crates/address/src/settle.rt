@@ -15,7 +15,6 @@ use words::bytes::Word;
 use words::fields::Source;
 use words::operation::Plain;
 use words::traits::reads_two;
-ghost use mathlib.Core.Bool.{false};
 ghost use mathlib.Core.Path.{_≡_};
 ghost use lib.ListN.{length};
 ghost use Rattle.paper.specs.Address.{addressBroken, dstDirect, settled, someOutside, srcDirect};
@@ -23,7 +22,7 @@ ghost use Rattle.paper.specs.Limits.{addressBytes};
 ghost use Rattle.laws.specs.Regions.{LegalPlain};
 ghost use Rattle.words.specs.Operations.{plainIs};
 ghost use Rattle.words.specs.Words.{toWord, sourceIs};
-ghost use Rattle.address.specs.Settling.{Direct, Says, dstOutside, rulesBroken, someAddressed, sourcesDirect, sourcesOutside, srcOutside};
+ghost use Rattle.address.specs.Settling.{Says, dstOutside, rulesBroken, someAddressed, sourcesDirect, sourcesOutside, srcOutside};
 
 // What an operation acts by: the word with its operands named directly; or nothing, where an address is broken.
 pub enum Settled {
@@ -32,13 +31,6 @@ pub enum Settled {
 }
 
 // ---- whether there is something to settle
-
-// An operand may be by address: an AddrMode is 1, or what stands in its place in an immediate.
-pub fn may_address(w: Word) -> bool
-    ensures { λ r. ⌜ (r ≡ false → Direct (toWord w)) ⌝ }
-{
-    (w.lo >> 63) + (w.hi >> 15) % 2 + (w.hi >> 47) % 2 != 0
-}
 
 // An operand of the operation is by address.
 pub fn is_addressed(p: Plain, w: Word) -> bool

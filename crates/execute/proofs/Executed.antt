@@ -178,11 +178,3 @@ transferred w awake registers f addresses quarter predicate enable holding worki
       registers-made Plain.mov w awake registers f addresses quarter predicate enable holding working results acting made a after e,
       e′ ∙ addresses-still Plain.mov w (awakeList awake) st a,
     )
-
--- What a mov does, whatever its operation is called.
-pub as-mov : (p : Plain) → p ≡ Plain.mov → (w : ℕ) (awake : List Bool) (st : Store) (after after′ : List ℕ)
-    → after ≡ plainEffect Plain.mov w awake st .registers → after′ ≡ plainEffect Plain.mov w awake st .addresses
-    → ((after ≡ plainEffect p w awake st .registers) × (after′ ≡ plainEffect p w awake st .addresses))
-    × ((st .flag0 ≡ plainEffect p w awake st .flag0) × (st .flag1 ≡ plainEffect p w awake st .flag1))
-as-mov p e w awake st after after′ r a =
-    rw e ((r, a), (mov-flag0 w awake st, mov-flag1 w awake st))

@@ -35,6 +35,10 @@ pub record Acting (p : Plain) (w : ℕ) : Type 0 where
 abbrev pub Actable : ℕ → Type 0
 Actable w = (p : Plain) → operation w ≡ plain p → Acting p w
 
+-- It acts on registers alone if no operand is a0 besides.
+abbrev pub OnRegisters : ℕ → Type 0
+OnRegisters w = (p : Plain) → operation w ≡ plain p → Acting p w × (usesA0 p w ≡ false)
+
 -- Its effect is then that of its operation as the word stands.
 pub effect-acting : (p : Plain) (w : ℕ) (awake : List Bool) (st : Store) → operation w ≡ plain p → Acting p w → effect w awake st ≡ plainEffect p w awake st
 unfolding effect

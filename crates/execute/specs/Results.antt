@@ -19,6 +19,7 @@ use Rattle.paper.specs.Effect.{operand, fileIn, sourceAt, channelStores}
 use Rattle.words.specs.Operations.{plainIs}
 use Rattle.laws.specs.Sources.{readsTwo, one-source}
 use Rattle.words.specs.declared.operation.Plain.{Plain}
+use Rattle.words.specs.declared.operation.Plain.the-variants.{Mov}
 use Rattle.element.specs.Biased.{ex, Near, near-mono}
 use Rattle.element.specs.Base.{ex-mod}
 use Rattle.element.specs.Operands.{Operands, width-most, width-short, result-one}
@@ -144,6 +145,23 @@ module _ (p : Plain) (w : ℕ) (registers : List ℕ) (n : ℕ) (old first secon
   results-made predicate c kind saturated combined made en ec ek es m q k h =
       let below : k < n = rw en h in
       rw (← ek, ← es, ← ec) (q .done k below ∙ ap (stored saturated kind) (m .done k below ∙ result-read c (bit predicate k) k below))
+
+-- ---- mov
+
+-- What stands for 0 where mov has no second source.
+abbrev zeros : List ℕ
+zeros = replicate 16 (2 ^ 63)
+
+-- mov makes what its source reads, saturated if asked for, whatever the predicate.
+pub moved-made : (w : ℕ) (file : List ℕ) (n : ℕ) (old first made : List ℕ) → OperandRead w file src0 n old first → n ≡ channels w → n ≤ 16
+    → (kind : ℕ) (saturated : Bool) → kind ≡ dstType w → saturated ≡ eqb (saturate w) 1 → Kept saturated kind n first made
+    → (predicate : ℕ) → Makes paper.mov w predicate file made
+unfolding Combined result
+moved-made w file n old first made a en most kind saturated ek es kept predicate =
+    results-made Mov w file n old first zeros a (second-none paper.mov w file n zeros refl (zeros-near (2 ^ 63) n refl most)) predicate (condModifier w) kind saturated first made en refl ek es combined kept
+  where
+    combined : Combined paper.mov (condModifier w) predicate n first zeros first
+    combined = record { sixteen = read-sixteen w file n old first a; done = λ k h. refl; kept = λ k h. refl }
 
 -- ---- the paper's channels
 

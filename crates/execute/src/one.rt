@@ -41,7 +41,7 @@ ghost use Rattle.execute.specs.Effects.{written};
 
 // The second operand, where the operation reads one; else what stands for 0.
 fn second_of(p: Plain, w: Word, registers: &[u8]) -> u64
-    requires { ⌜ Acting (plainIs p) (toWord w) × (length (now registers) ≡ bytesIn (srcIsA0 src0 (toWord w))) ⌝ }
+    requires { ⌜ Acting (plainIs p) (toWord w) × (length (now registers) ≡ bytesIn (srcIsA0 src0 (toWord w))) × (usesA0 (plainIs p) (toWord w) ≡ false) ⌝ }
     ensures { λ r. ⌜ SecondRead (plainIs p) (toWord w) (now (registers .entry)) 1 (alone r) ⌝ }
 {
     if reads_two(p) {
@@ -52,7 +52,7 @@ fn second_of(p: Plain, w: Word, registers: &[u8]) -> u64
 
 // What the channel makes: all sources are read first. The number's low bits, as many as the destination's type has, are the pattern that is stored.
 fn result_of(p: Plain, w: Word, predicate: u64, registers: &[u8]) -> u64
-    requires { ⌜ Acting (plainIs p) (toWord w) × (length (now registers) ≡ bytesIn (srcIsA0 src0 (toWord w))) × (channels (toWord w) ≡ 1) ⌝ }
+    requires { ⌜ Acting (plainIs p) (toWord w) × (length (now registers) ≡ bytesIn (srcIsA0 src0 (toWord w))) × (channels (toWord w) ≡ 1) × (usesA0 (plainIs p) (toWord w) ≡ false) ⌝ }
     ensures { λ r. ⌜ Makes (plainIs p) (toWord w) predicate (now (registers .entry)) (alone r) ⌝ }
 {
     let a = first_number(w, registers);
@@ -66,13 +66,13 @@ fn result_of(p: Plain, w: Word, predicate: u64, registers: &[u8]) -> u64
 
 // The result stored where the mask enables the channel; a null destination stores nothing.
 fn store(w: Word, enable: u64, registers: &mut [u8], v: u64)
-    requires { ⌜ Writable (toWord w) × (length (now registers) ≡ bytesIn (dstIsA0 (toWord w))) × (channels (toWord w) ≡ 1) ⌝ }
+    requires { ⌜ Writable (toWord w) × (length (now registers) ≡ bytesIn (dstIsA0 (toWord w))) × (channels (toWord w) ≡ 1) × (dstIsA0 (toWord w) ≡ false) ⌝ }
     ensures { λ r. ⌜ now (registers .exit) ≡ written (toWord w) enable (now (registers .entry)) (alone v) ⌝ }
 {
     if is_null(w) {
         return;
     }
-    let r = dst_region(w);
+    let r = dst_region(false, w);
     store_channel(registers, r.origin, r.size, enable, 0, v);
 }
 

@@ -1,19 +1,23 @@
 // mov where an operand is a0.
-use crate::destination::write;
+use crate::clamp::clamp_all;
+use crate::counts::channels;
+use crate::destination::write_by_element;
 use crate::enable::enable_of;
 use crate::enable::predicate_of;
-use crate::results::results;
 use lanes::flags::Flags;
 use lanes::mask::quarter_mask;
+use operands::elements::operand_by_element;
 use words::addresses::dst_is_a0;
 use words::addresses::src_is_a0;
 use words::bytes::Word;
 use words::fields::Source;
+use words::fields::dst_type;
 use words::fields::qtr_ctrl;
+use words::fields::saturate;
 use words::operation::Plain;
-ghost use mathlib.Core.Bool.{not};
+ghost use mathlib.Core.Bool.{not, _||_};
 ghost use mathlib.Core.Path.{_≡_};
-ghost use Prim.Native.Nat.{_<_};
+ghost use Prim.Native.Nat.{ℕ, _<_};
 ghost use lib.ListN.{length};
 ghost use Rattle.paper.specs.Limits.{addressBytes, registerBytes};
 ghost use Rattle.paper.specs.Word.{src0, dstIsA0, srcIsA0};
@@ -26,23 +30,29 @@ ghost use Rattle.execute.specs.Readable.{Acting, Writable};
 ghost use Rattle.execute.specs.Results.{Makes};
 ghost use Rattle.execute.specs.Effects.{writtenInto};
 
-// What the channels of a mov make: a0 is read, or registers.
-fn moved(
-    w: Word,
-    predicate: u64,
-    flags: Flags,
-    registers: &[u8],
-    addresses: &[u8],
-    made: &mut [u64; 16],
-)
-    requires { ⌜ Acting mov (toWord w) × (length (now registers) ≡ registerBytes) × (length (now addresses) ≡ addressBytes) × (length (now made) ≡ 16) ⌝ }
-    ensures { λ r. ⌜ Makes mov (toWord w) predicate (fileIn (srcIsA0 src0 (toWord w)) (storeOf (now (registers .entry)) flags (now (addresses .entry)))) (now (made .exit)) ⌝ }
+// The destination or the first source is a0.
+pub fn uses_a0(w: Word) -> bool
+    ensures { λ r. ⌜ r ≡ (dstIsA0 (toWord w) || srcIsA0 src0 (toWord w)) ⌝ }
 {
+    if dst_is_a0(w) {
+        return true;
+    }
+    src_is_a0(Source::First, w)
+}
+
+// What the channels of a mov make: a0 is read, or registers.
+fn moved(w: Word, flags: Flags, registers: &[u8], addresses: &[u8], made: &mut [u64; 16])
+    requires { ⌜ Acting mov (toWord w) × (length (now registers) ≡ registerBytes) × (length (now addresses) ≡ addressBytes) × (length (now made) ≡ 16) ⌝ }
+    ensures { λ r. ⌜ ((predicate : ℕ) → Makes mov (toWord w) predicate (fileIn (srcIsA0 src0 (toWord w)) (storeOf (now (registers .entry)) flags (now (addresses .entry)))) (now (made .exit))) ⌝ }
+{
+    let n = channels(w);
     if src_is_a0(Source::First, w) {
-        results(Plain::Mov, w, predicate, addresses, made);
+        operand_by_element(w, n, addresses, made);
+        clamp_all(saturate(w) == 1, dst_type(w), n, made);
         return;
     }
-    results(Plain::Mov, w, predicate, registers, made);
+    operand_by_element(w, n, registers, made);
+    clamp_all(saturate(w) == 1, dst_type(w), n, made);
 }
 
 // Results stored in a0, or in registers.
@@ -58,36 +68,25 @@ fn write_either(
         × (now (addresses .exit) ≡ writtenInto (not (dstIsA0 (toWord w))) (toWord w) enable (now (addresses .entry)) (now (results .entry))) ⌝ }
 {
     if dst_is_a0(w) {
-        write(w, enable, addresses, results);
+        write_by_element(w, enable, addresses, results);
         return;
     }
-    write(w, enable, registers, results);
+    write_by_element(w, enable, registers, results);
 }
 
 // mov from registers, a0 or an immediate to registers, a0 or null. It changes no flag.
-pub(crate) fn transfer(
-    w: Word,
-    awake: u64,
-    flags: Flags,
-    registers: &mut [u8],
-    addresses: &mut [u8],
-)
+pub fn transfer(w: Word, awake: u64, flags: Flags, registers: &mut [u8], addresses: &mut [u8])
     requires { ⌜ Acting mov (toWord w) × (length (now registers) ≡ registerBytes) × (length (now addresses) ≡ addressBytes) × (awake < 65536) ⌝ }
     ensures { λ r. ⌜ (now (registers .exit) ≡ plainEffect mov (toWord w) (awakeList awake) (storeOf (now (registers .entry)) flags (now (addresses .entry))) .registers)
         × (now (addresses .exit) ≡ plainEffect mov (toWord w) (awakeList awake) (storeOf (now (registers .entry)) flags (now (addresses .entry))) .addresses) ⌝ }
+    ensures { λ r. ⌜ (flags .flag0 ≡ plainEffect mov (toWord w) (awakeList awake) (storeOf (now (registers .entry)) flags (now (addresses .entry))) .flag0)
+        × (flags .flag1 ≡ plainEffect mov (toWord w) (awakeList awake) (storeOf (now (registers .entry)) flags (now (addresses .entry))) .flag1) ⌝ }
 {
     let quarter = qtr_ctrl(w);
     let predicate = predicate_of(w, flags);
     let enable = enable_of(Plain::Mov, w, awake, predicate);
     let mut made = [0u64; 16];
-    moved(
-        w,
-        quarter_mask(predicate, quarter),
-        flags,
-        registers,
-        addresses,
-        &mut made,
-    );
+    moved(w, flags, registers, addresses, &mut made);
     write_either(
         w,
         quarter_mask(enable, quarter),

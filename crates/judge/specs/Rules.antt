@@ -1,6 +1,6 @@
 -- The rules over an operation's sources, by the first and the second source. Assumes nothing.
 use mathlib.Core.Bool.{Bool, true, false, not, cond, _&&_, _||_}
-use mathlib.Core.Path.{_≡_, ap, ap₂}
+use mathlib.Core.Path.{_≡_, refl, sym, ap, ap₂, _∙_}
 use Prim.Native.Nat.{ℕ}
 use lib.Dec.{eqb}
 use Rattle.paper.specs.Bits.{bit}
@@ -12,9 +12,10 @@ use Rattle.paper.specs.Legal.{controlServed, dstServed, srcServed, usesA0, move
 use Rattle.paper.specs.Legal.{unequalHalves, badModifier, ownRuleBroken, operandRuleBroken}
 use Rattle.paper.specs.Legal.{someOperand, srcShapeBroken, shapeBroken, unaligned, alignmentBroken}
 use Rattle.paper.specs.Legal.{bytesIn, tooFar, regionTooFar, lastChannel, reachBroken}
-use Rattle.paper.specs.Legal.{reservedSet, branchServed, later, refusalOf}
+use Rattle.paper.specs.Legal.{reservedSet, branchServed, orElse, later, refusalOf}
 use Rattle.laws.specs.Regions.{dstRegion, destination-element}
 use Rattle.laws.specs.Sources.{readsTwo, two-counted}
+use Rattle.words.specs.Unaided.{Unaided}
 use Rattle.table.specs.Entries.{entryOf}
 use Rattle.judge.specs.Sources.{anySource, any-source}
 
@@ -33,11 +34,30 @@ pub moves-words : (p : Plain) (w : ℕ)
 unfolding movesWords
 moves-words p w = ap (λ (b : Bool). isMov p && (eqb (dstType w) 2 && not b)) (any-source p (λ x. not (eqb (srcType x w) 2)))
 
-pub plain-served : (p : Plain) (w : ℕ)
-    → plainServed p w
-    ≡ (controlServed (traits p .compares) (traits p .saturates) w
-    && (dstServed w && (not (anySource p (not (srcServed w src0)) (not (srcServed w src1))) && a0Served p w)))
-unfolding plainServed
+-- 7 of the operands of an operation, and of a0 among them.
+unfoldable pub operandsServed : Plain → ℕ → Bool
+operandsServed p w = dstServed w && (not (anySource p (not (srcServed w src0)) (not (srcServed w src1))) && a0Served p w)
+
+-- Where a0 has no part it is not asked for.
+pub served-unaided : (p : Plain) (w : ℕ) → Unaided w
+    → operandsServed p w ≡ (dstServed w && not (anySource p (not (srcServed w src0)) (not (srcServed w src1))))
+unfolding operandsServed
+served-unaided p w u =
+    let none : usesA0 p w ≡ false = uses-a0 p w ∙ rw (u .destination, u .source src0, u .source src1) (nowhere (readsTwo p)) in
+    ap (λ (b : Bool). dstServed w && b)
+    (ap (λ (b : Bool). not (anySource p (not (srcServed w src0)) (not (srcServed w src1))) && (not b || movesWords p w)) none
+    ∙ kept (not (anySource p (not (srcServed w src0)) (not (srcServed w src1)))))
+  where
+    nowhere : (t : Bool) → (false || (false || (t && false))) ≡ false
+    nowhere true = refl
+    nowhere false = refl
+
+    kept : (b : Bool) → (b && true) ≡ b
+    kept true = refl
+    kept false = refl
+
+pub plain-served : (p : Plain) (w : ℕ) → plainServed p w ≡ (controlServed (traits p .compares) (traits p .saturates) w && operandsServed p w)
+unfolding plainServed operandsServed
 plain-served p w =
     ap (λ (b : Bool). controlServed (traits p .compares) (traits p .saturates) w && (dstServed w && (not b && a0Served p w)))
     (any-source p (λ x. not (srcServed w x)))
@@ -101,7 +121,18 @@ pub reach-rule : (p : Plain) (w : ℕ) → reachBroken p w ≡ operandTest p w (
 unfolding reachBroken
 reach-rule p w = some-operand p w (dstFar w) (λ x. srcFar x w)
 
+-- ---- what is told of a0
+
+-- A test that is asked where a0 may have a part, and that fails where it has none, is the test.
+pub asked : (looks t : Bool) → (looks ≡ false → t ≡ false) → (looks && t) ≡ t
+asked true t f = refl
+asked false t f = sym (f refl)
+
 -- ---- the six in order, by which rule is the first that is broken
+
+-- 10 and 11, by which of them is the first.
+abbrev pub placesOf : Plain → ℕ → ℕ
+placesOf p w = orElse (alignmentBroken p w) 10 (orElse (reachBroken p w) 11 0)
 
 module _ (p : Plain) (w : ℕ) where
   pub later-field : plainServed p w ≡ false → later (plain p) w ≡ 7
@@ -119,17 +150,9 @@ module _ (p : Plain) (w : ℕ) where
       later-shape d = rw (a, b, d)
 
       module _ (d : shapeBroken p w ≡ false) where
-        pub later-alignment : alignmentBroken p w ≡ true → later (plain p) w ≡ 10
+        pub later-places : later (plain p) w ≡ placesOf p w
         unfolding later
-        later-alignment e = rw (a, b, d, e)
-
-        pub later-reach : alignmentBroken p w ≡ false → reachBroken p w ≡ true → later (plain p) w ≡ 11
-        unfolding later
-        later-reach e f = rw (a, b, d, e, f)
-
-        pub later-nothing : alignmentBroken p w ≡ false → reachBroken p w ≡ false → later (plain p) w ≡ 0
-        unfolding later
-        later-nothing e f = rw (a, b, d, e, f)
+        later-places = rw (a, b, d)
 
 pub later-branch : (b : Branch) (w : ℕ) (t : Bool) → branchServed b w ≡ t → later (branch b) w ≡ cond t 0 7
 unfolding later

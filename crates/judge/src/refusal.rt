@@ -1,24 +1,31 @@
 // The six rules in the table's order.
+use crate::dispatch::operation_here;
 use crate::operands::operand_rule_broken;
 use crate::regions::alignment_broken;
+use crate::regions::alignment_broken_unaided;
 use crate::regions::reach_broken;
+use crate::regions::reach_broken_unaided;
 use crate::regions::shape_broken;
 use crate::served::branch_served;
 use crate::served::plain_served;
 use crate::served::reserved_set;
 use table::regions::FIELDS;
+use words::addresses::looks_at_a0;
 use words::bytes::Word;
-use words::fields::operation;
+use words::fields::opcode;
 use words::operation::Branch;
 use words::operation::Operation;
 use words::operation::Plain;
+use words::operation::is_branch;
 ghost use mathlib.Core.Path.{_≡_};
 ghost use Prim.Native.Nat.{_<_};
 ghost use Rattle.paper.specs.Operation.{plain, branch};
 ghost use Rattle.paper.specs.Legal.{later, refusalOf};
 ghost use Rattle.words.specs.Operations.{plainIs, branchIs, operationIs};
 ghost use Rattle.words.specs.Words.{toWord};
+ghost use Rattle.words.specs.Unaided.{Unaided};
 ghost use Rattle.table.specs.Entries.{regionTable};
+ghost use Rattle.judge.specs.Rules.{placesOf};
 ghost use Rattle.judge.specs.Verdicts.{numberOf};
 
 // What the judge says of a word: it passes, or the first rule that it breaks.
@@ -32,12 +39,40 @@ pub enum Broken {
     Reach,
 }
 
+// 10 and 11 of an operation with operands.
+fn judge_places(p: Plain, w: Word) -> Broken
+    ensures { λ r. ⌜ numberOf r ≡ placesOf (plainIs p) (toWord w) ⌝ }
+{
+    if alignment_broken(p, w) {
+        return Broken::Alignment;
+    }
+    if reach_broken(p, w) {
+        return Broken::Reach;
+    }
+    Broken::Nothing
+}
+
+// The same of a word in which a0 has no part.
+fn judge_places_unaided(p: Plain, w: Word) -> Broken
+    requires { ⌜ Unaided (toWord w) ⌝ }
+    ensures { λ r. ⌜ numberOf r ≡ placesOf (plainIs p) (toWord w) ⌝ }
+{
+    if alignment_broken_unaided(p, w) {
+        return Broken::Alignment;
+    }
+    if reach_broken_unaided(p, w) {
+        return Broken::Reach;
+    }
+    Broken::Nothing
+}
+
 // 7 to 11 of an operation with operands.
 pub(crate) fn judge_plain(regions: &[u8; FIELDS], p: Plain, w: Word) -> Broken
     requires { ⌜ now regions ≡ regionTable ⌝ }
     ensures { λ r. ⌜ numberOf r ≡ later (plain (plainIs p)) (toWord w) ⌝ }
 {
-    if !plain_served(p, w) {
+    let looks = looks_at_a0(w);
+    if !plain_served(looks, p, w) {
         return Broken::Field;
     }
     if operand_rule_broken(p, w) {
@@ -46,13 +81,10 @@ pub(crate) fn judge_plain(regions: &[u8; FIELDS], p: Plain, w: Word) -> Broken
     if shape_broken(regions, p, w) {
         return Broken::Shape;
     }
-    if alignment_broken(p, w) {
-        return Broken::Alignment;
+    if looks {
+        return judge_places(p, w);
     }
-    if reach_broken(p, w) {
-        return Broken::Reach;
-    }
-    Broken::Nothing
+    judge_places_unaided(p, w)
 }
 
 // 7 of a branch.
@@ -84,10 +116,11 @@ pub fn judge(regions: &[u8; FIELDS], w: Word) -> Broken
     requires { ⌜ now regions ≡ regionTable ⌝ }
     ensures { λ r. ⌜ numberOf r ≡ refusalOf (toWord w) ⌝ }
 {
-    if reserved_set(w) {
+    let o = operation_here(opcode(w));
+    if reserved_set(is_branch(o), w) {
         return Broken::Reserved;
     }
-    judge_operation(regions, operation(w), w)
+    judge_operation(regions, o, w)
 }
 
 // The refusal's number, 0 for none.

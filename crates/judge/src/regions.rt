@@ -29,13 +29,14 @@ use words::region::dst_region;
 use words::region::element_at;
 use words::region::src_region;
 use words::types::size_of;
-ghost use mathlib.Core.Bool.{true};
+ghost use mathlib.Core.Bool.{true, false};
 ghost use mathlib.Core.Path.{_≡_};
 ghost use Prim.Native.Nat.{_-_, _<_, _≤_};
 ghost use Rattle.paper.specs.Legal.{plainServed, shapeBroken, unaligned, alignmentBroken, bytesIn, tooFar, regionTooFar, lastChannel, reachBroken};
 ghost use Rattle.words.specs.Operations.{plainIs};
 ghost use Rattle.words.specs.Words.{toWord, sourceIs};
 ghost use Rattle.words.specs.Regions.{regionIs, Small};
+ghost use Rattle.words.specs.Unaided.{Unaided};
 ghost use Rattle.table.specs.Entries.{regionTable};
 ghost use Rattle.judge.specs.Rules.{operandTest, lookRefuses, dstUnaligned, srcUnaligned, srcFar, dstFar};
 
@@ -80,28 +81,42 @@ pub fn is_unaligned(subregister: u64, size: u64) -> bool
     negated(subregister % size == 0)
 }
 
+// Whether a0 may have a part in the word is told to the tests of single operands: where it has none, nothing is asked for that.
+
 // The destination's is none, and it is named directly.
-pub fn dst_unaligned(w: Word) -> bool
+pub fn dst_unaligned(looks: bool, w: Word) -> bool
+    requires { ⌜ (looks ≡ false → Unaided (toWord w)) ⌝ }
     ensures { λ r. ⌜ r ≡ dstUnaligned (toWord w) ⌝ }
 {
     let broken = is_unaligned(dst_subregister(w), size_of(dst_type(w)));
-    both(negated(dst_by_address(w)), broken)
+    both(negated(both(looks, dst_by_address(w))), broken)
 }
 
 // A source's is none, and it is named directly.
-pub fn src_unaligned(x: Source, w: Word) -> bool
+pub fn src_unaligned(looks: bool, x: Source, w: Word) -> bool
+    requires { ⌜ (looks ≡ false → Unaided (toWord w)) ⌝ }
     ensures { λ r. ⌜ r ≡ srcUnaligned (sourceIs x) (toWord w) ⌝ }
 {
     let broken = is_unaligned(src_subregister(x, w), size_of(src_type(x, w)));
-    both(negated(src_by_address(x, w)), broken)
+    both(negated(both(looks, src_by_address(x, w))), broken)
 }
 
 pub fn alignment_broken(p: Plain, w: Word) -> bool
     ensures { λ r. ⌜ r ≡ alignmentBroken (plainIs p) (toWord w) ⌝ }
 {
-    let first = src_unaligned(Source::First, w);
-    let second = src_unaligned(Source::Second, w);
-    some_operand(p, w, dst_unaligned(w), first, second)
+    let first = src_unaligned(true, Source::First, w);
+    let second = src_unaligned(true, Source::Second, w);
+    some_operand(p, w, dst_unaligned(true, w), first, second)
+}
+
+// The same of a word in which a0 has no part.
+pub(crate) fn alignment_broken_unaided(p: Plain, w: Word) -> bool
+    requires { ⌜ Unaided (toWord w) ⌝ }
+    ensures { λ r. ⌜ r ≡ alignmentBroken (plainIs p) (toWord w) ⌝ }
+{
+    let first = src_unaligned(false, Source::First, w);
+    let second = src_unaligned(false, Source::Second, w);
+    some_operand(p, w, dst_unaligned(false, w), first, second)
 }
 
 // ---- 11
@@ -148,31 +163,39 @@ pub(crate) fn region_too_far(bytes: usize, r: Region, last: usize) -> bool
 }
 
 // A source reaches too far, and is named directly.
-pub fn src_far(x: Source, w: Word) -> bool
+pub fn src_far(looks: bool, x: Source, w: Word) -> bool
+    requires { ⌜ (looks ≡ false → Unaided (toWord w)) ⌝ }
     ensures { λ r. ⌜ r ≡ srcFar (sourceIs x) (toWord w) ⌝ }
 {
-    let bytes = bytes_in(src_is_a0(x, w));
-    let far = region_too_far(bytes, src_region(x, w), last_channel(w));
-    both(negated(src_by_address(x, w)), far)
+    let a0 = both(looks, src_is_a0(x, w));
+    let far = region_too_far(bytes_in(a0), src_region(a0, x, w), last_channel(w));
+    both(negated(both(looks, src_by_address(x, w))), far)
 }
 
 // The destination does, and is named directly.
-pub fn dst_far(w: Word) -> bool
+pub fn dst_far(looks: bool, w: Word) -> bool
+    requires { ⌜ (looks ≡ false → Unaided (toWord w)) ⌝ }
     ensures { λ r. ⌜ r ≡ dstFar (toWord w) ⌝ }
 {
-    let bytes = bytes_in(dst_is_a0(w));
-    let far = region_too_far(bytes, dst_region(w), last_channel(w));
-    both(negated(dst_by_address(w)), far)
+    let a0 = both(looks, dst_is_a0(w));
+    let far = region_too_far(bytes_in(a0), dst_region(a0, w), last_channel(w));
+    both(negated(both(looks, dst_by_address(w))), far)
 }
 
 pub fn reach_broken(p: Plain, w: Word) -> bool
     ensures { λ r. ⌜ r ≡ reachBroken (plainIs p) (toWord w) ⌝ }
 {
-    some_operand(
-        p,
-        w,
-        dst_far(w),
-        src_far(Source::First, w),
-        src_far(Source::Second, w),
-    )
+    let first = src_far(true, Source::First, w);
+    let second = src_far(true, Source::Second, w);
+    some_operand(p, w, dst_far(true, w), first, second)
+}
+
+// The same of a word in which a0 has no part.
+pub(crate) fn reach_broken_unaided(p: Plain, w: Word) -> bool
+    requires { ⌜ Unaided (toWord w) ⌝ }
+    ensures { λ r. ⌜ r ≡ reachBroken (plainIs p) (toWord w) ⌝ }
+{
+    let first = src_far(false, Source::First, w);
+    let second = src_far(false, Source::Second, w);
+    some_operand(p, w, dst_far(false, w), first, second)
 }

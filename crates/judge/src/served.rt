@@ -22,7 +22,6 @@ use words::fields::exec_size;
 use words::fields::immediate_form;
 use words::fields::is_immediate;
 use words::fields::is_null;
-use words::fields::operation;
 use words::fields::pred_ctrl;
 use words::fields::qtr_ctrl;
 use words::fields::saturate;
@@ -32,23 +31,24 @@ use words::fields::src_type;
 use words::fields::we_ctrl;
 use words::operation::Branch;
 use words::operation::Plain;
-use words::operation::is_branch;
 use words::region::count_of;
 use words::traits::compares;
 use words::traits::saturates;
+ghost use mathlib.Core.Bool.{false};
 ghost use mathlib.Core.Path.{_≡_};
-ghost use Rattle.paper.specs.Operation.{jmpi, isMov};
+ghost use Rattle.paper.specs.Operation.{jmpi, isMov, isBranch, operation};
 ghost use Rattle.paper.specs.Enable.{groupOf};
 ghost use Rattle.paper.specs.Legal.{reservedSet, quarterServed, predicateServed, conditionServed, controlServed, dstServed, srcServed, usesA0, movesWords, plainServed, structured, ownNeeds, branchServed};
 ghost use Rattle.words.specs.Operations.{plainIs, branchIs};
 ghost use Rattle.words.specs.Words.{toWord, sourceIs};
-ghost use Rattle.judge.specs.Rules.{a0Served};
+ghost use Rattle.words.specs.Unaided.{Unaided};
+ghost use Rattle.judge.specs.Rules.{a0Served, operandsServed};
 
-// 6: bit 7; for all but branches 47 or 95:90, or 127:121 outside immediate form.
-pub fn reserved_set(w: Word) -> bool
+// 6: bit 7; for all but branches, which are told, 47 or 95:90, or 127:121 outside immediate form.
+pub fn reserved_set(jumps: bool, w: Word) -> bool
+    requires { ⌜ jumps ≡ isBranch (operation (toWord w)) ⌝ }
     ensures { λ r. ⌜ r ≡ reservedSet (toWord w) ⌝ }
 {
-    let jumps = is_branch(operation(w));
     let top = both(negated(immediate_form(w)), negated(bits_121(w) == 0));
     let further = either(bit_47(w) == 1, either(negated(bits_90(w) == 0), top));
     either(bit_7(w) == 1, both(negated(jumps), further))
@@ -117,21 +117,27 @@ pub fn control_served(comparing: bool, saturating: bool, w: Word) -> bool
 
 // ---- 7: operands
 
+// Whether a0 may have a part in the word is told to the tests of single operands.
+
 // Registers, named directly or by address; or null or a0, named directly; of a listed type.
-pub fn dst_served(w: Word) -> bool
+pub fn dst_served(looks: bool, w: Word) -> bool
+    requires { ⌜ (looks ≡ false → Unaided (toWord w)) ⌝ }
     ensures { λ r. ⌜ r ≡ dstServed (toWord w) ⌝ }
 {
     let direct = dst_addr_mode(w) == 0;
-    let named = both(either(is_null(w), dst_is_a0(w)), direct);
+    let a0 = both(looks, dst_is_a0(w));
+    let named = both(either(is_null(w), a0), direct);
     both(either(dst_file(w) == 1, named), dst_type(w) <= 5)
 }
 
 // An immediate of type 0 to 3; or, of type 0 to 5, a register, named directly or by address, or a0, named directly.
-pub fn src_served(x: Source, w: Word) -> bool
+pub fn src_served(looks: bool, x: Source, w: Word) -> bool
+    requires { ⌜ (looks ≡ false → Unaided (toWord w)) ⌝ }
     ensures { λ r. ⌜ r ≡ srcServed (toWord w) (sourceIs x) ⌝ }
 {
     let kind = src_type(x, w);
-    let named = both(src_is_a0(x, w), src_addr_mode(x, w) == 0);
+    let a0 = both(looks, src_is_a0(x, w));
+    let named = both(a0, src_addr_mode(x, w) == 0);
     let register = both(either(src_file(x, w) == 1, named), kind <= 5);
     chosen(is_immediate(x, w), kind <= 3, register)
 }
@@ -186,15 +192,37 @@ fn a0_served(p: Plain, w: Word) -> bool
     true
 }
 
-// Every field that an operation with operands is judged by.
-pub fn plain_served(p: Plain, w: Word) -> bool
+// The operands of an operation, and a0 among them.
+fn operands_served(p: Plain, w: Word) -> bool
+    ensures { λ r. ⌜ r ≡ operandsServed (plainIs p) (toWord w) ⌝ }
+{
+    let first = negated(src_served(true, Source::First, w));
+    let second = negated(src_served(true, Source::Second, w));
+    let sources = negated(any_source(p, first, second));
+    both(dst_served(true, w), both(sources, a0_served(p, w)))
+}
+
+// The same in a word in which a0 has no part.
+fn operands_served_unaided(p: Plain, w: Word) -> bool
+    requires { ⌜ Unaided (toWord w) ⌝ }
+    ensures { λ r. ⌜ r ≡ operandsServed (plainIs p) (toWord w) ⌝ }
+{
+    let first = negated(src_served(false, Source::First, w));
+    let second = negated(src_served(false, Source::Second, w));
+    let sources = negated(any_source(p, first, second));
+    both(dst_served(false, w), sources)
+}
+
+// Every field that an operation with operands is judged by; whether a0 may have a part is told.
+pub fn plain_served(looks: bool, p: Plain, w: Word) -> bool
+    requires { ⌜ (looks ≡ false → Unaided (toWord w)) ⌝ }
     ensures { λ r. ⌜ r ≡ plainServed (plainIs p) (toWord w) ⌝ }
 {
-    let first = negated(src_served(Source::First, w));
-    let second = negated(src_served(Source::Second, w));
-    let sources = negated(any_source(p, first, second));
-    let operands = both(dst_served(w), both(sources, a0_served(p, w)));
-    both(control_served(compares(p), saturates(p), w), operands)
+    let control = control_served(compares(p), saturates(p), w);
+    if looks {
+        return both(control, operands_served(p, w));
+    }
+    both(control, operands_served_unaided(p, w))
 }
 
 // ---- 7: branches

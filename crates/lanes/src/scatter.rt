@@ -41,7 +41,7 @@ fn blend_channel(registers: &mut [u8], from: usize, size: usize, enable: u64, k:
 }
 
 // The n channels' values stored `stride` elements apart, each where its bit of the mask is 1.
-fn store_each(
+pub fn store_each(
     registers: &mut [u8],
     origin: usize,
     stride: usize,

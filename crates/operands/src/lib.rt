@@ -1,5 +1,6 @@
 // What the channels of a source read, as numbers.
 pub mod beside;
+pub mod elements;
 pub mod gather;
 pub mod modify;
 pub mod read;

@@ -11,7 +11,14 @@ ghost use Rattle.words.specs.Regions.{regionIs, Small};
 ghost use Rattle.operands.specs.Reads.{ElementsRead};
 
 // The elements of the n first channels of a region, as numbers. The size of the region's elements is given beside it.
-fn lines(registers: &[u8], r: Region, kind: u64, size: usize, n: usize, values: &mut [u64; 16])
+pub(crate) fn lines(
+    registers: &[u8],
+    r: Region,
+    kind: u64,
+    size: usize,
+    n: usize,
+    values: &mut [u64; 16],
+)
     requires { ⌜ Small r × (r .size ≡ size) × (size ≡ sizeOf kind) × (n ≤ 16) × (length (now values) ≡ 16) × (0 < size) ⌝ }
     requires { ⌜ ((k : ℕ) → k < n → elementAt (regionIs r) k + size ≤ length (now registers)) ⌝ }
     ensures { λ u. ⌜ ElementsRead (now (registers .entry)) (elementAt (regionIs r)) kind size n (now (values .entry)) (now (values .exit)) ⌝ }

@@ -8,6 +8,7 @@ use words::fields::src_modifier;
 use words::fields::src_type;
 use words::operand::Operand;
 use words::operand::operand_of;
+ghost use mathlib.Core.Bool.{false};
 ghost use mathlib.Core.Path.{_≡_};
 ghost use lib.ListN.{length};
 ghost use Rattle.paper.specs.Word.{src0, src1, srcIsA0};
@@ -18,11 +19,11 @@ ghost use Rattle.operands.specs.Single.{alone, none};
 
 // What the first channel of src0 reads.
 pub fn first_number(w: Word, registers: &[u8]) -> u64
-    requires { ⌜ Readable src0 (toWord w) × (length (now registers) ≡ bytesIn (srcIsA0 src0 (toWord w))) ⌝ }
+    requires { ⌜ Readable src0 (toWord w) × (length (now registers) ≡ bytesIn (srcIsA0 src0 (toWord w))) × (srcIsA0 src0 (toWord w) ≡ false) ⌝ }
     ensures { λ r. ⌜ OperandRead (toWord w) (now (registers .entry)) src0 1 none (alone r) ⌝ }
 {
     let kind = src_type(Source::First, w);
-    let o = operand_of(Source::First, w);
+    let o = operand_of(false, Source::First, w);
     match o {
         Operand::Fixed(pattern) => load(kind, pattern),
         Operand::Direct(r) => {
@@ -34,11 +35,11 @@ pub fn first_number(w: Word, registers: &[u8]) -> u64
 
 // What the first channel of src1 reads. It is said apart from src0, so that the fields of each are taken from known bits.
 pub fn second_number(w: Word, registers: &[u8]) -> u64
-    requires { ⌜ Readable src1 (toWord w) × (length (now registers) ≡ bytesIn (srcIsA0 src1 (toWord w))) ⌝ }
+    requires { ⌜ Readable src1 (toWord w) × (length (now registers) ≡ bytesIn (srcIsA0 src1 (toWord w))) × (srcIsA0 src1 (toWord w) ≡ false) ⌝ }
     ensures { λ r. ⌜ OperandRead (toWord w) (now (registers .entry)) src1 1 none (alone r) ⌝ }
 {
     let kind = src_type(Source::Second, w);
-    let o = operand_of(Source::Second, w);
+    let o = operand_of(false, Source::Second, w);
     match o {
         Operand::Fixed(pattern) => load(kind, pattern),
         Operand::Direct(r) => {

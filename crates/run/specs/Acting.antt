@@ -1,11 +1,12 @@
--- The word by which an instruction acts, in the paper's terms. Assumes nothing.
-use mathlib.Core.Bool.{Bool, true, false, false≢true}
+-- How a step is made, in the paper's terms. Assumes nothing.
+use mathlib.Core.Bool.{Bool, true, false, _||_, false≢true}
 use mathlib.Core.List.{List, map}
-use mathlib.Core.Path.{_≡_, refl, sym, ap, _∙_, subst}
+use mathlib.Core.Path.{_≡_, refl, sym, ap, ap₂, _∙_, subst}
 use Prim.Native.Nat.{ℕ}
-use Rattle.paper.specs.Operation.{Plain, Operation, plain, nop, branch, unlisted, operation}
+use Rattle.paper.specs.Word.{src0, dstIsA0, srcIsA0}
+use Rattle.paper.specs.Operation.{Plain, mov, Operation, plain, nop, branch, unlisted, operation}
 use Rattle.paper.specs.Store.{Store}
-use Rattle.paper.specs.Legal.{refusalOf}
+use Rattle.paper.specs.Legal.{usesA0, refusalOf}
 use Rattle.paper.specs.Address.{settled, addressBroken, addressStops}
 use Rattle.paper.specs.Effect.{plainEffect, effect}
 use Rattle.paper.specs.Machine.{Channel, State, Ways, isAwake, wake, pass, perform, stepAt}
@@ -14,17 +15,30 @@ use Rattle.laws.specs.Settled.{settled-named, settled-none, operation-settled}
 use Rattle.laws.specs.SettledLegal.{settled-legal}
 use Rattle.words.specs.declared.bytes.Word.{Word}
 use Rattle.words.specs.Words.{toWord}
-use Rattle.execute.specs.Readable.{Acting, Actable, effect-acting}
-use Rattle.address.specs.Settling.{Direct, Says, direct-named, unaddressed}
+use Rattle.words.specs.Unaided.{Unaided, unaided-named}
+use Rattle.execute.specs.Readable.{Acting, OnRegisters, effect-acting, a0-told, a0-moves}
+use Rattle.address.specs.Settling.{Says, unaddressed}
 use Rattle.address.specs.declared.settle.Settled.{Settled}
-use Rattle.address.specs.declared.settle.Settled.the-variants.{Acts, Broken}
+use Rattle.address.specs.declared.settle.Settled.the-variants as settle
+use Rattle.run.specs.declared.acting.Act.{Act}
+use Rattle.run.specs.declared.acting.Act.the-variants.{Steps, Moves, Broken}
 
--- With a0 as it stands, no address of w is broken, and a word v, which can be executed, acts as w does; or an address is.
-abbrev pub Settles : Settled → List ℕ → ℕ → Type 0
-Settles (Acts v) addresses w =
-    (addressStops addresses w ≡ false) × Actable (toWord v)
-    × ((here : ℕ) (ways : Ways) (t : State) → t .store .addresses ≡ addresses → stepAt (toWord v) here ways t ≡ stepAt w here ways t)
-Settles Broken addresses w = addressStops addresses w ≡ true
+-- Word v acts as w does, a0 being as it stands.
+abbrev pub SameStep : List ℕ → ℕ → ℕ → Type 0
+SameStep addresses w v = (here : ℕ) (ways : Ways) (t : State) → t .store .addresses ≡ addresses → stepAt v here ways t ≡ stepAt w here ways t
+
+-- With a0 as it stands, no address of w is broken, and word v, which acts on registers alone or is a mov of a0, acts as w does; or an address is.
+abbrev pub ActsFor : Act → List ℕ → ℕ → Type 0
+ActsFor (Steps v) addresses w = (addressStops addresses w ≡ false) × OnRegisters (toWord v) × SameStep addresses w (toWord v)
+ActsFor (Moves v) addresses w =
+    (addressStops addresses w ≡ false) × ((operation (toWord v) ≡ plain mov) × Acting mov (toWord v)) × SameStep addresses w (toWord v)
+ActsFor Broken addresses w = addressStops addresses w ≡ true
+
+-- A settled word steps, or moves where an operand is a0.
+abbrev pub TellsOf : Act → Settled → Type 0
+TellsOf (Steps v) s = (s ≡ settle.Acts v) × ((dstIsA0 (toWord v) || srcIsA0 src0 (toWord v)) ≡ false)
+TellsOf (Moves v) s = (s ≡ settle.Acts v) × ((dstIsA0 (toWord v) || srcIsA0 src0 (toWord v)) ≡ true)
+TellsOf Broken s = s ≡ settle.Broken
 
 plain-same : (p q : Plain) → plain p ≡ plain q → p ≡ q
 plain-same p q e = cc
@@ -36,11 +50,6 @@ module _ (addresses : List ℕ) (w : ℕ) where
   unfolding addressStops
   stops-told o e = ap (λ (q : Operation). elim q [ plain p ↦ addressBroken p addresses w | nop ↦ false | branch b ↦ false | unlisted ↦ false ]) e
 
-  -- What is no operation with operands acts as it stands.
-  pub settles-idle : (v : ℕ) → v ≡ w → ((p : Plain) → operation w ≡ plain p → ⊥) → addressStops addresses w ≡ false
-      → (addressStops addresses w ≡ false) × Actable v × ((here : ℕ) (ways : Ways) (t : State) → t .store .addresses ≡ addresses → stepAt v here ways t ≡ stepAt w here ways t)
-  settles-idle v e never s = (s, λ p o. absurd (never p (ap operation (sym e) ∙ o)), λ here ways t a. ap (λ (u : ℕ). stepAt u here ways t) e)
-
   module _ (p : Plain) (o : operation w ≡ plain p) (legal : refusalOf w ≡ 0) where
     pub settles-broken : addressBroken p addresses w ≡ true → addressStops addresses w ≡ true
     settles-broken b = stops-told (plain p) o ∙ b
@@ -51,9 +60,6 @@ module _ (addresses : List ℕ) (w : ℕ) where
 
       acting : Acting p v
       acting = subst (Acting p) (sym e) (record { legal = settled-legal addresses p w (legal-plain p w o legal) b; named = settled-named addresses p w })
-
-      actable : Actable v
-      actable q f = subst (λ (r : Plain). Acting r v) (plain-same p q (sym is ∙ f)) acting
 
       effects : (awake : List Bool) (st : Store) → st .addresses ≡ addresses → effect v awake st ≡ effect w awake st
       unfolding effect
@@ -73,16 +79,29 @@ module _ (addresses : List ℕ) (w : ℕ) where
           ∙ (λ i. record { store = effects (map isAwake cs) (t .store) a i; channels = cs; place = ways .next })
           ∙ sym (passes w o here ways t)
 
-      -- A settled word acts as the word does.
-      pub settles-acts : (addressStops addresses w ≡ false) × Actable v
-          × ((here : ℕ) (ways : Ways) (t : State) → t .store .addresses ≡ addresses → stepAt v here ways t ≡ stepAt w here ways t)
-      settles-acts = (stops-told (plain p) o ∙ b, actable, steps)
+      -- Without a0 as an operand it acts on registers alone,
+      pub acts-steps : (dstIsA0 v || srcIsA0 src0 v) ≡ false → (addressStops addresses w ≡ false) × OnRegisters v × SameStep addresses w v
+      acts-steps none =
+          let alone : Acting p v × (usesA0 p v ≡ false) = (acting, a0-told p v acting ∙ none) in
+          (stops-told (plain p) o ∙ b, λ q f. subst (λ (r : Plain). Acting r v × (usesA0 r v ≡ false)) (plain-same p q (sym is ∙ f)) alone, steps)
 
--- What settling says of a word with operands.
-pub settles-said : (addresses : List ℕ) (w : ℕ) (p : Plain) → operation w ≡ plain p → refusalOf w ≡ 0
-    → (r : Settled) → Says r (addressBroken p addresses w) (settled p addresses w) → Settles r addresses w
-settles-said addresses w p o legal (Acts v) (b, e) = settles-acts addresses w p o legal (toWord v) b e
-settles-said addresses w p o legal Broken b = settles-broken addresses w p o legal b
+      -- and with it the operation is mov.
+      pub acts-moves : (dstIsA0 v || srcIsA0 src0 v) ≡ true → (addressStops addresses w ≡ false) × ((operation v ≡ plain mov) × Acting mov v) × SameStep addresses w v
+      acts-moves some =
+          let moves : p ≡ mov = a0-moves p v acting (a0-told p v acting ∙ some) in
+          (stops-told (plain p) o ∙ b, (is ∙ ap plain moves, subst (λ (r : Plain). Acting r v) moves acting), steps)
+
+-- What is told of a settled word holds of the word.
+pub acts-said : (addresses : List ℕ) (w : ℕ) (p : Plain) → operation w ≡ plain p → refusalOf w ≡ 0
+    → (s : Settled) → Says s (addressBroken p addresses w) (settled p addresses w) → (r : Act) → TellsOf r s → ActsFor r addresses w
+acts-said addresses w p o legal s says (Steps v) (e, none) =
+    let (b, same) = subst (λ (x : Settled). Says x (addressBroken p addresses w) (settled p addresses w)) e says in
+    acts-steps addresses w p o legal (toWord v) b same none
+acts-said addresses w p o legal s says (Moves v) (e, some) =
+    let (b, same) = subst (λ (x : Settled). Says x (addressBroken p addresses w) (settled p addresses w)) e says in
+    acts-moves addresses w p o legal (toWord v) b same some
+acts-said addresses w p o legal s says Broken e =
+    settles-broken addresses w p o legal (subst (λ (x : Settled). Says x (addressBroken p addresses w) (settled p addresses w)) e says)
 
 -- The operation has operands.
 abbrev pub hasOperands : Operation → Bool
@@ -92,10 +111,10 @@ hasOperands (branch b) = false
 hasOperands unlisted = false
 
 -- One that has none acts as it stands.
-pub settles-other : (addresses : List ℕ) (w : ℕ) (o : Operation) → operation w ≡ o → hasOperands o ≡ false
-    → (addressStops addresses w ≡ false) × Actable w × ((here : ℕ) (ways : Ways) (t : State) → t .store .addresses ≡ addresses → stepAt w here ways t ≡ stepAt w here ways t)
-settles-other addresses w o e h =
-    settles-idle addresses w w refl (λ p f. false≢true (sym h ∙ ap hasOperands (sym e ∙ f))) (go o e h)
+pub acts-other : (addresses : List ℕ) (w : ℕ) (o : Operation) → operation w ≡ o → hasOperands o ≡ false
+    → (addressStops addresses w ≡ false) × OnRegisters w × SameStep addresses w w
+acts-other addresses w o e h =
+    (go o e h, λ p f. absurd (false≢true (sym h ∙ ap hasOperands (sym e ∙ f))), λ here ways t a. refl)
   where
     go : (o : Operation) → operation w ≡ o → hasOperands o ≡ false → addressStops addresses w ≡ false
     go (plain p) e h = absurd (false≢true (sym h))
@@ -103,24 +122,24 @@ settles-other addresses w o e h =
     go (branch b) e h = stops-told addresses w (branch b) e
     go unlisted e h = stops-told addresses w unlisted e
 
--- A legal word of which no operand is by address acts as it stands, whatever its operation.
-pub settles-direct : (addresses : List ℕ) (w : ℕ) → refusalOf w ≡ 0 → Direct w
-    → (addressStops addresses w ≡ false) × Actable w × ((here : ℕ) (ways : Ways) (t : State) → t .store .addresses ≡ addresses → stepAt w here ways t ≡ stepAt w here ways t)
-settles-direct addresses w legal direct = (go (operation w) refl, actable, λ here ways t a. refl)
+-- A legal word in which a0 has no part acts as it stands, whatever its operation.
+pub acts-unaided : (addresses : List ℕ) (w : ℕ) → refusalOf w ≡ 0 → Unaided w
+    → (addressStops addresses w ≡ false) × OnRegisters w × SameStep addresses w w
+acts-unaided addresses w legal unaided = (go (operation w) refl, alone, λ here ways t a. refl)
   where
-    actable : Actable w
-    actable p o = record { legal = legal-plain p w o legal; named = direct-named p w direct }
+    acting : (p : Plain) → operation w ≡ plain p → Acting p w
+    acting p o = record { legal = legal-plain p w o legal; named = unaided-named p w unaided }
+
+    alone : OnRegisters w
+    alone p o = (acting p o, a0-told p w (acting p o) ∙ ap₂ _||_ (unaided .destination) (unaided .source src0))
 
     go : (o : Operation) → operation w ≡ o → addressStops addresses w ≡ false
-    go (plain p) o = stops-told addresses w (plain p) o ∙ unaddressed p addresses w (legal-plain p w o legal) (direct-named p w direct)
+    go (plain p) o = stops-told addresses w (plain p) o ∙ unaddressed p addresses w (legal-plain p w o legal) (unaided-named p w unaided)
     go nop o = stops-told addresses w nop o
     go (branch b) o = stops-told addresses w (branch b) o
     go unlisted o = stops-told addresses w unlisted o
 
--- ---- what a match on what was settled tells
+-- ---- what a match on how a step is made tells
 
-pub settled-broken : (addresses : List ℕ) (w : ℕ) (r : Settled) → Settles r addresses w → r ≡ Broken → addressStops addresses w ≡ true
-settled-broken addresses w r s e = subst (λ (x : Settled). Settles x addresses w) e s
-
-pub settled-acts : (addresses : List ℕ) (w : ℕ) (r : Settled) → Settles r addresses w → (v : Word) → r ≡ Acts v → Settles (Acts v) addresses w
-settled-acts addresses w r s v e = subst (λ (x : Settled). Settles x addresses w) e s
+pub acts-by : (addresses : List ℕ) (w : ℕ) (r q : Act) → ActsFor r addresses w → r ≡ q → ActsFor q addresses w
+acts-by addresses w r q s e = subst (λ (x : Act). ActsFor x addresses w) e s

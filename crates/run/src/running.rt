@@ -1,8 +1,9 @@
 // Steps of an accepted kernel, which is not judged again.
+use crate::acting::Act;
 use crate::acting::acting;
 use crate::table::row_at;
-use address::settle::Settled;
 use machine::step::Stand;
+use machine::step::move_at;
 use machine::step::step_at;
 ghost use mathlib.Core.List.{List};
 ghost use Rattle.paper.specs.Kernel.{Instr};
@@ -44,16 +45,24 @@ pub(crate) fn run_on(
         }
         let row = row_at(table, s.place);
         let ways = row.ways;
-        let word = acting(row.word, addresses);
-        let Settled::Acts(w) = word else {
-            return Outcome {
-                verdict: 22,
-                steps: steps,
-                stand: s,
-            };
-        };
-        s = step_at(w, ways, s, registers, addresses, here);
-        steps += 1;
+        let act = acting(row.looks, row.word, addresses);
+        match act {
+            Act::Steps(w) => {
+                s = step_at(w, ways, s, registers, here);
+                steps += 1;
+            }
+            Act::Moves(w) => {
+                s = move_at(w, ways, s, registers, addresses, here);
+                steps += 1;
+            }
+            Act::Broken => {
+                return Outcome {
+                    verdict: 22,
+                    steps: steps,
+                    stand: s,
+                };
+            }
+        }
     }
     Outcome {
         verdict: 20,

@@ -10,11 +10,13 @@ use crate::fields::of_source;
 use crate::fields::src_addr_mode;
 use crate::fields::src_file;
 use crate::fields::src_register;
+ghost use mathlib.Core.Bool.{false};
 ghost use mathlib.Core.Path.{_≡_};
 ghost use Prim.Native.Nat.{_<_};
-ghost use Rattle.paper.specs.Word.{dstByAddress, dstIndirect, dstIsA0, dstRegister, srcByAddress, srcIndirect, srcIsA0, srcRegister};
+ghost use Rattle.paper.specs.Word.{dstByAddress, dstIndirect, dstIsA0, srcByAddress, srcIndirect, srcIsA0};
 ghost use Rattle.paper.specs.Region.{registerAt};
 ghost use Rattle.words.specs.Words.{toWord, sourceIs};
+ghost use Rattle.words.specs.Unaided.{Direct, Unaided};
 
 // ---- a0
 
@@ -38,24 +40,15 @@ pub fn src_is_a0(x: Source, w: Word) -> bool
     false
 }
 
-// The byte at which the destination's register begins in its file.
-pub(crate) fn dst_register_at(w: Word) -> u64
-    ensures { λ r. ⌜ (r ≡ registerAt (dstIsA0 (toWord w)) (dstRegister (toWord w))) × (r < 8161) ⌝ }
+// The byte at which a register begins in its file: a0 is a file of its own.
+pub(crate) fn register_at(a0: bool, register: u64) -> u64
+    requires { ⌜ register < 256 ⌝ }
+    ensures { λ r. ⌜ (r ≡ registerAt a0 register) × (r < 8161) ⌝ }
 {
-    if dst_is_a0(w) {
+    if a0 {
         return 0;
     }
-    dst_register(w) * 32
-}
-
-// The byte at which a source's register begins in its file.
-pub(crate) fn src_register_at(x: Source, w: Word) -> u64
-    ensures { λ r. ⌜ (r ≡ registerAt (srcIsA0 (sourceIs x) (toWord w)) (srcRegister (sourceIs x) (toWord w))) × (r < 8161) ⌝ }
-{
-    if src_is_a0(x, w) {
-        return 0;
-    }
-    src_register(x, w) * 32
+    register * 32
 }
 
 // ---- by address
@@ -89,4 +82,29 @@ pub fn src_indirect(x: Source, w: Word) -> u64
     ensures { λ r. ⌜ (r ≡ srcIndirect (sourceIs x) (toWord w)) × (r < 8192) ⌝ }
 {
     of_source(x, w, 0, 13)
+}
+
+// ---- whether a0 has a part
+
+// An operand may be by address: an AddrMode is 1, or what stands in its place in an immediate.
+fn may_address(w: Word) -> bool
+    ensures { λ r. ⌜ (r ≡ false → Direct (toWord w)) ⌝ }
+{
+    (w.lo >> 63) + (w.hi >> 15) % 2 + (w.hi >> 47) % 2 != 0
+}
+
+// a0 may have a part in what a word does: an operand may be by address, or is a0 itself.
+pub fn looks_at_a0(w: Word) -> bool
+    ensures { λ r. ⌜ (r ≡ false → Unaided (toWord w)) ⌝ }
+{
+    if may_address(w) {
+        return true;
+    }
+    if dst_is_a0(w) {
+        return true;
+    }
+    if src_is_a0(Source::First, w) {
+        return true;
+    }
+    src_is_a0(Source::Second, w)
 }

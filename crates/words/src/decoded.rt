@@ -1,4 +1,6 @@
 // What a word says: its operation, its control fields, its operands and its distances. With these all its fields are named; a field that nothing executes is carried.
+use crate::addresses::dst_is_a0;
+use crate::addresses::src_is_a0;
 use crate::bytes::Word;
 use crate::fields::Source;
 use crate::fields::acc_wr_ctrl;
@@ -126,7 +128,7 @@ pub fn destination_of(w: Word) -> Destination
         file: dst_file(w),
         kind: dst_type(w),
         mode: dst_addr_mode(w),
-        region: dst_region(w),
+        region: dst_region(dst_is_a0(w), w),
     }
 }
 
@@ -139,7 +141,7 @@ pub fn input_of(x: Source, w: Word) -> Input
         kind: src_type(x, w),
         modifier: src_modifier(x, w),
         mode: src_addr_mode(x, w),
-        operand: operand_of(x, w),
+        operand: operand_of(src_is_a0(x, w), x, w),
     }
 }
 

@@ -8,7 +8,7 @@ use crate::region::Region;
 use crate::region::src_region;
 use crate::types::size_of;
 ghost use mathlib.Core.Path.{_≡_};
-ghost use Rattle.paper.specs.Word.{srcType};
+ghost use Rattle.paper.specs.Word.{srcIsA0, srcType};
 ghost use Rattle.paper.specs.Region.{operandOf};
 ghost use Rattle.words.specs.Words.{toWord, sourceIs};
 ghost use Rattle.words.specs.Operands.{operandIs, Bounded};
@@ -19,8 +19,9 @@ pub enum Operand {
     Direct(Region),
 }
 
-// What a source of a word names.
-pub fn operand_of(x: Source, w: Word) -> Operand
+// What a source of a word names; whether it is a0 is told.
+pub fn operand_of(a0: bool, x: Source, w: Word) -> Operand
+    requires { ⌜ a0 ≡ srcIsA0 (sourceIs x) (toWord w) ⌝ }
     ensures { λ r. ⌜ (operandIs r ≡ operandOf (sourceIs x) (toWord w)) × Bounded (srcType (sourceIs x) (toWord w)) r ⌝ }
 {
     if is_immediate(x, w) {
@@ -28,5 +29,5 @@ pub fn operand_of(x: Source, w: Word) -> Operand
         let pattern = high(w, 32, bits);
         return Operand::Fixed(pattern);
     }
-    Operand::Direct(src_region(x, w))
+    Operand::Direct(src_region(a0, x, w))
 }

@@ -1,12 +1,13 @@
 // Regions: where an operand's elements lie, and at which byte each channel's starts.
-use crate::addresses::dst_register_at;
-use crate::addresses::src_register_at;
+use crate::addresses::register_at;
 use crate::bytes::Word;
 use crate::fields::Source;
+use crate::fields::dst_register;
 use crate::fields::dst_stride;
 use crate::fields::dst_subregister;
 use crate::fields::dst_type;
 use crate::fields::src_horz_stride;
+use crate::fields::src_register;
 use crate::fields::src_subregister;
 use crate::fields::src_type;
 use crate::fields::src_vert_stride;
@@ -14,6 +15,7 @@ use crate::fields::src_width;
 use crate::types::size_of;
 ghost use mathlib.Core.Path.{_≡_};
 ghost use Prim.Native.Nat.{_+_, _*_, _/_, _%_, _^_, _<_, _≤_};
+ghost use Rattle.paper.specs.Word.{dstIsA0, srcIsA0};
 ghost use Rattle.paper.specs.Region.{countOf, strideOf, elementAt, srcRegion};
 ghost use Rattle.laws.specs.Regions.{dstRegion};
 ghost use Rattle.words.specs.Words.{toWord, sourceIs};
@@ -44,11 +46,12 @@ pub fn stride_of(code: u64) -> usize
     (1 << code) / 2
 }
 
-// The region of a source.
-pub fn src_region(x: Source, w: Word) -> Region
+// The region of a source; whether it is a0 is told. Where it is known not to be, nothing is asked for that.
+pub fn src_region(a0: bool, x: Source, w: Word) -> Region
+    requires { ⌜ a0 ≡ srcIsA0 (sourceIs x) (toWord w) ⌝ }
     ensures { λ r. ⌜ (regionIs r ≡ srcRegion (sourceIs x) (toWord w)) × Small r ⌝ }
 {
-    let origin = (src_register_at(x, w) + src_subregister(x, w)) as usize;
+    let origin = (register_at(a0, src_register(x, w)) + src_subregister(x, w)) as usize;
     let vert = stride_of(src_vert_stride(x, w));
     let code = src_width(x, w) as usize;
     let horz = stride_of(src_horz_stride(x, w));
@@ -62,11 +65,12 @@ pub fn src_region(x: Source, w: Word) -> Region
     }
 }
 
-// The destination's region: each channel is a row.
-pub fn dst_region(w: Word) -> Region
+// The destination's region, as told as a source's: each channel is a row.
+pub fn dst_region(a0: bool, w: Word) -> Region
+    requires { ⌜ a0 ≡ dstIsA0 (toWord w) ⌝ }
     ensures { λ r. ⌜ (regionIs r ≡ dstRegion (toWord w)) × Small r ⌝ }
 {
-    let origin = (dst_register_at(w) + dst_subregister(w)) as usize;
+    let origin = (register_at(a0, dst_register(w)) + dst_subregister(w)) as usize;
     let vert = stride_of(dst_stride(w));
     let size = size_of(dst_type(w)) as usize;
     Region {

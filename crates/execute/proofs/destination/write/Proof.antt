@@ -1,5 +1,5 @@
 -- The test is the choice of the definition, and what is handed to `scatter` is the destination's region, which lies inside the registers. Assumes nothing.
-use mathlib.Core.Path.{_≡_, ap}
+use mathlib.Core.Path.{_≡_, sym, ap}
 use mathlib.Core.Bool.{false}
 use Rattle.paper.specs.Word.{dstType, isNull}
 use Rattle.paper.specs.Region.{Region}
@@ -19,7 +19,7 @@ unfolding written
 returns c = rw (← (c .before .is-null .ensures), c .if1 .taken)
 
 dst-region-requires : tie.Need-dst-region-requires
-dst-region-requires c κs = search needs
+dst-region-requires c κs = sym (c .before .before .before .pre .2)
 
 channels-requires : tie.Need-channels-requires
 channels-requires c κs = search needs

@@ -56,7 +56,7 @@ quarter-mask-requires c κs = search needs
 results-requires : tie.Need-results-requires
 results-requires c κs =
     let s = c .before .before .before .before .before .before .before in
-    (legal s, reads s, refl)
+    (legal s, reads s, refl, s .pre .0 .1)
 
 quarter-mask-requires-2 : tie.Need-quarter-mask-requires-2
 quarter-mask-requires-2 c κs = search needs
@@ -64,7 +64,7 @@ quarter-mask-requires-2 c κs = search needs
 write-requires : tie.Need-write-requires
 write-requires c κs =
     let s = c .before .before .before .before .before .before .before .before .before .before .before in
-    (legal-writable (plainIs (s .args .p)) (toWord (s .args .w)) (legal s), writes s)
+    (legal-writable (plainIs (s .args .p)) (toWord (s .args .w)) (legal s), writes s, not-destination (plainIs (s .args .p)) (toWord (s .args .w)) (s .pre .0 .1))
 
 flags-after-requires : tie.Need-flags-after-requires
 flags-after-requires c κs = legal (c .before .before .before .before .before .before .before .before .before .before .before .before .before .before .before)

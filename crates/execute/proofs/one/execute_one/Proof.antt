@@ -39,7 +39,7 @@ quarter-mask-requires c κs = search needs
 result-of-requires : tie.Need-result-of-requires
 result-of-requires c κs =
     let s = c .before .before .before .before .before .before in
-    (legal s, reads s, s .pre .0 .2)
+    (legal s, reads s, s .pre .0 .2, s .pre .0 .1)
 
 quarter-mask-requires-2 : tie.Need-quarter-mask-requires-2
 quarter-mask-requires-2 c κs = search needs
@@ -47,7 +47,7 @@ quarter-mask-requires-2 c κs = search needs
 store-requires : tie.Need-store-requires
 store-requires c κs =
     let s = c .before .before .before .before .before .before .before .before .before in
-    (legal-writable (plainIs (s .args .p)) (toWord (s .args .w)) (legal s), writes s, s .pre .0 .2)
+    (legal-writable (plainIs (s .args .p)) (toWord (s .args .w)) (legal s), writes s, s .pre .0 .2, not-destination (plainIs (s .args .p)) (toWord (s .args .w)) (s .pre .0 .1))
 
 flags-of-one-requires : tie.Need-flags-of-one-requires
 flags-of-one-requires c κs =

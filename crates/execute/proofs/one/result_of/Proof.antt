@@ -7,7 +7,7 @@ use Rattle.paper.specs.Word.{src0, dstType}
 use Rattle.words.specs.Operations.{plainIs}
 use Rattle.laws.specs.Sources.{first-source}
 use Rattle.words.specs.Words.{toWord}
-use Rattle.execute.specs.Readable.{legal-type, legal-readable}
+use Rattle.execute.specs.Readable.{legal-type, legal-readable, not-source}
 use Rattle.execute.specs.Results.{read-operands, kept-stays, kept-clamped}
 use Rattle.execute.specs.Single.{made-alone}
 use borrow.Author.Needs.{needs}
@@ -18,7 +18,7 @@ first-number-requires : tie.Need-first-number-requires
 first-number-requires c κs =
     let s = c .before in
     let p = plainIs (s .args .p) in
-    (legal-readable p (toWord (s .args .w)) (s .pre .0) src0 (first-source p), s .pre .1)
+    (legal-readable p (toWord (s .args .w)) (s .pre .0) src0 (first-source p), s .pre .1, not-source p (toWord (s .args .w)) (s .pre .3) src0 (first-source p))
 
 second-of-requires : tie.Need-second-of-requires
 second-of-requires c κs = search needs

@@ -1,5 +1,5 @@
 -- The test is the choice of the definition, and the element is the destination's first. Assumes nothing.
-use mathlib.Core.Path.{_≡_, ap}
+use mathlib.Core.Path.{_≡_, sym, ap}
 use mathlib.Core.Bool.{false}
 use native.Mathlib.Omega.{arith}
 use Rattle.paper.specs.Word.{dstType, isNull}
@@ -20,7 +20,7 @@ unfolding written
 returns c = rw (← (c .before .is-null .ensures), c .if1 .taken)
 
 dst-region-requires : tie.Need-dst-region-requires
-dst-region-requires c κs = search needs
+dst-region-requires c κs = sym (c .before .before .before .pre .3)
 
 store-channel-requires : tie.Need-store-channel-requires
 store-channel-requires c κs =

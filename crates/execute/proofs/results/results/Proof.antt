@@ -6,7 +6,7 @@ use Rattle.paper.specs.Word.{src0}
 use Rattle.words.specs.Operations.{plainIs}
 use Rattle.laws.specs.Sources.{first-source}
 use Rattle.words.specs.Words.{toWord}
-use Rattle.execute.specs.Readable.{legal-count, legal-type, legal-readable}
+use Rattle.execute.specs.Readable.{legal-count, legal-type, legal-readable, not-source}
 use Rattle.execute.specs.Results.{zeros-near, read-sixteen, read-operands, combined-sixteen, results-made}
 use borrow.Author.Needs.{needs}
 use Rattle.execute.proofs.results.results.Statement.{statement}
@@ -19,12 +19,12 @@ first-operand-requires : tie.Need-first-operand-requires
 first-operand-requires c κs =
     let s = c .before .before .before in
     let p = plainIs (s .args .p) in
-    (legal-readable p (toWord (s .args .w)) (s .pre .0) src0 (first-source p), c .before .channels .ensures .0, s .pre .1, s .pre .2)
+    (legal-readable p (toWord (s .args .w)) (s .pre .0) src0 (first-source p), c .before .channels .ensures .0, s .pre .1, s .pre .2, not-source p (toWord (s .args .w)) (s .pre .3) src0 (first-source p))
 
 second-requires : tie.Need-second-requires
 second-requires c κs =
     let s = c .before .before .before .before .before in
-    ((s .pre .0, c .before .before .before .channels .ensures .0, s .pre .1, refl), zeros-near _ _ refl (c .before .before .before .channels .ensures .1))
+    ((s .pre .0, c .before .before .before .channels .ensures .0, s .pre .1, refl, s .pre .3), zeros-near _ _ refl (c .before .before .before .channels .ensures .1))
 
 cond-modifier-requires : tie.Need-cond-modifier-requires
 cond-modifier-requires c κs = search needs

@@ -1,13 +1,16 @@
 -- The parts are the definition's parts, in its order. Assumes nothing.
 use mathlib.Core.Path.{_≡_, sym, _∙_}
 use borrow.Author.Tests.{not-true, not-false}
-use Rattle.judge.specs.Rules.{later-field, later-operand, later-shape, later-alignment, later-reach, later-nothing}
+use Rattle.judge.specs.Rules.{later-field, later-operand, later-shape, later-places}
 use borrow.Author.Needs.{needs}
 use Rattle.judge.proofs.refusal.judge_plain.Statement.{statement}
 use Rattle.judge.proofs.refusal.judge_plain.Tie as tie
 
+looks-at-a0-requires : tie.Need-looks-at-a0-requires
+looks-at-a0-requires c κs = search needs
+
 plain-served-requires : tie.Need-plain-served-requires
-plain-served-requires c κs = search needs
+plain-served-requires c κs = c .looks-at-a0 .ensures
 
 returns : tie.Need-returns
 returns c = sym (later-field _ _ (sym (c .before .plain-served .ensures) ∙ not-true _ (c .if1 .taken)))
@@ -19,38 +22,39 @@ returns-2 : tie.Need-returns-2
 returns-2 c = sym (later-operand _ _ (sym (c .before .before .before .plain-served .ensures) ∙ not-false _ (c .before .before .if1 .left)) (sym (c .before .operand-rule-broken .ensures) ∙ (c .if2 .taken)))
 
 shape-broken-requires : tie.Need-shape-broken-requires
-shape-broken-requires c κs = (c .before .before .before .before .pre, sym (c .before .before .before .plain-served .ensures) ∙ not-false _ (c .before .before .if1 .left))
+shape-broken-requires c κs = (c .before .before .before .before .before .pre, sym (c .before .before .before .plain-served .ensures) ∙ not-false _ (c .before .before .if1 .left))
 
 returns-3 : tie.Need-returns-3
 returns-3 c = sym (later-shape _ _ (sym (c .before .before .before .before .before .plain-served .ensures) ∙ not-false _ (c .before .before .before .before .if1 .left)) (sym (c .before .before .before .operand-rule-broken .ensures) ∙ (c .before .before .if2 .left)) (sym (c .before .shape-broken .ensures) ∙ (c .if3 .taken)))
 
-alignment-broken-requires : tie.Need-alignment-broken-requires
-alignment-broken-requires c κs = search needs
+judge-places-requires : tie.Need-judge-places-requires
+judge-places-requires c κs = search needs
 
 returns-4 : tie.Need-returns-4
-returns-4 c = sym (later-alignment _ _ (sym (c .before .before .before .before .before .before .before .plain-served .ensures) ∙ not-false _ (c .before .before .before .before .before .before .if1 .left)) (sym (c .before .before .before .before .before .operand-rule-broken .ensures) ∙ (c .before .before .before .before .if2 .left)) (sym (c .before .before .before .shape-broken .ensures) ∙ (c .before .before .if3 .left)) (sym (c .before .alignment-broken .ensures) ∙ (c .if4 .taken)))
+returns-4 c =
+    c .judge-places .ensures
+    ∙ sym (later-places _ _ (sym (c .before .before .before .before .before .before .before .plain-served .ensures) ∙ not-false _ (c .before .before .before .before .before .before .if1 .left)) (sym (c .before .before .before .before .before .operand-rule-broken .ensures) ∙ c .before .before .before .before .if2 .left) (sym (c .before .before .before .shape-broken .ensures) ∙ c .before .before .if3 .left))
 
-reach-broken-requires : tie.Need-reach-broken-requires
-reach-broken-requires c κs = search needs
+judge-places-unaided-requires : tie.Need-judge-places-unaided-requires
+judge-places-unaided-requires c κs = c .before .before .before .before .before .before .before .looks-at-a0 .ensures (c .if4 .left)
 
 returns-5 : tie.Need-returns-5
-returns-5 c = sym (later-reach _ _ (sym (c .before .before .before .before .before .before .before .before .before .plain-served .ensures) ∙ not-false _ (c .before .before .before .before .before .before .before .before .if1 .left)) (sym (c .before .before .before .before .before .before .before .operand-rule-broken .ensures) ∙ (c .before .before .before .before .before .before .if2 .left)) (sym (c .before .before .before .before .before .shape-broken .ensures) ∙ (c .before .before .before .before .if3 .left)) (sym (c .before .before .before .alignment-broken .ensures) ∙ (c .before .before .if4 .left)) (sym (c .before .reach-broken .ensures) ∙ (c .if5 .taken)))
-
-returns-6 : tie.Need-returns-6
-returns-6 c = sym (later-nothing _ _ (sym (c .before .before .before .before .before .before .before .before .before .plain-served .ensures) ∙ not-false _ (c .before .before .before .before .before .before .before .before .if1 .left)) (sym (c .before .before .before .before .before .before .before .operand-rule-broken .ensures) ∙ (c .before .before .before .before .before .before .if2 .left)) (sym (c .before .before .before .before .before .shape-broken .ensures) ∙ (c .before .before .before .before .if3 .left)) (sym (c .before .before .before .alignment-broken .ensures) ∙ (c .before .before .if4 .left)) (sym (c .before .reach-broken .ensures) ∙ (c .if5 .left)))
+returns-5 c =
+    c .judge-places-unaided .ensures
+    ∙ sym (later-places _ _ (sym (c .before .before .before .before .before .before .before .plain-served .ensures) ∙ not-false _ (c .before .before .before .before .before .before .if1 .left)) (sym (c .before .before .before .before .before .operand-rule-broken .ensures) ∙ c .before .before .before .before .if2 .left) (sym (c .before .before .before .shape-broken .ensures) ∙ c .before .before .if3 .left))
 
 pub judge-plain-spec : {M : Type 1} → statement M
 judge-plain-spec =
     tie.close
     (tie.spec
+    looks-at-a0-requires
     plain-served-requires
     returns
     operand-rule-broken-requires
     returns-2
     shape-broken-requires
     returns-3
-    alignment-broken-requires
+    judge-places-requires
     returns-4
-    reach-broken-requires
-    returns-5
-    returns-6)
+    judge-places-unaided-requires
+    returns-5)

@@ -1,17 +1,18 @@
 -- The parts are the definition's parts, in its order. Assumes nothing.
+use mathlib.Core.Bool.{true≢false}
 use Rattle.judge.specs.Rules.{alignment-rule}
 use borrow.Author.Needs.{needs}
 use Rattle.judge.proofs.regions.alignment_broken.Statement.{statement}
 use Rattle.judge.proofs.regions.alignment_broken.Tie as tie
 
 src-unaligned-requires : tie.Need-src-unaligned-requires
-src-unaligned-requires c κs = search needs
+src-unaligned-requires c κs = λ e. absurd (true≢false e)
 
 src-unaligned-requires-2 : tie.Need-src-unaligned-requires-2
-src-unaligned-requires-2 c κs = search needs
+src-unaligned-requires-2 c κs = λ e. absurd (true≢false e)
 
 dst-unaligned-requires : tie.Need-dst-unaligned-requires
-dst-unaligned-requires c κs = search needs
+dst-unaligned-requires c κs = λ e. absurd (true≢false e)
 
 some-operand-requires : tie.Need-some-operand-requires
 some-operand-requires c κs = search needs

@@ -1,4 +1,7 @@
 -- The parts are the definition's parts, in its order. Assumes nothing.
+use mathlib.Core.Bool.{_&&_}
+use mathlib.Core.Path.{ap, _∙_}
+use Rattle.judge.specs.Rules.{asked}
 use borrow.Author.Needs.{needs}
 use Rattle.judge.proofs.regions.dst_unaligned.Statement.{statement}
 use Rattle.judge.proofs.regions.dst_unaligned.Tie as tie
@@ -18,14 +21,20 @@ is-unaligned-requires c κs = search needs
 dst-by-address-requires : tie.Need-dst-by-address-requires
 dst-by-address-requires c κs = search needs
 
-negated-requires : tie.Need-negated-requires
-negated-requires c κs = search needs
-
 both-requires : tie.Need-both-requires
 both-requires c κs = search needs
 
+negated-requires : tie.Need-negated-requires
+negated-requires c κs = search needs
+
+both-requires-2 : tie.Need-both-requires-2
+both-requires-2 c κs = search needs
+
 returns : tie.Need-returns
-returns c = rw (c .both .ensures, c .before .negated .ensures, c .before .before .dst-by-address .ensures, c .before .before .before .is-unaligned .ensures, c .before .before .before .before .size-of .ensures .0, c .before .before .before .before .before .dst-type .ensures .0, c .before .before .before .before .before .before .dst-subregister .ensures .0)
+returns c =
+    let s = c .before .before .before .before .before .before .before .before in
+    let mode = c .before .before .both .ensures ∙ ap (_&&_ (s .args .looks)) (c .before .before .before .dst-by-address .ensures) ∙ asked _ _ (λ e. s .pre e .direct .destination) in
+    rw (c .both2 .ensures, c .before .negated .ensures, mode, c .before .before .before .before .is-unaligned .ensures, c .before .before .before .before .before .size-of .ensures .0, c .before .before .before .before .before .before .dst-type .ensures .0, c .before .before .before .before .before .before .before .dst-subregister .ensures .0)
 
 pub dst-unaligned-spec : {M : Type 1} → statement M
 dst-unaligned-spec =
@@ -36,6 +45,7 @@ dst-unaligned-spec =
     size-of-requires
     is-unaligned-requires
     dst-by-address-requires
-    negated-requires
     both-requires
+    negated-requires
+    both-requires-2
     returns)

@@ -4,36 +4,6 @@ use borrow.Author.Needs.{needs}
 use Rattle.judge.proofs.served.plain_served.Statement.{statement}
 use Rattle.judge.proofs.served.plain_served.Tie as tie
 
-src-served-requires : tie.Need-src-served-requires
-src-served-requires c κs = search needs
-
-negated-requires : tie.Need-negated-requires
-negated-requires c κs = search needs
-
-src-served-requires-2 : tie.Need-src-served-requires-2
-src-served-requires-2 c κs = search needs
-
-negated-requires-2 : tie.Need-negated-requires-2
-negated-requires-2 c κs = search needs
-
-any-source-requires : tie.Need-any-source-requires
-any-source-requires c κs = search needs
-
-negated-requires-3 : tie.Need-negated-requires-3
-negated-requires-3 c κs = search needs
-
-dst-served-requires : tie.Need-dst-served-requires
-dst-served-requires c κs = search needs
-
-a0-served-requires : tie.Need-a0-served-requires
-a0-served-requires c κs = search needs
-
-both-requires : tie.Need-both-requires
-both-requires c κs = search needs
-
-both-requires-2 : tie.Need-both-requires-2
-both-requires-2 c κs = search needs
-
 compares-requires : tie.Need-compares-requires
 compares-requires c κs = search needs
 
@@ -43,28 +13,34 @@ saturates-requires c κs = search needs
 control-served-requires : tie.Need-control-served-requires
 control-served-requires c κs = search needs
 
-both-requires-3 : tie.Need-both-requires-3
-both-requires-3 c κs = search needs
+operands-served-requires : tie.Need-operands-served-requires
+operands-served-requires c κs = search needs
+
+both-requires : tie.Need-both-requires
+both-requires c κs = search needs
 
 returns : tie.Need-returns
-returns c = rw (plain-served, c .both3 .ensures, c .before .control-served .ensures, c .before .before .saturates .ensures, c .before .before .before .compares .ensures, c .before .before .before .before .both2 .ensures, c .before .before .before .before .before .both .ensures, c .before .before .before .before .before .before .a0-served .ensures, c .before .before .before .before .before .before .before .dst-served .ensures, c .before .before .before .before .before .before .before .before .negated3 .ensures, c .before .before .before .before .before .before .before .before .before .any-source .ensures, c .before .before .before .before .before .before .before .before .before .before .negated2 .ensures, c .before .before .before .before .before .before .before .before .before .before .before .src-served2 .ensures, c .before .before .before .before .before .before .before .before .before .before .before .before .negated .ensures, c .before .before .before .before .before .before .before .before .before .before .before .before .before .src-served .ensures)
+returns c = rw (plain-served, c .both .ensures, c .before .operands-served .ensures, c .before .before .before .control-served .ensures, c .before .before .before .before .saturates .ensures, c .before .before .before .before .before .compares .ensures)
+
+operands-served-unaided-requires : tie.Need-operands-served-unaided-requires
+operands-served-unaided-requires c κs = c .before .before .before .before .pre (c .if1 .left)
+
+both-requires-2 : tie.Need-both-requires-2
+both-requires-2 c κs = search needs
+
+returns-2 : tie.Need-returns-2
+returns-2 c = rw (plain-served, c .both2 .ensures, c .before .operands-served-unaided .ensures, c .before .before .before .control-served .ensures, c .before .before .before .before .saturates .ensures, c .before .before .before .before .before .compares .ensures)
 
 pub plain-served-spec : {M : Type 1} → statement M
 plain-served-spec =
     tie.close
     (tie.spec
-    src-served-requires
-    negated-requires
-    src-served-requires-2
-    negated-requires-2
-    any-source-requires
-    negated-requires-3
-    dst-served-requires
-    a0-served-requires
-    both-requires
-    both-requires-2
     compares-requires
     saturates-requires
     control-served-requires
-    both-requires-3
-    returns)
+    operands-served-requires
+    both-requires
+    returns
+    operands-served-unaided-requires
+    both-requires-2
+    returns-2)

@@ -4,12 +4,6 @@ use borrow.Author.Needs.{needs}
 use Rattle.judge.proofs.served.reserved_set.Statement.{statement}
 use Rattle.judge.proofs.served.reserved_set.Tie as tie
 
-operation-requires : tie.Need-operation-requires
-operation-requires c κs = search needs
-
-is-branch-requires : tie.Need-is-branch-requires
-is-branch-requires c κs = search needs
-
 immediate-form-requires : tie.Need-immediate-form-requires
 immediate-form-requires c κs = search needs
 
@@ -54,14 +48,12 @@ either-requires-3 c κs = search needs
 
 returns : tie.Need-returns
 unfolding reservedSet
-returns c = rw (c .either3 .ensures, c .before .both2 .ensures, c .before .before .negated4 .ensures, c .before .before .before .bit-7 .ensures .0, c .before .before .before .before .either2 .ensures, c .before .before .before .before .before .either .ensures, c .before .before .before .before .before .before .negated3 .ensures, c .before .before .before .before .before .before .before .bits-90 .ensures .0, c .before .before .before .before .before .before .before .before .bit-47 .ensures .0, c .before .before .before .before .before .before .before .before .before .both .ensures, c .before .before .before .before .before .before .before .before .before .before .negated2 .ensures, c .before .before .before .before .before .before .before .before .before .before .before .bits-121 .ensures .0, c .before .before .before .before .before .before .before .before .before .before .before .before .negated .ensures, c .before .before .before .before .before .before .before .before .before .before .before .before .before .immediate-form .ensures, c .before .before .before .before .before .before .before .before .before .before .before .before .before .before .is-branch .ensures, c .before .before .before .before .before .before .before .before .before .before .before .before .before .before .before .operation .ensures)
+returns c = rw (c .either3 .ensures, c .before .both2 .ensures, c .before .before .negated4 .ensures, c .before .before .before .bit-7 .ensures .0, c .before .before .before .before .either2 .ensures, c .before .before .before .before .before .either .ensures, c .before .before .before .before .before .before .negated3 .ensures, c .before .before .before .before .before .before .before .bits-90 .ensures .0, c .before .before .before .before .before .before .before .before .bit-47 .ensures .0, c .before .before .before .before .before .before .before .before .before .both .ensures, c .before .before .before .before .before .before .before .before .before .before .negated2 .ensures, c .before .before .before .before .before .before .before .before .before .before .before .bits-121 .ensures .0, c .before .before .before .before .before .before .before .before .before .before .before .before .negated .ensures, c .before .before .before .before .before .before .before .before .before .before .before .before .before .immediate-form .ensures, c .before .before .before .before .before .before .before .before .before .before .before .before .before .before .pre)
 
 pub reserved-set-spec : {M : Type 1} → statement M
 reserved-set-spec =
     tie.close
     (tie.spec
-    operation-requires
-    is-branch-requires
     immediate-form-requires
     negated-requires
     bits-121-requires

@@ -1,5 +1,9 @@
 -- The parts are the definition's parts, in its order. Assumes nothing.
 use Rattle.paper.specs.Legal.{srcServed}
+use mathlib.Core.Bool.{_&&_}
+use mathlib.Core.Path.{ap, _∙_}
+use Rattle.words.specs.Words.{sourceIs}
+use Rattle.judge.specs.Rules.{asked}
 use borrow.Author.Needs.{needs}
 use Rattle.judge.proofs.served.src_served.Statement.{statement}
 use Rattle.judge.proofs.served.src_served.Tie as tie
@@ -10,11 +14,14 @@ src-type-requires c κs = search needs
 src-is-a0-requires : tie.Need-src-is-a0-requires
 src-is-a0-requires c κs = search needs
 
+both-requires : tie.Need-both-requires
+both-requires c κs = search needs
+
 src-addr-mode-requires : tie.Need-src-addr-mode-requires
 src-addr-mode-requires c κs = search needs
 
-both-requires : tie.Need-both-requires
-both-requires c κs = search needs
+both-requires-2 : tie.Need-both-requires-2
+both-requires-2 c κs = search needs
 
 src-file-requires : tie.Need-src-file-requires
 src-file-requires c κs = search needs
@@ -22,8 +29,8 @@ src-file-requires c κs = search needs
 either-requires : tie.Need-either-requires
 either-requires c κs = search needs
 
-both-requires-2 : tie.Need-both-requires-2
-both-requires-2 c κs = search needs
+both-requires-3 : tie.Need-both-requires-3
+both-requires-3 c κs = search needs
 
 is-immediate-requires : tie.Need-is-immediate-requires
 is-immediate-requires c κs = search needs
@@ -33,7 +40,10 @@ chosen-requires c κs = search needs
 
 returns : tie.Need-returns
 unfolding srcServed
-returns c = rw (c .chosen .ensures, c .before .is-immediate .ensures, c .before .before .both2 .ensures, c .before .before .before .either .ensures, c .before .before .before .before .src-file .ensures .0, c .before .before .before .before .before .both .ensures, c .before .before .before .before .before .before .src-addr-mode .ensures .0, c .before .before .before .before .before .before .before .src-is-a0 .ensures, c .before .before .before .before .before .before .before .before .src-type .ensures .0)
+returns c =
+    let s = c .before .before .before .before .before .before .before .before .before .before in
+    let a0 = c .before .before .before .before .before .before .before .both .ensures ∙ ap (_&&_ (s .args .looks)) (c .before .before .before .before .before .before .before .before .src-is-a0 .ensures) ∙ asked _ _ (λ e. s .pre e .source (sourceIs (s .args .x))) in
+    rw (c .chosen .ensures, c .before .is-immediate .ensures, c .before .before .both3 .ensures, c .before .before .before .either .ensures, c .before .before .before .before .src-file .ensures .0, c .before .before .before .before .before .both2 .ensures, c .before .before .before .before .before .before .src-addr-mode .ensures .0, a0, c .before .before .before .before .before .before .before .before .before .src-type .ensures .0)
 
 pub src-served-spec : {M : Type 1} → statement M
 src-served-spec =
@@ -41,11 +51,12 @@ src-served-spec =
     (tie.spec
     src-type-requires
     src-is-a0-requires
-    src-addr-mode-requires
     both-requires
+    src-addr-mode-requires
+    both-requires-2
     src-file-requires
     either-requires
-    both-requires-2
+    both-requires-3
     is-immediate-requires
     chosen-requires
     returns)

@@ -6,18 +6,13 @@ use native.Mathlib.Omega.{arith}
 use lib.ListN.{length}
 use Rattle.paper.specs.Kernel.{Instr}
 use Rattle.paper.specs.Machine.{State, step}
-use Rattle.run.specs.Acting.{settled-broken, settled-acts}
+use Rattle.run.specs.Acting.{acts-by}
 use Rattle.run.specs.Running.{Running, running-registers, running-addresses, running-a0, running-sound, running-place, running-end, running-spent, running-made}
-use Rattle.run.specs.Tables.{Tabled, row-there, row-away, row-steps}
+use Rattle.run.specs.Tables.{Tabled, row-there, row-away, row-steps, row-unaided}
 use Rattle.run.specs.Outcomes.{Leads, leads-start, leads-on, leads-spent, leads-stopped, leads-end}
 use borrow.Author.Needs.{needs}
 use Rattle.run.proofs.running.run_on.Statement.{statement}
 use Rattle.run.proofs.running.run_on.Tie as tie
-use Rattle.run.proofs.running.run_on.Reads as reads
-use Rattle.run.proofs.running.run_on.Lts as lts
-use Rattle.machine.proofs.step.step_at.Reads as step-at-reads
-use Rattle.run.proofs.acting.acting.Reads as acting-reads
-use Rattle.run.proofs.table.row_at.Reads as row-at-reads
 
 abbrev Inv-loop : tie.InvT-loop
 Inv-loop table end budget registers₀ addresses₀ here₀ s₀ steps₀ registers addresses here s steps =
@@ -28,109 +23,99 @@ Inv-loop table end budget registers₀ addresses₀ here₀ s₀ steps₀ regist
 abbrev μ-loop : tie.MeasureT-loop
 μ-loop table end budget registers₀ addresses₀ here₀ s₀ steps₀ registers addresses here s steps = budget - steps
 
--- src/running.rt:37:5
 loop-holds : tie.Need-loop-holds Inv-loop μ-loop
 loop-holds c = (omega arith, λ k t r d. (t, r, leads-start k _ t), refl, λ e. refl)
 
--- src/running.rt:39:13
 same-length : tie.Need-same-length Inv-loop μ-loop
 same-length c =
     let p = c .before .before .before .before .before .before .before .before .pre in
     let i = c .before .before .before .loop .inv .1 (p .0) (p .1) (p .2) (p .3) in
     running-registers (p .0) _ _ _ _ (i .0) (i .1) ∙ sym (running-registers (p .0) _ _ _ _ (p .1) (p .2))
 
--- src/running.rt:39:13
 same-length-2 : tie.Need-same-length-2 Inv-loop μ-loop
 same-length-2 c =
     let p = c .before .before .before .before .before .before .before .before .pre in
     let i = c .before .before .before .loop .inv .1 (p .0) (p .1) (p .2) (p .3) in
     running-addresses (p .0) _ _ _ _ (i .0) (i .1) ∙ sym (running-addresses (p .0) _ _ _ _ (p .1) (p .2))
 
--- src/running.rt:39:13
 same-length-3 : tie.Need-same-length-3 Inv-loop μ-loop
 same-length-3 c = c .before .before .before .loop .inv .2
 
--- src/running.rt:39:13
 returns : tie.Need-returns Inv-loop μ-loop
 returns c =
     λ k t r d.
     let i = c .before .before .before .loop .inv .1 k t r d in
     (i .0, i .1, leads-spent k _ t _ (i .0) (i .2) (running-spent k _ _ _ _ (i .0) (i .1) (row-away k _ _ _ _ d _ _ _ _ (i .0) (i .1) (c .before .if1 .taken))) (c .if2 .taken))
 
--- src/running.rt:45:13
 row-at-requires : tie.Need-row-at-requires Inv-loop μ-loop
 row-at-requires c κs =
     let p = c .before .before .before .before .before .before .before .before .pre in
     let i = c .before .before .before .loop .inv .1 (p .0) (p .1) (p .2) (p .3) in
     row-there (p .0) _ _ _ _ (p .3) _ _ _ _ (i .0) (i .1) (c .before .if1 .taken)
 
--- src/running.rt:47:13
 acting-requires : tie.Need-acting-requires Inv-loop μ-loop
 acting-requires c κs =
     let p = c .before .before .before .before .before .before .before .before .before .before .before .pre in
     let i = c .before .before .before .before .before .before .loop .inv .1 (p .0) (p .1) (p .2) (p .3) in
     let st = row-steps (p .0) _ _ _ _ (p .3) _ _ _ _ (i .0) (i .1) (c .before .before .before .before .if1 .taken) _ (c .before .before .before .before .before .before .loop .inv .3) (omega (arith, c .before .before .before .before .before .before .loop .inv .0, c .before .before .before .if2 .left)) _ _ (c .before .before .row-at .ensures .0) (c .before .before .row-at .ensures .1) in
-    (st .legal, running-addresses (p .0) _ _ _ _ (i .0) (i .1))
+    (st .legal, running-addresses (p .0) _ _ _ _ (i .0) (i .1), row-unaided (p .0) _ _ _ _ (p .3) _ _ _ _ (i .0) (i .1) (c .before .before .before .before .if1 .taken) _ (c .before .before .before .before .before .before .loop .inv .3) (omega (arith, c .before .before .before .before .before .before .loop .inv .0, c .before .before .before .if2 .left)) _ _ (c .before .before .row-at .ensures .0) (c .before .before .row-at .ensures .2))
 
--- src/running.rt:48:27
-enum-known-word : tie.Need-enum-known-word Inv-loop μ-loop
-enum-known-word c = search needs
+enum-known-act : tie.Need-enum-known-act Inv-loop μ-loop
+enum-known-act c = search needs
 
--- src/running.rt:49:13
-enum-told : tie.Need-enum-told Inv-loop μ-loop
-enum-told c = search needs
-
--- src/running.rt:49:13
-same-length-4 : tie.Need-same-length-4 Inv-loop μ-loop
-same-length-4 c =
-    let p = c .before .before .before .before .before .before .before .before .before .before .before .before .before .before .pre in
-    let i = c .before .before .before .before .before .before .before .before .before .loop .inv .1 (p .0) (p .1) (p .2) (p .3) in
-    running-registers (p .0) _ _ _ _ (i .0) (i .1) ∙ sym (running-registers (p .0) _ _ _ _ (p .1) (p .2))
-
--- src/running.rt:49:13
-same-length-5 : tie.Need-same-length-5 Inv-loop μ-loop
-same-length-5 c =
-    let p = c .before .before .before .before .before .before .before .before .before .before .before .before .before .before .pre in
-    let i = c .before .before .before .before .before .before .before .before .before .loop .inv .1 (p .0) (p .1) (p .2) (p .3) in
-    running-addresses (p .0) _ _ _ _ (i .0) (i .1) ∙ sym (running-addresses (p .0) _ _ _ _ (p .1) (p .2))
-
--- src/running.rt:49:13
-same-length-6 : tie.Need-same-length-6 Inv-loop μ-loop
-same-length-6 c = c .before .before .before .before .before .before .before .before .before .loop .inv .2
-
--- src/running.rt:49:13
-returns-2 : tie.Need-returns-2 Inv-loop μ-loop
-returns-2 c =
-    λ k t r d.
-    let i = c .before .before .before .before .before .before .before .before .before .loop .inv .1 k t r d in
-    let st = row-steps k _ _ _ _ d _ _ _ _ (i .0) (i .1) (c .before .before .before .before .before .before .before .if1 .taken) _ (c .before .before .before .before .before .before .before .before .before .loop .inv .3) (omega (arith, c .before .before .before .before .before .before .before .before .before .loop .inv .0, c .before .before .before .before .before .before .if2 .left)) _ _ (c .before .before .before .before .before .row-at .ensures .0) (c .before .before .before .before .before .row-at .ensures .1) in
-    let broken = settled-broken _ _ _ (c .before .before .acting .ensures) (c .enum-told .given .1) in
-    (i .0, i .1, leads-stopped k _ t _ (i .0) (i .2) (omega (arith, c .before .before .before .before .before .before .before .before .before .loop .inv .0, c .before .before .before .before .before .before .if2 .left)) 22 (st .astray broken))
-
--- src/running.rt:55:9
 step-at-requires : tie.Need-step-at-requires Inv-loop μ-loop
 step-at-requires c κs =
+    let p = c .before .before .before .before .before .before .before .before .before .before .before .before .before .before .before .before .before .pre in
+    let i = c .before .before .before .before .before .before .before .before .before .before .before .before .loop .inv .1 (p .0) (p .1) (p .2) (p .3) in
+    let st = row-steps (p .0) _ _ _ _ (p .3) _ _ _ _ (i .0) (i .1) (c .before .before .before .before .before .before .before .before .before .before .if1 .taken) _ (c .before .before .before .before .before .before .before .before .before .before .before .before .loop .inv .3) (omega (arith, c .before .before .before .before .before .before .before .before .before .before .before .before .loop .inv .0, c .before .before .before .before .before .before .before .before .before .if2 .left)) _ _ (c .before .before .before .before .before .before .before .before .row-at .ensures .0) (c .before .before .before .before .before .before .before .before .row-at .ensures .1) in
+    let acts = acts-by _ _ _ _ (c .before .before .before .before .before .acting .ensures) (c .before .before .before .act .given .1) in
+    ((acts .1, running-registers (p .0) _ _ _ _ (i .0) (i .1), st .within), (running-sound (p .0) _ _ _ _ (i .0) (i .1), running-place (p .0) _ _ _ _ (i .0) (i .1)))
+
+add-steps : tie.Need-add-steps Inv-loop μ-loop
+add-steps c = omega (arith, c .before .before .before .before .before .before .before .before .before .before .before .before .before .before .before .before .before .loop .inv .0, c .before .before .before .before .before .before .before .before .before .before .before .before .before .before .if2 .left, c .before .before .before .before .before .before .before .before .before .before .before .before .before .before .before .before .before .before .before .before .before .before .fits .budget)
+
+loop-less : tie.Need-loop-less Inv-loop μ-loop
+loop-less c = omega (arith, c .before .before .before .before .before .before .before .before .before .before .before .before .before .before .before .before .before .loop .inv .0, c .before .before .before .before .before .before .before .before .before .before .before .before .before .before .if2 .left)
+
+loop-again : tie.Need-loop-again Inv-loop μ-loop
+loop-again c =
+    let l = c .before .before .before .before .before .before .before .before .before .before .before .before .before .before .before .before .before .loop in
+    let more = c .before .before .before .before .before .before .before .before .before .before .before .before .before .before .if2 .left in
+    let m = c .before .before .before .before .step-at .ensures in
+    let acts = acts-by _ _ _ _ (c .before .before .before .before .before .before .before .before .before .before .acting .ensures) (c .before .before .before .before .before .before .before .before .act .given .1) in (
+      omega (arith, l .inv .0, more),
+      λ k t r d.
+          let i = l .inv .1 k t r d in
+          let st = row-steps k _ _ _ _ d _ _ _ _ (i .0) (i .1) (c .before .before .before .before .before .before .before .before .before .before .before .before .before .before .before .if1 .taken) _ (c .before .before .before .before .before .before .before .before .before .before .before .before .before .before .before .before .before .loop .inv .3) (omega (arith, c .before .before .before .before .before .before .before .before .before .before .before .before .before .before .before .before .before .loop .inv .0, c .before .before .before .before .before .before .before .before .before .before .before .before .before .before .if2 .left)) _ _ (c .before .before .before .before .before .before .before .before .before .before .before .before .before .row-at .ensures .0) (c .before .before .before .before .before .before .before .before .before .before .before .before .before .row-at .ensures .1) in
+          let same = acts .2 _ _ (i .0) (running-a0 k _ _ _ _ (i .0) (i .1)) in
+          (step k (i .0), running-made k _ _ _ _ (i .0) (i .1) _ _ _ st same _ _ _ _ (m .1 .2) (m .0 _ (i .0) (i .1 .shows)), leads-on k _ t _ (i .0) (i .2) (st .on (acts .0)) (omega (arith, l .inv .0, more)) (step k (i .0)) refl),
+      m .1 .2 ∙ l .inv .2,
+      λ e. absurd (omega arith),
+    )
+
+enum-known-act-2 : tie.Need-enum-known-act-2 Inv-loop μ-loop
+enum-known-act-2 c = search needs
+
+move-at-requires : tie.Need-move-at-requires Inv-loop μ-loop
+move-at-requires c κs =
     let p = c .before .before .before .before .before .before .before .before .before .before .before .before .before .before .before .before .before .before .pre in
     let i = c .before .before .before .before .before .before .before .before .before .before .before .before .before .loop .inv .1 (p .0) (p .1) (p .2) (p .3) in
     let st = row-steps (p .0) _ _ _ _ (p .3) _ _ _ _ (i .0) (i .1) (c .before .before .before .before .before .before .before .before .before .before .before .if1 .taken) _ (c .before .before .before .before .before .before .before .before .before .before .before .before .before .loop .inv .3) (omega (arith, c .before .before .before .before .before .before .before .before .before .before .before .before .before .loop .inv .0, c .before .before .before .before .before .before .before .before .before .before .if2 .left)) _ _ (c .before .before .before .before .before .before .before .before .before .row-at .ensures .0) (c .before .before .before .before .before .before .before .before .before .row-at .ensures .1) in
-    let acts = settled-acts _ _ _ (c .before .before .before .before .before .before .acting .ensures) _ (c .before .before .before .before .word .given .1) in
-    ((acts .1, running-registers (p .0) _ _ _ _ (i .0) (i .1), running-addresses (p .0) _ _ _ _ (i .0) (i .1), st .within), (running-sound (p .0) _ _ _ _ (i .0) (i .1), running-place (p .0) _ _ _ _ (i .0) (i .1)))
+    let acts = acts-by _ _ _ _ (c .before .before .before .before .before .before .acting .ensures) (c .before .before .before .before .act2 .given .1) in
+    ((acts .1 .0, acts .1 .1, running-registers (p .0) _ _ _ _ (i .0) (i .1), running-addresses (p .0) _ _ _ _ (i .0) (i .1)), (running-sound (p .0) _ _ _ _ (i .0) (i .1), running-place (p .0) _ _ _ _ (i .0) (i .1)))
 
--- src/running.rt:56:9
-add-steps : tie.Need-add-steps Inv-loop μ-loop
-add-steps c = omega (arith, c .before .before .before .before .before .before .before .before .before .before .before .before .before .before .before .before .before .before .before .before .loop .inv .0, c .before .before .before .before .before .before .before .before .before .before .before .before .before .before .before .before .before .if2 .left, c .before .before .before .before .before .before .before .before .before .before .before .before .before .before .before .before .before .before .before .before .before .before .before .before .before .fits .budget)
+add-steps-2 : tie.Need-add-steps-2 Inv-loop μ-loop
+add-steps-2 c = omega (arith, c .before .before .before .before .before .before .before .before .before .before .before .before .before .before .before .before .before .before .before .before .loop .inv .0, c .before .before .before .before .before .before .before .before .before .before .before .before .before .before .before .before .before .if2 .left, c .before .before .before .before .before .before .before .before .before .before .before .before .before .before .before .before .before .before .before .before .before .before .before .before .before .fits .budget)
 
--- src/running.rt:37:5
-loop-less : tie.Need-loop-less Inv-loop μ-loop
-loop-less c = omega (arith, c .before .before .before .before .before .before .before .before .before .before .before .before .before .before .before .before .before .before .before .before .loop .inv .0, c .before .before .before .before .before .before .before .before .before .before .before .before .before .before .before .before .before .if2 .left)
+loop-less-2 : tie.Need-loop-less-2 Inv-loop μ-loop
+loop-less-2 c = omega (arith, c .before .before .before .before .before .before .before .before .before .before .before .before .before .before .before .before .before .before .before .before .loop .inv .0, c .before .before .before .before .before .before .before .before .before .before .before .before .before .before .before .before .before .if2 .left)
 
--- src/running.rt:37:5
-loop-again : tie.Need-loop-again Inv-loop μ-loop
-loop-again c =
+loop-again-2 : tie.Need-loop-again-2 Inv-loop μ-loop
+loop-again-2 c =
     let l = c .before .before .before .before .before .before .before .before .before .before .before .before .before .before .before .before .before .before .before .before .loop in
     let more = c .before .before .before .before .before .before .before .before .before .before .before .before .before .before .before .before .before .if2 .left in
-    let m = c .before .before .before .before .before .before .step-at .ensures in
-    let acts = settled-acts _ _ _ (c .before .before .before .before .before .before .before .before .before .before .before .before .before .acting .ensures) _ (c .before .before .before .before .before .before .before .before .before .before .before .word .given .1) in (
+    let m = c .before .before .before .before .before .before .move-at .ensures in
+    let acts = acts-by _ _ _ _ (c .before .before .before .before .before .before .before .before .before .before .before .before .before .acting .ensures) (c .before .before .before .before .before .before .before .before .before .before .before .act2 .given .1) in (
       omega (arith, l .inv .0, more),
       λ k t r d.
           let i = l .inv .1 k t r d in
@@ -141,25 +126,47 @@ loop-again c =
       λ e. absurd (omega arith),
     )
 
--- src/running.rt:22:1
+enum-told : tie.Need-enum-told Inv-loop μ-loop
+enum-told c = search needs
+
+same-length-4 : tie.Need-same-length-4 Inv-loop μ-loop
+same-length-4 c =
+    let p = c .before .before .before .before .before .before .before .before .before .before .before .before .before .before .pre in
+    let i = c .before .before .before .before .before .before .before .before .before .loop .inv .1 (p .0) (p .1) (p .2) (p .3) in
+    running-registers (p .0) _ _ _ _ (i .0) (i .1) ∙ sym (running-registers (p .0) _ _ _ _ (p .1) (p .2))
+
+same-length-5 : tie.Need-same-length-5 Inv-loop μ-loop
+same-length-5 c =
+    let p = c .before .before .before .before .before .before .before .before .before .before .before .before .before .before .pre in
+    let i = c .before .before .before .before .before .before .before .before .before .loop .inv .1 (p .0) (p .1) (p .2) (p .3) in
+    running-addresses (p .0) _ _ _ _ (i .0) (i .1) ∙ sym (running-addresses (p .0) _ _ _ _ (p .1) (p .2))
+
+same-length-6 : tie.Need-same-length-6 Inv-loop μ-loop
+same-length-6 c = c .before .before .before .before .before .before .before .before .before .loop .inv .2
+
+returns-2 : tie.Need-returns-2 Inv-loop μ-loop
+returns-2 c =
+    λ k t r d.
+    let i = c .before .before .before .before .before .before .before .before .before .loop .inv .1 k t r d in
+    let st = row-steps k _ _ _ _ d _ _ _ _ (i .0) (i .1) (c .before .before .before .before .before .before .before .if1 .taken) _ (c .before .before .before .before .before .before .before .before .before .loop .inv .3) (omega (arith, c .before .before .before .before .before .before .before .before .before .loop .inv .0, c .before .before .before .before .before .before .if2 .left)) _ _ (c .before .before .before .before .before .row-at .ensures .0) (c .before .before .before .before .before .row-at .ensures .1) in
+    let broken = acts-by _ _ _ _ (c .before .before .acting .ensures) (c .enum-told .given .1) in
+    (i .0, i .1, leads-stopped k _ t _ (i .0) (i .2) (omega (arith, c .before .before .before .before .before .before .before .before .before .loop .inv .0, c .before .before .before .before .before .before .if2 .left)) 22 (st .astray broken))
+
 same-length-7 : tie.Need-same-length-7 Inv-loop μ-loop
 same-length-7 c =
     let p = c .before .before .before .before .before .before .before .pre in
     let i = c .before .before .loop .inv .1 (p .0) (p .1) (p .2) (p .3) in
     running-registers (p .0) _ _ _ _ (i .0) (i .1) ∙ sym (running-registers (p .0) _ _ _ _ (p .1) (p .2))
 
--- src/running.rt:22:1
 same-length-8 : tie.Need-same-length-8 Inv-loop μ-loop
 same-length-8 c =
     let p = c .before .before .before .before .before .before .before .pre in
     let i = c .before .before .loop .inv .1 (p .0) (p .1) (p .2) (p .3) in
     running-addresses (p .0) _ _ _ _ (i .0) (i .1) ∙ sym (running-addresses (p .0) _ _ _ _ (p .1) (p .2))
 
--- src/running.rt:22:1
 same-length-9 : tie.Need-same-length-9 Inv-loop μ-loop
 same-length-9 c = c .before .before .loop .inv .2
 
--- src/running.rt:22:1
 returns-3 : tie.Need-returns-3 Inv-loop μ-loop
 returns-3 c =
     λ k t r d.
@@ -179,16 +186,21 @@ run-on-spec =
     returns
     row-at-requires
     acting-requires
-    enum-known-word
+    enum-known-act
+    step-at-requires
+    add-steps
+    loop-less
+    loop-again
+    enum-known-act-2
+    move-at-requires
+    add-steps-2
+    loop-less-2
+    loop-again-2
     enum-told
     same-length-4
     same-length-5
     same-length-6
     returns-2
-    step-at-requires
-    add-steps
-    loop-less
-    loop-again
     same-length-7
     same-length-8
     same-length-9

@@ -49,13 +49,16 @@ slice-write-table-2 c =
 ways-of-requires : tie.Need-ways-of-requires
 ways-of-requires c κs = search needs
 
+looks-at-a0-requires : tie.Need-looks-at-a0-requires
+looks-at-a0-requires c κs = search needs
+
 code-of-requires : tie.Need-code-of-requires
 code-of-requires c κs =
-    let p = c .before .before .before .before .before .before .before .before .pre in
-    let there = sym (p .1 _) ∙ sym (c .before .before .before .before .is-marked .ensures) ∙ c .before .before .before .if1 .taken in
-    let near = bytes-within _ _ (p .0) _ there (λ e. omega (arith, p .2)) _ _ (c .before .before .word-at .ensures) in
-    let same = sym (c .ways-of .ensures) in
-    let within : Within 65536 (waysIs (c .ways-of .result)) = subst (Within 65536) same near in
+    let p = c .before .before .before .before .before .before .before .before .before .pre in
+    let there = sym (p .1 _) ∙ sym (c .before .before .before .before .before .is-marked .ensures) ∙ c .before .before .before .before .if1 .taken in
+    let near = bytes-within _ _ (p .0) _ there (λ e. omega (arith, p .2)) _ _ (c .before .before .before .word-at .ensures) in
+    let same = sym (c .before .ways-of .ensures) in
+    let within : Within 65536 (waysIs (c .before .ways-of .result)) = subst (Within 65536) same near in
     (within .next, within .jump, within .wait)
 
 add-table-2 : tie.Need-add-table-2
@@ -72,16 +75,16 @@ same-length c = search needs
 
 returns : tie.Need-returns
 returns c =
-    let p = c .before .before .before .before .before .before .before .before .before .pre in
-    let there = sym (p .1 _) ∙ sym (c .before .before .before .before .before .is-marked .ensures) ∙ c .before .before .before .before .if1 .taken in
-    let f = c .before .before .before .word-at .ensures in
+    let p = c .before .before .before .before .before .before .before .before .before .before .pre in
+    let there = sym (p .1 _) ∙ sym (c .before .before .before .before .before .before .is-marked .ensures) ∙ c .before .before .before .before .before .if1 .taken in
+    let f = c .before .before .before .before .word-at .ensures in
     let fetched = bytes-fetched _ _ (p .0) _ there (λ e. omega (arith, p .2)) _ _ f in
     let near = bytes-within _ _ (p .0) _ there (λ e. omega (arith, p .2)) _ _ f in
-    let e = c .before .ways-of .ensures in
-    let a = c .before .before .before .before .before .before .before .before .before .args in
-    let fetch = c .before .before .before .word-at .result in
-    let ways = ways-from (waysOf (instrOf (a .p) (fetch .size) (toWord (fetch .word)))) (c .code-of .result) (near .next) (near .jump) (near .wait) (rw (← e) (c .code-of .ensures)) in
-    entered-three _ _ _ _ _ _ _ (p .3) fetched refl ways
+    let e = c .before .before .ways-of .ensures in
+    let a = c .before .before .before .before .before .before .before .before .before .before .args in
+    let fetch = c .before .before .before .before .word-at .result in
+    let ways = ways-from (waysOf (instrOf (a .p) (fetch .size) (toWord (fetch .word)))) (c .code-of .result) (c .before .looks-at-a0 .result) (near .next) (near .jump) (near .wait) (rw (← e) (c .code-of .ensures)) in
+    entered-three _ _ _ _ _ _ _ (p .3) fetched refl (ways .0) (λ l. c .before .looks-at-a0 .ensures (sym (ways .1) ∙ l))
 
 returns-2 : tie.Need-returns-2
 returns-2 c =
@@ -102,6 +105,7 @@ put-row-spec =
     mul-table-2
     slice-write-table-2
     ways-of-requires
+    looks-at-a0-requires
     code-of-requires
     add-table-2
     mul-table-3

@@ -33,7 +33,7 @@ returns c =
     (ap (λ (n : ℕ). 8 * n) (c .before .size-of .ensures .0 ∙ ap sizeOf (c .before .before .src-type .ensures .0))) (c .high .ensures)
 
 src-region-requires : tie.Need-src-region-requires
-src-region-requires c κs = search needs
+src-region-requires c κs = c .before .before .pre
 
 returns-2 : tie.Need-returns-2
 returns-2 c =

@@ -3,67 +3,49 @@ use mathlib.Core.Path.{ap, ap₂, _∙_}
 use Prim.Native.Nat.{ℕ, _+_}
 use native.Mathlib.Omega.{arith}
 use Rattle.paper.specs.Value.{sizeOf}
-use Rattle.paper.specs.Region.{countOf, strideOf}
+use Rattle.paper.specs.Region.{registerAt, countOf, strideOf}
 use borrow.Author.Needs.{needs}
 use Rattle.words.specs.Regions.{region-is}
 use Rattle.words.proofs.region.src_region.Statement.{statement}
 use Rattle.words.proofs.region.src_region.Tie as tie
-use Rattle.words.proofs.region.src_region.Reads as reads
-use Rattle.words.proofs.region.src_region.Lts as lts
-use Rattle.words.proofs.fields.src_horz_stride.Reads as src-horz-stride-reads
-use Rattle.words.proofs.addresses.src_register_at.Reads as src-register-at-reads
-use Rattle.words.proofs.fields.src_subregister.Reads as src-subregister-reads
-use Rattle.words.proofs.fields.src_type.Reads as src-type-reads
-use Rattle.words.proofs.fields.src_vert_stride.Reads as src-vert-stride-reads
-use Rattle.words.proofs.fields.src_width.Reads as src-width-reads
-use Rattle.words.proofs.region.stride_of.Reads as stride-of-reads
-use Rattle.words.proofs.types.size_of.Reads as size-of-reads
 
--- src/region.rt:51:19
-src-register-at-requires : tie.Need-src-register-at-requires
-src-register-at-requires c κs = search needs
+src-register-requires : tie.Need-src-register-requires
+src-register-requires c κs = search needs
 
--- src/region.rt:51:45
+register-at-requires : tie.Need-register-at-requires
+register-at-requires c κs = c .src-register .ensures .1
+
 src-subregister-requires : tie.Need-src-subregister-requires
 src-subregister-requires c κs = search needs
 
--- src/region.rt:51:19
 add-origin : tie.Need-add-origin
 add-origin c = search needs
 
--- src/region.rt:52:26
 src-vert-stride-requires : tie.Need-src-vert-stride-requires
 src-vert-stride-requires c κs = search needs
 
--- src/region.rt:52:9
 stride-of-requires : tie.Need-stride-of-requires
 stride-of-requires c κs = search needs
 
--- src/region.rt:53:16
 src-width-requires : tie.Need-src-width-requires
 src-width-requires c κs = search needs
 
--- src/region.rt:54:26
 src-horz-stride-requires : tie.Need-src-horz-stride-requires
 src-horz-stride-requires c κs = search needs
 
--- src/region.rt:54:9
 stride-of-requires-2 : tie.Need-stride-of-requires-2
 stride-of-requires-2 c κs = search needs
 
--- src/region.rt:55:24
 src-type-requires : tie.Need-src-type-requires
 src-type-requires c κs = search needs
 
--- src/region.rt:55:16
 size-of-requires : tie.Need-size-of-requires
 size-of-requires c κs = search needs
 
--- src/region.rt:48:1
 returns : tie.Need-returns
 returns c = (
   region-is _ _
-      (ap₂ (λ (a b : ℕ). a + b) (c .before .before .before .before .before .before .before .before .src-register-at .ensures .0) (c .before .before .before .before .before .before .before .src-subregister .ensures .0))
+      (ap₂ (λ (a b : ℕ). a + b) (c .before .before .before .before .before .before .before .before .register-at .ensures .0 ∙ ap₂ registerAt (c .before .before .before .before .before .before .before .before .before .before .pre) (c .before .before .before .before .before .before .before .before .before .src-register .ensures .0)) (c .before .before .before .before .before .before .before .src-subregister .ensures .0))
       (c .before .before .before .before .before .stride-of .ensures .0 ∙ ap strideOf (c .before .before .before .before .before .before .src-vert-stride .ensures .0))
       (ap countOf (c .before .before .before .before .src-width .ensures .0))
       (c .before .before .stride-of2 .ensures .0 ∙ ap strideOf (c .before .before .before .src-horz-stride .ensures .0))
@@ -75,7 +57,8 @@ pub src-region-spec : {M : Type 1} → statement M
 src-region-spec =
     tie.close
     (tie.spec
-    src-register-at-requires
+    src-register-requires
+    register-at-requires
     src-subregister-requires
     add-origin
     src-vert-stride-requires

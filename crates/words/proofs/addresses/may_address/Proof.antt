@@ -1,8 +1,8 @@
 -- The three bits are those in which an AddrMode may stand. Assumes nothing.
-use Rattle.address.specs.Settling.{bits-direct}
+use Rattle.words.specs.Unaided.{bits-direct}
 use borrow.Author.Needs.{needs}
-use Rattle.address.proofs.settle.may_address.Statement.{statement}
-use Rattle.address.proofs.settle.may_address.Tie as tie
+use Rattle.words.proofs.addresses.may_address.Statement.{statement}
+use Rattle.words.proofs.addresses.may_address.Tie as tie
 
 add-result : tie.Need-add-result
 add-result c = search needs
