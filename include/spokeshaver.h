@@ -125,7 +125,7 @@ extern "C" {
 #define SPOKESHAVER_RESERVED_BITS 6     /* a bit is set that must be clear */
 #define SPOKESHAVER_NOT_SERVED 7        /* a field has a value that is not served, a predicate's group is larger than the size, or a0 is an operand of what is not a mov of uw operands */
 #define SPOKESHAVER_OPERAND_RULE 8      /* an operand rule is broken */
-#define SPOKESHAVER_REGION_SHAPE 9      /* a stride or width is undefined, the size is under the width, a source has a shape on which the machine hangs (docs/KERNELS.md), or the destination's stride is 0 */
+#define SPOKESHAVER_REGION_SHAPE 9      /* a stride or width is undefined, the size is under the width, a source has a shape on which the machine hangs (docs/CHECKING.md), or the destination's stride is 0 */
 #define SPOKESHAVER_UNALIGNED 10        /* a subregister, of an operand that is not by address, is no multiple of the element's size */
 #define SPOKESHAVER_OUT_OF_REACH 11     /* an operand that is not by address spans more than two registers, or goes past r127, or past the 16 bytes of a0 */
 #define SPOKESHAVER_STRAY_JUMP 12       /* a jump lands on no instruction's start and not on the end; of break and cont JIP or UIP */
