@@ -46,8 +46,8 @@
  *   0x02 sel    a where the predicate holds, else b
  *   0x04 not    the 32 bits of a turned over
  *   0x05 and    the 32 bits of a and b, bit by bit
- *   0x06 or
- *   0x07 xor
+ *   0x06 or     the same
+ *   0x07 xor    the same
  *   0x08 shr    a divided by 2 to the power b modulo 32, rounded down; src0 is unsigned
  *   0x09 shl    a times 2 to the power b modulo 32
  *   0x0C asr    as shr; src0 is signed
