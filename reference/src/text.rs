@@ -11,7 +11,9 @@
 //! A text that no word can hold as it stands is refused. What the bench refuses is not: a
 //! reviewer may write it in order to see the refusal.
 
+mod attributes;
 mod disassemble;
+mod faults;
 mod fields;
 mod instructions;
 mod laying;
@@ -27,14 +29,8 @@ use laying::{bytes_of, dictionary_for, place, Placed};
 use lines::lines_and_labels;
 
 pub use disassemble::disassemble;
+pub use faults::Fault;
 pub use fields::{Field, FIELDS};
-
-/// What is wrong with a line, whose number counts from 1 on.
-#[derive(Clone, PartialEq, Eq, Debug)]
-pub struct Fault {
-    pub line: usize,
-    pub sentence: String,
-}
 
 /// A kernel, and a dictionary that shortens as many of its words as it can hold; or all faults in
 /// the order of their lines.
@@ -78,6 +74,7 @@ fn read(text: &str) -> (Vec<Placed>, Vec<Fault>) {
     (placed, faults)
 }
 
+/// The kernel's bytes under a dictionary, unless something is wrong.
 fn finish(
     placed: &[Placed],
     dictionary: &Dictionary,

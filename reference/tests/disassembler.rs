@@ -37,13 +37,15 @@ fn packed(dictionary: &[u8], kernel: &[u8]) -> Option<Vec<u8>> {
     (answer.number == 0).then_some(out)
 }
 
-/// Accepted kernels of so many cases, each with its dictionary, as they are and packed.
+/// Accepted kernels of so many cases, each with its dictionary, as they are and packed. Of long
+/// kernels one in three is taken.
 fn accepted(cases: u64) -> Vec<(Vec<u8>, Vec<u8>)> {
     let mut found = Vec::new();
     for case in (0..cases).map(case) {
         let dictionary = &case.dictionary;
         for kernel in kernels(&case) {
-            if is_accepted(dictionary, &kernel) {
+            let is_taken = kernel.len() < 4_000 || case.seed % 3 == 0;
+            if is_taken && is_accepted(dictionary, &kernel) {
                 found
                     .extend(packed(dictionary, &kernel).map(|packed| (dictionary.clone(), packed)));
                 found.push((dictionary.clone(), kernel));
@@ -65,7 +67,7 @@ fn round_trip(dictionary: &[u8], kernel: &[u8]) -> String {
 /// Thousands of kernels go there and back, and every notation comes up on the way.
 #[test]
 fn assembling_undoes_disassembling() {
-    let kernels = accepted(5_000);
+    let kernels = accepted(6_000);
     let mut words = HashSet::new();
     for (dictionary, kernel) in &kernels {
         add_words(&mut words, &round_trip(dictionary, kernel));

@@ -81,8 +81,9 @@ fn misspelt_labels() {
 
 #[test]
 fn operations_without_channels() {
-    let sentence = "'add' is no operation with its channels, as add(16) is";
-    says("add r4<1>:d r4<8;8,1>:d 1:d", &[sentence]);
+    says("add r4<1>:d r4<8;8,1>:d 1:d", &["add needs its channels, as in add(16)"]);
+    says("cmp.ge f0.0 null:d 1:d", &["cmp.ge needs its channels, as in cmp.ge(16)"]);
+    says("mov(8)r4<1>:d", &["'mov(8)r4<1>:d' is no operation with its channels, as add(16) is"]);
 }
 
 #[test]

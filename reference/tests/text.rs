@@ -27,7 +27,8 @@ fn channel_counts() {
     let others = ["nop(0)", "nop(3)", "nop(12)", "nop(32)", "nop(256)", "nop(4294967296)"];
     all_refused(&others, &["channel count"]);
     all_refused(&["nop(3)"], &["3", "has no code", "1, 2, 4, 8, 16"]);
-    all_refused(&["nop()", "nop(-1)", "nop(+8)", "nop(8", "add", "add 8", "nop(8)8"], &["is no"]);
+    all_refused(&["nop()", "nop(-1)", "nop(+8)", "nop(8", "nop(8)8"], &["is no"]);
+    all_refused(&["add", "add 8"], &["add needs its channels"]);
 }
 
 /// nop alone is on one channel.

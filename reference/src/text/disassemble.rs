@@ -2,7 +2,9 @@
 //! makes the same bytes.
 
 use super::fields::{said, FIELDS};
-use super::names::{CONDITIONS, FLAGS, IMMEDIATE_TYPES, MODIFIERS, TYPES, VOTES};
+use super::names::{
+    CONDITIONS, FLAGS, IMMEDIATE_TYPES, MODIFIERS, NULL, SATURATED, SHORT, TYPES, VOTES,
+};
 use crate::answers::Refusal;
 use crate::assemble::{CHANNEL_COUNTS, STRIDES, VERTICAL_STRIDES, WIDTHS};
 use crate::calls::judged_kernel;
@@ -49,8 +51,8 @@ fn short_mark(instruction: &Instruction, kernel: &[u8], dictionary: &Dictionary)
     let start = 8 * instruction.place;
     let short = ShortWord::from_bytes(&kernel[start..start + 8]);
     Some(match shorten(instruction.word, dictionary) == Some(short) {
-        true => "short".to_string(),
-        false => format!("short=0x{:016x}", short.0),
+        true => SHORT.to_string(),
+        false => format!("{SHORT}=0x{:016x}", short.0),
     })
 }
 
@@ -75,6 +77,7 @@ fn line(instruction: &Instruction, program: &Program, short: Option<String>) -> 
     parts.join(" ")
 }
 
+/// The predicate in its parentheses, if there is one.
 fn predicate(word: LongWord) -> Option<String> {
     let sign = if word.predicate_inverse() == 1 { '-' } else { '+' };
     let flag = FLAGS.name(word.flag_choice())?;
@@ -96,7 +99,8 @@ fn head(word: LongWord, operation: Operation) -> String {
         _ => {
             let condition = CONDITIONS.name(word.condition_modifier());
             let condition = condition.map(|name| format!(".{name}")).unwrap_or_default();
-            let saturation = if word.saturate() == 1 { ".sat" } else { "" };
+            let saturation = (word.saturate() == 1).then(|| format!(".{SATURATED}"));
+            let saturation = saturation.unwrap_or_default();
             format!("{name}{condition}{saturation}({})", channels.expect("a served size"))
         }
     }
@@ -108,15 +112,17 @@ fn condition_flag(word: LongWord) -> Option<String> {
     FLAGS.name(word.flag_choice()).map(str::to_string)
 }
 
+/// The name of a type in registers.
 fn type_name(code: u32) -> &'static str {
     TYPES.name(code).expect("a served type")
 }
 
+/// The destination.
 fn destination(word: LongWord) -> String {
     let fields = word.destination();
     let name = type_name(fields.type_code);
     match fields.location().kind() {
-        Kind::Null => format!("null:{name}"),
+        Kind::Null => format!("{NULL}:{name}"),
         _ => {
             let place = origin(fields.location(), fields.type_code);
             format!("{place}<{}>:{name}", STRIDES[fields.stride as usize])
@@ -124,6 +130,7 @@ fn destination(word: LongWord) -> String {
     }
 }
 
+/// A source that is read.
 fn source(word: LongWord, which: usize) -> String {
     let fields = word.source(which);
     if fields.location().kind() == Kind::Immediate {
@@ -150,6 +157,7 @@ fn origin(location: Location, type_code: u32) -> String {
     }
 }
 
+/// An element of a0, and the bytes that are added to it.
 fn address(element: usize, added: i64) -> String {
     match added {
         0 => format!("a0.{element}"),

@@ -1,15 +1,16 @@
 //! One instruction read from its line: predicate, operation, operands or labels, and fields in
 //! braces. Each part is read for itself, so that all that is wrong with a line is found.
 
-use super::fields::{said, FIELDS};
+use super::attributes::attribute;
+use super::faults::Wrong;
 use super::lines::{parts, Labels, Parts};
-use super::names::{self, CONDITIONS, FLAGS, VOTES};
+use super::names::{self, CONDITIONS, FLAGS, SATURATED, VOTES};
 use super::nearest::{suggestion, unknown};
-use super::numbers::{digits, listed, up_to};
+use super::numbers::listed;
 use super::operands::{operand_count, with_operands};
 use crate::assemble::{word, CHANNEL_COUNTS};
 use crate::operations::{ElementType, Operation};
-use crate::words::{LongWord, ShortWord, SHORT_BIT};
+use crate::words::{LongWord, ShortWord};
 
 /// An instruction as its line says it, before it has a place.
 pub struct Written {
@@ -29,17 +30,6 @@ pub enum Form {
     Short,
     /// This short word, which must expand to it.
     Exactly(ShortWord),
-}
-
-/// What is wrong with a line, in sentences.
-#[derive(Default)]
-pub struct Wrong(Vec<String>);
-
-impl Wrong {
-    /// The value, or nothing, and then what is wrong is kept.
-    pub fn keep<T>(&mut self, read: Result<T, String>) -> Option<T> {
-        read.map_err(|sentence| self.0.push(sentence)).ok()
-    }
 }
 
 /// Reads an instruction's line.
@@ -123,8 +113,9 @@ fn without_channels(text: &str) -> String {
     let name = text.split('.').next().unwrap_or("");
     let is_name = !name.is_empty() && name.bytes().all(|byte| byte.is_ascii_alphabetic());
     match names::operation(name) {
+        Ok(_) => format!("{text} needs its channels, as in {text}(16)"),
         Err(sentence) if is_name => sentence,
-        _ => format!("'{text}' is no operation with its channels, as add(16) is"),
+        Err(_) => format!("'{text}' is no operation with its channels, as add(16) is"),
     }
 }
 
@@ -133,7 +124,7 @@ fn suffixes<'a>(names: impl Iterator<Item = &'a str>) -> Result<(bool, Option<u3
     let (mut saturated, mut condition) = (false, None);
     for name in names {
         let repeated = match name {
-            "sat" => std::mem::replace(&mut saturated, true),
+            SATURATED => std::mem::replace(&mut saturated, true),
             _ => condition.replace(suffix(name)?).is_some(),
         };
         if repeated {
@@ -143,8 +134,9 @@ fn suffixes<'a>(names: impl Iterator<Item = &'a str>) -> Result<(bool, Option<u3
     Ok((saturated, condition))
 }
 
+/// A condition's code.
 fn suffix(name: &str) -> Result<u32, String> {
-    let names = [vec!["sat"], CONDITIONS.all()].concat();
+    let names = [vec![SATURATED], CONDITIONS.all()].concat();
     CONDITIONS.find(name).ok_or_else(|| unknown("suffix", name, &names))
 }
 
@@ -193,6 +185,7 @@ fn no_condition_needed(head: &Head, operands: usize, has_flag: bool) -> Result<(
     Err(format!("cmp needs a condition, as in cmp.ge({}): there are {names}", head.channels))
 }
 
+/// A flag's code.
 fn flag(name: &str) -> Result<u32, String> {
     FLAGS.find(name).ok_or_else(|| format!("{name} is no flag: f0.0 or f0.1"))
 }
@@ -229,57 +222,17 @@ fn targets(
         false => (1, "a branch takes one label"),
     };
     if operands.len() != count {
-        wrong.keep::<()>(Err(format!("{takes} and has {} operands", operands.len())));
+        wrong.say(format!("{takes} and has {} operands", operands.len()));
         return Vec::new();
     }
     operands.iter().filter_map(|name| wrong.keep(target(name, labels))).collect()
 }
 
+/// The instruction that a label names.
 fn target(name: &str, labels: &Labels) -> Result<usize, String> {
     let found = labels.get(name).map(|label| label.instruction);
     found.ok_or_else(|| {
         let names: Vec<&str> = labels.keys().copied().collect();
         format!("there is no label `{name}`{}", suggestion(name, &names))
     })
-}
-
-/// Sets a field by its name, to 1 if no value is told, or marks the instruction as short.
-fn attribute(written: &mut Written, text: &str) -> Result<(), String> {
-    let (name, value) = text.split_once('=').unwrap_or((text, ""));
-    if name == "short" {
-        return mark_short(written, (name != text).then_some(value));
-    }
-    let found = FIELDS.iter().find(|field| field.name == name);
-    let field = found.ok_or_else(|| {
-        let names = ["short"].into_iter().chain(FIELDS.iter().map(|field| field.name));
-        format!("unknown field `{name}`{}", suggestion(name, &names.collect::<Vec<&str>>()))
-    })?;
-    let value = if name == text { "1" } else { value };
-    let value = up_to(name, value, field.greatest(), &field.greatest().to_string())?;
-    let is_said = field.is_in(said(written.word, written.operation));
-    if is_said || field.of(written.word) != 0 {
-        return Err(format!("the line says {name} already"));
-    }
-    written.word = written.word.with_field(field.high, field.low, value);
-    Ok(())
-}
-
-fn mark_short(written: &mut Written, value: Option<&str>) -> Result<(), String> {
-    if written.operation.is_branch() {
-        return Err("a branch has no short word".to_string());
-    }
-    if written.form != Form::Long {
-        return Err("the line says short already".to_string());
-    }
-    written.form = match value {
-        None => Form::Short,
-        Some(text) => Form::Exactly(short_word(text)?),
-    };
-    Ok(())
-}
-
-fn short_word(text: &str) -> Result<ShortWord, String> {
-    let number = digits(text).and_then(|number| u64::try_from(number).ok()).map(ShortWord);
-    let short = number.filter(|short| short.field(SHORT_BIT, SHORT_BIT) == 1);
-    short.ok_or_else(|| format!("{text} is no short word: 64 bits of which bit 29 is 1"))
 }

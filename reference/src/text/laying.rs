@@ -1,8 +1,8 @@
 //! Instructions that were read from lines, laid down: places, distances, and short words by a
 //! dictionary.
 
+use super::faults::Fault;
 use super::instructions::{Form, Written};
-use super::Fault;
 use crate::assemble::DictionaryBuilder;
 use crate::dictionary::Dictionary;
 use crate::operations::Operation;
@@ -94,6 +94,7 @@ pub fn bytes_of(placed: &[Placed], dictionary: &Dictionary, faults: &mut Vec<Fau
     kernel
 }
 
+/// The bytes of an instruction under a dictionary.
 fn word_bytes(one: &Placed, dictionary: &Dictionary) -> Result<Vec<u8>, &'static str> {
     match one.form {
         Form::Long => Ok(one.word.to_bytes().to_vec()),

@@ -1,6 +1,6 @@
 //! A text taken apart: lines, labels, and the parts of an instruction's line as they stand there.
 
-use super::Fault;
+use super::faults::Fault;
 use std::collections::BTreeMap;
 
 /// A line that holds an instruction: its number, from 1 on, and its text without the remark.
@@ -15,6 +15,7 @@ pub struct Label {
     pub instruction: usize,
 }
 
+/// The labels of a text by name.
 pub type Labels<'a> = BTreeMap<&'a str, Label>;
 
 /// The instructions' lines and the labels of a text. What is wrong is added to the faults.
@@ -51,6 +52,7 @@ fn misleads(character: char) -> bool {
     turns || (character.is_control() && character != '\t')
 }
 
+/// Adds a label that has a name as labels have, and of which there is none yet.
 fn add_label<'a>(labels: &mut Labels<'a>, name: &'a str, label: Label) -> Result<(), String> {
     if !is_label(name) {
         return Err(format!("{name}: is no label: letters, digits, - and _ after a letter"));
@@ -62,6 +64,7 @@ fn add_label<'a>(labels: &mut Labels<'a>, name: &'a str, label: Label) -> Result
     Ok(())
 }
 
+/// Whether a label may have this name.
 fn is_label(name: &str) -> bool {
     let inner = |character: char| character.is_ascii_alphanumeric() || "-_".contains(character);
     name.starts_with(|first: char| first.is_ascii_alphabetic()) && name.chars().all(inner)
@@ -87,12 +90,14 @@ pub fn parts(line: &str) -> Result<Parts<'_>, String> {
     Ok(Parts { predicate, head, operands, attributes })
 }
 
+/// What stands in parentheses at the front of a line, if they do, and the rest.
 fn leading_predicate(line: &str) -> Result<(Option<&str>, &str), String> {
     let Some(inner) = line.strip_prefix('(') else { return Ok((None, line)) };
     let (inner, rest) = inner.split_once(')').ok_or("the predicate has no closing parenthesis")?;
     Ok((Some(inner), rest.trim_start()))
 }
 
+/// A line up to the braces at its end, and what stands in them.
 fn trailing_braces(line: &str) -> Result<(&str, &str), String> {
     let Some((before, inner)) = line.split_once('{') else { return Ok((line, "")) };
     let inner = inner.strip_suffix('}').filter(|inner| !inner.contains(['{', '}']));
@@ -106,12 +111,9 @@ fn separated(text: &str) -> Result<Vec<&str>, String> {
     if groups.len() > 1 && groups.iter().any(|group| group.trim().is_empty()) {
         return Err("a comma stands between two operands and nowhere else".to_string());
     }
-    let parts = groups.into_iter().flat_map(|group| outside_brackets(group, "[", "]", is_blank));
+    let by_blanks = |group| outside_brackets(group, "[", "]", char::is_whitespace);
+    let parts = groups.into_iter().flat_map(by_blanks);
     Ok(parts.filter(|part| !part.is_empty()).collect())
-}
-
-fn is_blank(character: char) -> bool {
-    character.is_whitespace()
 }
 
 /// A text parted at characters of a kind, but not where a bracket is open.

@@ -5,6 +5,15 @@
 use super::nearest::unknown;
 use crate::operations::{ElementType, Operation, OPERATIONS};
 
+/// The suffix of an operation that saturates.
+pub const SATURATED: &str = "sat";
+
+/// The destination that is none.
+pub const NULL: &str = "null";
+
+/// The mark of a short word.
+pub const SHORT: &str = "short";
+
 /// Names of one kind with their codes.
 pub struct Names {
     what: &'static str,

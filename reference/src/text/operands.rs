@@ -1,8 +1,8 @@
 //! The operands of a line: destination, sources in registers, by address or in a0, and immediates.
 //! Each function refuses what a word has no code or no room for.
 
-use super::instructions::Wrong;
-use super::names::{element_type, IMMEDIATE_TYPES, MODIFIERS, TYPES};
+use super::faults::Wrong;
+use super::names::{element_type, IMMEDIATE_TYPES, MODIFIERS, NULL, TYPES};
 use super::numbers::{listed, signed, up_to};
 use crate::assemble::{region, RegionCodes, STRIDES, VERTICAL_STRIDES, WIDTHS};
 use crate::locations::{A0_BYTES, A0_ELEMENTS};
@@ -25,7 +25,7 @@ pub fn with_operands(
 ) -> LongWord {
     let (name, given, takes) = (operation.name(), operands.len(), operand_count(operation));
     if given != takes {
-        wrong.keep::<()>(Err(format!("{name} takes {takes} operands and has {given}")));
+        wrong.say(format!("{name} takes {takes} operands and has {given}"));
         return word;
     }
     for (at, text) in operands.iter().enumerate() {
@@ -46,10 +46,11 @@ pub fn operand_count(operation: Operation) -> usize {
     }
 }
 
+/// A word with its destination.
 fn destination(word: LongWord, text: &str) -> Result<LongWord, String> {
     let (place, name) = typed(text)?;
     let element = element_type(&TYPES, name)?;
-    if place == "null" {
+    if place == NULL {
         return Ok(word.to_null(element));
     }
     let (place, stride) = bracketed(place)
@@ -62,6 +63,7 @@ fn destination(word: LongWord, text: &str) -> Result<LongWord, String> {
     })
 }
 
+/// A word with a source: a number, which only the last may be, or something with a region.
 fn source(word: LongWord, which: usize, text: &str, last: bool) -> Result<LongWord, String> {
     let (place, name) = typed(text)?;
     let Some(number) = signed(place) else {
@@ -74,6 +76,7 @@ fn source(word: LongWord, which: usize, text: &str, last: bool) -> Result<LongWo
     Ok(word.immediate_source(which, element, immediate(place, number, element)?))
 }
 
+/// A word with a source in registers, by address or in a0.
 fn register_source(
     word: LongWord,
     which: usize,
@@ -104,6 +107,7 @@ enum Origin {
     Address((u32, i32)),
 }
 
+/// Where an operand begins whose elements are of a type.
 fn origin(place: &str, element: ElementType) -> Result<Origin, String> {
     if let Some(inner) = place.strip_prefix("r[").and_then(|rest| rest.strip_suffix(']')) {
         return Ok(Origin::Address(address(inner)?));
@@ -157,6 +161,7 @@ fn modifier(text: &str) -> Result<(u32, &str), String> {
     Ok((code, bare))
 }
 
+/// A region's codes.
 fn region_codes(text: &str) -> Result<RegionCodes, String> {
     let parts = text.split_once(';').and_then(|(vertical, rest)| {
         rest.split_once(',').map(|(width, horizontal)| (vertical, width, horizontal))
