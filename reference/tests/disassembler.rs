@@ -8,6 +8,7 @@ use spokeshaver_reference::generate::{case, Call, Case};
 use spokeshaver_reference::random::Random;
 use spokeshaver_reference::text::{assemble_with, disassemble, FIELDS};
 use std::collections::HashSet;
+use std::sync::OnceLock;
 
 /// The kernels of a case.
 fn kernels(case: &Case) -> Vec<Vec<u8>> {
@@ -64,17 +65,34 @@ fn round_trip(dictionary: &[u8], kernel: &[u8]) -> String {
     text
 }
 
-/// Thousands of kernels go there and back, and every notation comes up on the way.
+/// What came of the generated kernels: how many there are, and the words of their texts.
+struct Trips {
+    kernels: usize,
+    words: HashSet<String>,
+}
+
+/// Thousands of kernels there and back, made once for the tests that ask.
+fn trips() -> &'static Trips {
+    static MADE: OnceLock<Trips> = OnceLock::new();
+    MADE.get_or_init(|| {
+        let kernels = accepted(6_000);
+        let mut words = HashSet::new();
+        for (dictionary, kernel) in &kernels {
+            add_words(&mut words, &round_trip(dictionary, kernel));
+        }
+        Trips { kernels: kernels.len(), words }
+    })
+}
+
 #[test]
 fn assembling_undoes_disassembling() {
-    let kernels = accepted(6_000);
-    let mut words = HashSet::new();
-    for (dictionary, kernel) in &kernels {
-        add_words(&mut words, &round_trip(dictionary, kernel));
-    }
-    assert!(kernels.len() > 3_000, "{} kernels", kernels.len());
+    assert!(trips().kernels > 4_000, "{} kernels", trips().kernels);
+}
+
+#[test]
+fn every_notation_comes_up() {
     for notation in notations() {
-        assert!(words.contains(&notation), "{notation} never came up");
+        assert!(trips().words.contains(&notation), "{notation} never came up");
     }
 }
 

@@ -154,7 +154,10 @@ fn all_faults_come() {
         (6, "control character \\u{2028}"),
         (7, "there is no label `tap`; do you mean `top`?"),
         (7, "a branch has no short word"),
-        (9, "no short word expands to this line under the dictionary"),
+        (
+            9,
+            "this line has no short word: one holds a number of -4096 to 4095, and bits 127:96 are 100000",
+        ),
     ];
     assert_eq!(told, expected);
 }

@@ -8,40 +8,31 @@ use spokeshaver_reference::dictionary::Dictionary;
 use spokeshaver_reference::text::{assemble, assemble_with, dictionary, Fault};
 use texts::*;
 
-/// The paper's places of some fields, a field at a time, all ones.
+/// The paper's places of the fields. A nop says none of them, so each can be named.
 #[test]
 fn fields_in_braces() {
-    for (name, high, low) in [
-        ("AccessMode", 8, 8),
-        ("WECtrl", 9, 9),
-        ("DepCtrl", 11, 10),
-        ("QtrCtrl", 13, 12),
-        ("ThreadCtrl", 15, 14),
-        ("PredInv", 20, 20),
-        ("AccWrCtrl", 28, 28),
-        ("DebugCtrl", 30, 30),
-        ("src1.file", 43, 42),
-        ("src1.type", 46, 44),
-        ("47", 47, 47),
-        ("flag", 89, 89),
-        ("95:90", 95, 90),
-        ("src1.subregister", 100, 96),
-        ("src1.register", 108, 101),
-        ("src1.modifier", 110, 109),
-        ("src1.AddrMode", 111, 111),
-        ("src1.HorzStride", 113, 112),
-        ("src1.Width", 116, 114),
-        ("src1.VertStride", 120, 117),
-        ("127:121", 127, 121),
-    ] {
-        let line = "mov(8) r4<1>:d r2<8;8,1>:d";
-        let (kernel, _) = assemble(line).expect("a line");
+    let control = "AccessMode 8 8 WECtrl 9 9 DepCtrl 11 10 QtrCtrl 13 12 ThreadCtrl 15 14 PredCtrl 19 16 \
+        PredInv 20 20 ExecSize 23 21 CondModifier 27 24 AccWrCtrl 28 28 DebugCtrl 30 30 Saturate 31 31";
+    let kinds = "destination.file 33 32 destination.type 36 34 src0.file 38 37 src0.type 41 39 \
+        src1.file 43 42 src1.type 46 44 47 47 47";
+    let destination = "destination.subregister 52 48 destination.register 60 53 \
+        destination.stride 62 61 destination.AddrMode 63 63";
+    let first =
+        "src0.subregister 68 64 src0.register 76 69 src0.modifier 78 77 src0.AddrMode 79 79 \
+        src0.HorzStride 81 80 src0.Width 84 82 src0.VertStride 88 85 flag 89 89 95:90 95 90";
+    let second = "src1.subregister 100 96 src1.register 108 101 src1.modifier 110 109 \
+        src1.AddrMode 111 111 src1.HorzStride 113 112 src1.Width 116 114 src1.VertStride 120 117 \
+        127:121 127 121";
+    let all = [control, kinds, destination, first, second].join(" ");
+    let words: Vec<&str> = all.split_whitespace().collect();
+    for row in words.chunks(3) {
+        let [high, low] = [row[1], row[2]].map(|place| place.parse::<u32>().expect("a place"));
         let ones = (1u128 << (high - low + 1)) - 1;
-        let (named, _) = assemble(&format!("{line} {{{name}={ones}}}")).expect("a line");
-        let [before, after] =
-            [kernel, named].map(|bytes| u128::from_le_bytes(bytes.try_into().expect("a word")));
-        assert_eq!(after, before | ones << low, "{name}");
+        let (kernel, _) = assemble(&format!("nop {{{}={ones}}}", row[0])).expect("a line");
+        let word = u128::from_le_bytes(kernel.try_into().expect("a word"));
+        assert_eq!(word, 0x7E | ones << low, "{row:?}");
     }
+    assert_eq!(words.len(), 3 * 40);
 }
 
 #[test]
@@ -122,10 +113,25 @@ fn row_a_short() {
     assert_eq!(assembled("{short}"), Ok(bytes.clone()));
     assert_eq!(assembled("{short=0x03020418e0004140}"), Ok(bytes));
     let fault = |sentence: &str| Err(vec![Fault { line: 1, sentence: sentence.to_string() }]);
-    let lacks = "no short word expands to this line under the dictionary";
-    assert_eq!(assembled("{short WECtrl}"), fault(lacks));
-    let other = "the short word expands to another line under the dictionary";
+    let lacks = |number: &str| fault(&format!("this line has no short word: {number}"));
+    let table = "the dictionary's control table lacks 0x6002";
+    assert_eq!(assembled("{short WECtrl}"), lacks(table));
+    assert_eq!(assembled("{short 47}"), lacks("one has no room for a field in the braces"));
+    let other = "the short word stands for another line by this dictionary";
     assert_eq!(assembled("{short=0x03020518e0004140}"), fault(other));
+}
+
+/// Row B: numbers of 13 bits are short. A word fills both halves.
+#[test]
+fn short_numbers() {
+    let line = |number: &str| format!("mov(8) r4<1>:d {number} {{short}}");
+    for number in ["4095:d", "-4096:d", "0:w", "-1:w"] {
+        assert!(assemble(&line(number)).is_ok(), "{number}");
+    }
+    for (number, bits) in [("4096:d", "4096"), ("-4097:d", "-4097"), ("1:w", "65537")] {
+        let limits = "one holds a number of -4096 to 4095, and bits 127:96 are";
+        refused(&line(number), 1, &[&format!("this line has no short word: {limits} {bits}")]);
+    }
 }
 
 /// A short word that is not the smallest: source 3 stands at index 4 as well.

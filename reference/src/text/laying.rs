@@ -7,7 +7,7 @@ use crate::assemble::DictionaryBuilder;
 use crate::dictionary::Dictionary;
 use crate::operations::Operation;
 use crate::packing::with_distances;
-use crate::words::{expand, shorten, LongWord};
+use crate::words::{expand, numbers_of, shorten, Finder, LongWord, Search};
 
 /// An instruction with its line, and its word with the distances that hold.
 #[derive(Clone, Copy)]
@@ -88,24 +88,46 @@ pub fn bytes_of(placed: &[Placed], dictionary: &Dictionary, faults: &mut Vec<Fau
     for one in placed {
         match word_bytes(one, dictionary) {
             Ok(bytes) => kernel.extend(bytes),
-            Err(sentence) => faults.push(Fault { line: one.line, sentence: sentence.to_string() }),
+            Err(sentence) => faults.push(Fault { line: one.line, sentence }),
         }
     }
     kernel
 }
 
 /// The bytes of an instruction under a dictionary.
-fn word_bytes(one: &Placed, dictionary: &Dictionary) -> Result<Vec<u8>, &'static str> {
+fn word_bytes(one: &Placed, dictionary: &Dictionary) -> Result<Vec<u8>, String> {
     match one.form {
         Form::Long => Ok(one.word.to_bytes().to_vec()),
         Form::Short => match shorten(one.word, dictionary) {
             Some(short) => Ok(short.to_bytes().to_vec()),
-            None => Err("no short word expands to this line under the dictionary"),
+            None => Err(format!("this line has no short word: {}", lacking(one.word, dictionary))),
         },
         Form::Exactly(short) => match expand(short, dictionary) == one.word {
             true => Ok(short.to_bytes().to_vec()),
-            false => Err("the short word expands to another line under the dictionary"),
+            false => Err("the short word stands for another line by this dictionary".to_string()),
         },
+    }
+}
+
+/// Why a word that is no branch has no short one by a dictionary.
+fn lacking(word: LongWord, dictionary: &Dictionary) -> String {
+    let is_absent =
+        |(search, number): &(Search, u32)| dictionary.least_index(*search, *number).is_none();
+    let name = |search| match search {
+        Search::Control => "control",
+        Search::Datatype => "datatype",
+        Search::Subregister | Search::LowTen => "subregister",
+        Search::Source => "source",
+    };
+    let number = word.immediate() as i32;
+    match numbers_of(word).into_iter().find(is_absent) {
+        Some((search, number)) => {
+            format!("the dictionary's {} table lacks 0x{number:x}", name(search))
+        }
+        None if word.is_immediate_form() && !(-4096..4096).contains(&number) => {
+            format!("one holds a number of -4096 to 4095, and bits 127:96 are {number}")
+        }
+        None => "one has no room for a field in the braces".to_string(),
     }
 }
 
