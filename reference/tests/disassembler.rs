@@ -8,6 +8,7 @@ use spokeshaver_reference::generate::{case, Call, Case};
 use spokeshaver_reference::random::Random;
 use spokeshaver_reference::text::{assemble_with, disassemble, FIELDS};
 use std::collections::HashSet;
+use std::path::Path;
 use std::sync::OnceLock;
 
 /// The kernels of a case.
@@ -253,4 +254,44 @@ fn refused_kernels() {
         }
     }
     assert!(refused > 50, "{refused}");
+}
+
+/// The bytes of a file of this repository.
+fn stored(name: &str) -> Vec<u8> {
+    std::fs::read(Path::new(env!("CARGO_MANIFEST_DIR")).join("..").join(name)).expect("a file")
+}
+
+/// The example's kernel, long and as somebody else packed it.
+#[test]
+fn the_example_comes_back() {
+    let dictionary = stored("examples/place-tile.dictionary");
+    let long = round_trip(&dictionary, &stored("examples/place-tile.kernel"));
+    let sent = round_trip(&dictionary, &stored("examples/place-tile.sent"));
+    assert_eq!(sent.matches(" {short}").count(), 8);
+    assert_eq!(sent.replace(" {short}", ""), long);
+}
+
+/// The words that an open driver's own tests hold, long and short, as far as the bench has them.
+#[test]
+fn words_of_a_driver_come_back() {
+    let lines = |text: &'static str| {
+        let kept = text.lines().filter(|line| !line.starts_with('#'));
+        kept.map(|line| line.split_whitespace().collect::<Vec<&str>>())
+    };
+    let mut dictionary = Vec::new();
+    for parts in lines(include_str!("data/dictionary-000.txt")) {
+        let number = u32::from_str_radix(parts[2].trim_start_matches("0x"), 16).expect("a number");
+        dictionary.extend(number.to_le_bytes());
+    }
+    let words =
+        lines(include_str!("data/sandybridge-words.txt")).flat_map(|parts| parts[1..].to_vec());
+    let bytes = |digits: &str| -> Vec<u8> {
+        let pairs = (0..digits.len() / 2).map(|at| &digits[2 * at..2 * at + 2]);
+        pairs.map(|pair| u8::from_str_radix(pair, 16).expect("two digits")).collect()
+    };
+    let kernels: Vec<Vec<u8>> = words.filter(|word| *word != "-").map(bytes).collect();
+    let accepted = kernels.iter().filter(|kernel| is_accepted(&dictionary, kernel));
+    let texts: Vec<String> = accepted.map(|kernel| round_trip(&dictionary, kernel)).collect();
+    assert!(texts.len() > 50, "{}", texts.len());
+    assert!(texts.contains(&"shl(16) r3<1>:d r2.4<0;1,0>:d 4:ud {short}\n".to_string()));
 }
