@@ -75,7 +75,12 @@ impl LongWord {
             .with_field(36, 34, element.code())
             .with_field(52, 48, subregister)
             .with_field(60, 53, register)
-            .with_field(62, 61, code_of(stride, &STRIDES))
+            .by_stride(stride)
+    }
+
+    /// The destination's stride, which a null destination may have too.
+    pub fn by_stride(self, stride: u32) -> LongWord {
+        self.with_field(62, 61, code_of(stride, &STRIDES))
     }
 
     /// Null destination.

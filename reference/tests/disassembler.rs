@@ -114,7 +114,7 @@ fn notations() -> Vec<String> {
     let operations =
         "mov sel not and or xor shr shl asr cmp.z cmp.nz cmp.g cmp.ge cmp.l cmp.le add \
         mul avg nop jmpi if else endif while break cont mov.sat sel.sat add.sat mul.sat avg.sat";
-    let types = ":ud :d :uw :w :ub :b null:ud null:b";
+    let types = ":ud :d :uw :w :ub :b null:ud null:b null";
     let flags = "f0.0 f0.1 -f0.0 -f0.1 f0.0.any2h f0.1.all2h -f0.0.any4h -f0.1.all4h f0.0.any8h \
         f0.0.all8h -f0.0.any16h -f0.1.all16h";
     let operands = "r0 r127 |r2 -r2 -|r2 r2.1 -r2.31 a0.0 a0.7 0:ud 1:d -1:d -32768:w 65535:uw \
@@ -177,7 +177,7 @@ fn words_from_outside() {
     let add = [0x0060_0040, 0x4062_2529, 0x00AE_0062, 0x00AE_01A0];
     has_line(add, "add(8) r3.1<2>:uw r3.1<16;8,2>:uw r13<16;8,2>:uw");
     let cmp = [0x0161_0010, 0x2000_1CA4, 0x028D_04A0, 0x0000_0000];
-    has_line(cmp, "(+f0.1) cmp.z(8) f0.1 null:d r37<8;8,1>:d 0:d {destination.stride}");
+    has_line(cmp, "(+f0.1) cmp.z(8) f0.1 null<1>:d r37<8;8,1>:d 0:d");
     let mov = [0x0060_0001, 0x21A0_10E5, 0x0000_0000, 0x0000_0000];
     has_line(mov, "mov(8) r13<1>:d 0:d {src1.type}");
     let negated = [0x0060_0001, 0x2060_00A5, 0x0000_4040, 0x0000_0000];

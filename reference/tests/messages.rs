@@ -117,6 +117,11 @@ fn braces() {
         "mov(8) r0<1>:d 1:d {destination.register}",
         &["the line says destination.register already"],
     );
+    for line in
+        ["mov(8) null:d 1:d {destination.stride}", "mov(8) null<1>:d 1:d {destination.stride=2}"]
+    {
+        says(line, &["the line says destination.stride already"]);
+    }
     says("(+f0.0) mov(8) r4<1>:d 1:d {PredInv}", &["the line says PredInv already"]);
     says("cmp.z(8) f0.0 null:d r2<8;8,1>:d 1:d {flag}", &["the line says flag already"]);
     says("mov(8) r4<1>:d 1:d {short short}", &["the line says short already"]);

@@ -127,7 +127,17 @@ fn destination_strides() {
     all_refused(&others, &["destination stride", "has no code: there are 0, 1, 2, 4"]);
     all_refused(&["mov(8) r4<>:d 1:d", "mov(8) r4<8;8,1>:d 1:d"], &["destination stride"]);
     all_refused(&["mov(8) r4:d 1:d", "mov(8) null<1:d 1:d", "mov(8) 4:d 1:d"], &["destination"]);
-    all_refused(&["mov(8) null<1>:d 1:d"], &["null is no register"]);
+}
+
+/// null may have a stride, as in texts of other assemblers. Without one it has 0.
+#[test]
+fn strides_of_null() {
+    let places = [(33, 32), (60, 53), (62, 61)];
+    for (stride, code) in [("", 0), ("<0>", 0), ("<1>", 1), ("<2>", 2), ("<4>", 3)] {
+        assert_eq!(fields(&format!("mov(8) null{stride}:d 1:d"), places), [0, 0, code]);
+    }
+    all_refused(&["mov(8) null<3>:d 1:d"], &["destination stride 3 has no code"]);
+    all_refused(&["mov(8) null.1<1>:d 1:d"], &["null.1 is no register"]);
 }
 
 #[test]

@@ -47,7 +47,7 @@ fn values_in_braces() {
         assert_eq!(fields(&line(inner), places), [1, 2, 1, 3, 0], "{inner}");
     }
     assert_eq!(fields(&line(""), places), [0; 5]);
-    assert_eq!(fields("mov(8) null:d 1:d {destination.stride=3}", [(62, 61)]), [3]);
+    assert_eq!(fields("mov(8) null:d 1:d {destination.subregister=3}", [(52, 48)]), [3]);
     assert_eq!(fields("nop {ExecSize=7 Saturate}", [(31, 21)]), [0x407]);
 }
 

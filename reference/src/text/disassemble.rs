@@ -117,15 +117,16 @@ fn type_name(code: u32) -> &'static str {
     TYPES.name(code).expect("a served type")
 }
 
-/// The destination.
+/// The destination. null has no stride where that is 0.
 fn destination(word: LongWord) -> String {
     let fields = word.destination();
-    let name = type_name(fields.type_code);
-    match fields.location().kind() {
-        Kind::Null => format!("{NULL}:{name}"),
+    let (name, stride) = (type_name(fields.type_code), STRIDES[fields.stride as usize]);
+    match (fields.location().kind(), stride) {
+        (Kind::Null, 0) => format!("{NULL}:{name}"),
+        (Kind::Null, _) => format!("{NULL}<{stride}>:{name}"),
         _ => {
             let place = origin(fields.location(), fields.type_code);
-            format!("{place}<{}>:{name}", STRIDES[fields.stride as usize])
+            format!("{place}<{stride}>:{name}")
         }
     }
 }

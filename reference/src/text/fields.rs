@@ -125,11 +125,11 @@ fn said_by_targets(operation: Operation) -> Vec<Range> {
     }
 }
 
-/// The destination, of null without subregister and stride, and each source that is read.
+/// The destination, of null without subregister, and each source that is read.
 fn said_by_operands(word: LongWord, operation: Operation) -> Vec<Range> {
-    let mut said = vec![(36, 32), (60, 53), (63, 63)];
+    let mut said = vec![(36, 32), (63, 53)];
     if word.destination().location().kind() != Kind::Null {
-        said.extend([(52, 48), (62, 61)]);
+        said.push((52, 48));
     }
     let kinds = [(41, 37), (46, 42)];
     for (which, kind) in (0..operation.source_count()).zip(kinds) {

@@ -56,6 +56,9 @@ fn destination(word: LongWord, text: &str) -> Result<LongWord, String> {
     let (place, stride) = bracketed(place)
         .ok_or_else(|| format!("{text} is no destination, such as r4<1>:w or null:w"))?;
     let stride = listed("destination stride", stride, &STRIDES)?;
+    if place == NULL {
+        return Ok(word.to_null(element).by_stride(stride));
+    }
     Ok(match origin(place, element)? {
         Origin::Register(register, byte) => word.to_register(register, byte, stride, element),
         Origin::A0(byte) => word.to_a0(byte, stride, element),
