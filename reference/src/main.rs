@@ -11,7 +11,7 @@ use spokeshaver_reference::answers::{Answer, ACCEPTED};
 use spokeshaver_reference::calls::check;
 use spokeshaver_reference::dictionary::{Dictionary, DICTIONARY_BYTES};
 use spokeshaver_reference::text::{self, Fault};
-use std::io::{Read, Write};
+use std::io::{ErrorKind, Read, Write};
 use std::process::ExitCode;
 
 const USAGE: &str = "\
@@ -141,7 +141,12 @@ fn write(file: &str, bytes: &[u8]) -> Result<(), Failure> {
     std::fs::write(file, bytes).map_err(|error| undone(format!("{file}: {error}")))
 }
 
+/// Prints a text. A reader who has closed the pipe has enough of it, and that is no failure.
 fn print(text: &str) -> Result<(), Failure> {
-    let printed = std::io::stdout().write_all(text.as_bytes());
-    printed.map_err(|error| undone(format!("standard output: {error}")))
+    match std::io::stdout().write_all(text.as_bytes()) {
+        Err(error) if error.kind() != ErrorKind::BrokenPipe => {
+            Err(undone(format!("standard output: {error}")))
+        }
+        _ => Ok(()),
+    }
 }
