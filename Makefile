@@ -25,7 +25,7 @@ install: all
 	install -d "$(place)/bin" "$(place)/include" "$(place)/lib/pkgconfig" "$(programs)"
 	install -m 644 include/spokeshaver.h "$(place)/include/spokeshaver.h"
 	install -m 644 $(archive) "$(place)/lib/libspokeshaver.a"
-	sed -e 's|@PREFIX@|$(PREFIX)|' -e 's|@VERSION@|$(version)|' tools/spokeshaver.pc.in >"$(place)/lib/pkgconfig/spokeshaver.pc"
+	sed -e 's|@PREFIX@|$(abspath $(PREFIX))|' -e 's|@VERSION@|$(version)|' tools/spokeshaver.pc.in >"$(place)/lib/pkgconfig/spokeshaver.pc"
 	chmod 644 "$(place)/lib/pkgconfig/spokeshaver.pc"
 	install -m 755 $(checker) "$(programs)/checker"
 	install -m 644 tools/launch tools/verdict "$(programs)"
