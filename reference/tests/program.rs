@@ -139,3 +139,21 @@ fn a_refused_kernel_is_not_disassembled() {
     fails(&place, "disassemble half kernel", 1, "kernel: refused under half: 1 at byte 0\n");
     assert!(!place.join("text").exists());
 }
+
+/// A reader who takes no more, as `head` does, is no failure; a place that is full is one.
+#[test]
+fn readers_may_stop() {
+    let (dictionary, kernel) = row_a();
+    let place = directory("pipe", &[("dictionary", &dictionary), ("kernel", &kernel)]);
+    let ends = |output: std::process::Stdio| {
+        let mut command = Command::new(env!("CARGO_BIN_EXE_spokeshaver-reference"));
+        command.args(["disassemble", "dictionary", "kernel"]).current_dir(&place).stdout(output);
+        let output = command.output().expect("a program");
+        (output.status.code(), output.stderr.is_empty())
+    };
+    let (reader, writer) = std::io::pipe().expect("a pipe");
+    drop(reader);
+    assert_eq!(ends(writer.into()), (Some(0), true));
+    let full = std::fs::OpenOptions::new().write(true).open("/dev/full").expect("a device");
+    assert_eq!(ends(full.into()), (Some(2), false));
+}
