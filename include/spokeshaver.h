@@ -32,6 +32,40 @@
  *   42  a0.0 to a0.7, the address register's eight numbers: any
  *   A channel is awake (its awake bit alone), waiting (its waiting bit alone) or off (neither). Anything else is refused (15).
  *
+ * When channels wake
+ *   A channel that waits at a place wakes when the step at that place begins, and not before: between two steps its waiting bit is still set. So after an else the
+ *   awake mask may be 0, and the next step works on all the channels that wait at the state's place. A step works on the channels that are awake and on those
+ *   that wait at its place. No step is made at the kernel's end, and who waits there is not woken.
+ *
+ * Elements
+ *   Byte k of register n is registers[32 * n + k]. An element has its lowest byte first: word 3 of r4 is registers[134] + 256 * registers[135]. Signed types are in
+ *   two's complement. Types, by code: ud 0 and d 1 of four bytes, uw 2 and w 3 of two, ub 4 and b 5 of one; as immediates ud, d, uw and w.
+ *
+ * Operations, by opcode; a and b are what src0 and src1 hold, as exact whole numbers
+ *   0x01 mov    a
+ *   0x02 sel    a where the predicate holds, else b
+ *   0x04 not    the 32 bits of a turned over
+ *   0x05 and    the 32 bits of a and b, bit by bit
+ *   0x06 or     the same
+ *   0x07 xor    the same
+ *   0x08 shr    a divided by 2 to the power b modulo 32, rounded down; src0 is unsigned
+ *   0x09 shl    a times 2 to the power b modulo 32
+ *   0x0C asr    as shr; src0 is signed
+ *   0x10 cmp    1 where a - b meets the condition, else 0; and so the flag's bits
+ *   0x20 jmpi   the run goes on elsewhere
+ *   0x22 if     channels whose predicate fails wait
+ *   0x24 else   all awake channels wait
+ *   0x25 endif  those that wait here are awake
+ *   0x27 while  back, as long as a channel's predicate holds; the others wait behind
+ *   0x28 break  channels whose predicate holds wait
+ *   0x29 cont   the same
+ *   0x40 add    a + b
+ *   0x41 mul    a * b, of words and bytes
+ *   0x42 avg    (a + b + 1) / 2, rounded down
+ *   0x7E nop    nothing
+ *   A result is stored modulo the destination type's width; with Saturate (mov, sel, add, mul, avg) it is clamped to the type. mov and not have one source. Regions,
+ *   predicates, branches step by step, and what each operation asks of its operands: docs/KERNELS.md.
+ *
  * Registers by address
  *   A source or destination in the registers may be found by address: at the byte that an element of a0 holds, and -512 to 511 bytes on, as the instruction
  *   says. Where that leads is known only while the kernel runs. At each step, before any channel wakes, it must lead to an operand that lies well, all its
@@ -47,6 +81,10 @@
 #ifdef __cplusplus
 extern "C" {
 #endif
+
+/* The version. A change of what a caller may rely on moves the first number, something new the second, a mended text or program the third. */
+#define SPOKESHAVER_VERSION "1.0.0"
+#define SPOKESHAVER_VERSION_NUMBER 10000 /* 10,000 times the first, 100 times the second, and the third, for #if */
 
 /* Sizes in bytes, and limits. */
 #define SPOKESHAVER_DICTIONARY_BYTES 512
@@ -87,7 +125,7 @@ extern "C" {
 #define SPOKESHAVER_RESERVED_BITS 6     /* a bit is set that must be clear */
 #define SPOKESHAVER_NOT_SERVED 7        /* a field has a value that is not served, a predicate's group is larger than the size, or a0 is an operand of what is not a mov of uw operands */
 #define SPOKESHAVER_OPERAND_RULE 8      /* an operand rule is broken */
-#define SPOKESHAVER_REGION_SHAPE 9      /* a stride or width is undefined, the size is under the width, a source has a shape on which the machine hangs (README), or the destination's stride is 0 */
+#define SPOKESHAVER_REGION_SHAPE 9      /* a stride or width is undefined, the size is under the width, a source has a shape on which the machine hangs (docs/CHECKING.md), or the destination's stride is 0 */
 #define SPOKESHAVER_UNALIGNED 10        /* a subregister, of an operand that is not by address, is no multiple of the element's size */
 #define SPOKESHAVER_OUT_OF_REACH 11     /* an operand that is not by address spans more than two registers, or goes past r127, or past the 16 bytes of a0 */
 #define SPOKESHAVER_STRAY_JUMP 12       /* a jump lands on no instruction's start and not on the end; of break and cont JIP or UIP */
@@ -98,6 +136,45 @@ extern "C" {
 #define SPOKESHAVER_NO_LISTING 30       /* read: the text is the listing of no kernel that is accepted; judged before 14 */
 #define SPOKESHAVER_OUTPUT_TOO_SHORT 14 /* the output is shorter than the result */
 #define SPOKESHAVER_DIFFERS 31          /* pair: the sent kernel is another program than the long one */
+
+/* What a number means, as a sentence without its full stop; "unknown" for a number that no call answers. */
+static inline const char *spokeshaver_message(unsigned number) {
+    switch (number) {
+    case 0: return "accepted, written, or one step made";
+    case 1: return "a size is wrong";
+    case 2: return "a number of the dictionary is wider than its table";
+    case 3: return "no whole instruction is left";
+    case 4: return "the opcode is not listed";
+    case 5: return "a branch is short, or a word has not the form that is asked";
+    case 6: return "a bit is set that must be clear";
+    case 7: return "a field has a value that is not served";
+    case 8: return "an operand rule is broken";
+    case 9: return "a region has a shape that is not allowed, or the destination's stride is 0";
+    case 10: return "a subregister is no multiple of its element's size";
+    case 11: return "an operand spans more than two registers, or goes past the last one";
+    case 12: return "a jump lands on no instruction's start and not on the end";
+    case 13: return "no short word expands to this word";
+    case 14: return "the output is shorter than the result";
+    case 15: return "a place in the state is no instruction's start and not the end, or a channel is neither off, awake nor waiting";
+    case 16: return "the budget is over 1,000,000";
+    case 17: return "this would be the 4,097th instruction";
+    case 20: return "the place is the kernel's end";
+    case 21: return "the budget is spent short of the end";
+    case 22: return "an operand by address is misaligned, leaves the registers, or spans more than two of them";
+    case 30: return "the text is the listing of no kernel that is accepted";
+    case 31: return "the sent kernel is another program than the long one";
+    case 32: return "the text is no beginning of a log of runs, or a value is out of its range";
+    default: return "unknown";
+    }
+}
+
+/* What an answer does not tell, the caller can:
+ *   1   which size: each length that was lent against the sizes above
+ *   2   which number of the dictionary: the first with a bit at or above its table's width, 17, 18, 15 or 12
+ *   14  how much room: kernel_len for pack; for each instruction that check counts 16 bytes for unpack and SPOKESHAVER_LINES_MOST for list; 16 for each six lines that
+ *       are read; 8 for shorten, 16 for expand; 64 bytes behind the whole records for another record
+ *   15  which place or channel: a place that is no `place=` of the kernel's listing and not kernel_len / 8; a channel with both bits set, or with a waiting place and
+ *       without the waiting bit */
 
 /* Is the kernel accepted? ACCEPTED with its instructions as count; or 1, 2, 3 to 12, 17. */
 uint64_t spokeshaver_check(const uint8_t *dictionary, size_t dictionary_len, const uint8_t *kernel, size_t kernel_len);

@@ -3,7 +3,9 @@
 use crate::dictionary::{Dictionary, Table, TABLE_LENGTH};
 use crate::locations::A0;
 use crate::operations::{ElementType, Operation};
-use crate::words::{LongWord, FILE_ARCHITECTURE, FILE_IMMEDIATE, FILE_REGISTER};
+use crate::words::{
+    numbers_of, LongWord, Search, FILE_ARCHITECTURE, FILE_IMMEDIATE, FILE_REGISTER,
+};
 
 /// The numbers of channels, in the order of their codes.
 pub const CHANNEL_COUNTS: [u32; 5] = [1, 2, 4, 8, 16];
@@ -73,7 +75,12 @@ impl LongWord {
             .with_field(36, 34, element.code())
             .with_field(52, 48, subregister)
             .with_field(60, 53, register)
-            .with_field(62, 61, code_of(stride, &STRIDES))
+            .by_stride(stride)
+    }
+
+    /// The destination's stride, which a null destination may have too.
+    pub fn by_stride(self, stride: u32) -> LongWord {
+        self.with_field(62, 61, code_of(stride, &STRIDES))
     }
 
     /// Null destination.
@@ -218,17 +225,14 @@ impl Default for DictionaryBuilder {
 impl DictionaryBuilder {
     /// Adds what a word needs in order to be shortened, as far as there is room.
     pub fn add(&mut self, word: LongWord) {
-        let control = (word.saturate() << 16) | word.field(23, 8);
-        let datatype = (word.field(63, 61) << 15) | word.field(46, 32);
-        let low_ten = (word.field(68, 64) << 5) | word.field(52, 48);
-        self.add_number(0, control);
-        self.add_number(1, datatype);
-        self.add_number(3, word.field(88, 77));
-        if word.is_immediate_form() {
-            self.add_number(2, low_ten);
-        } else {
-            self.add_number(2, (word.field(100, 96) << 10) | low_ten);
-            self.add_number(3, word.field(120, 109));
+        for (search, number) in numbers_of(word) {
+            let which = match search {
+                Search::Control => 0,
+                Search::Datatype => 1,
+                Search::Subregister | Search::LowTen => 2,
+                Search::Source => 3,
+            };
+            self.add_number(which, number);
         }
     }
 

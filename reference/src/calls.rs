@@ -253,7 +253,7 @@ fn judged_run(
 }
 
 /// Rules 1, 2, 17 and 3 to 12.
-fn judged_kernel(
+pub(crate) fn judged_kernel(
     dictionary: &[u8],
     kernel: &[u8],
     accepts: Accepts,

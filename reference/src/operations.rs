@@ -28,29 +28,29 @@ pub enum Operation {
 
 use Operation::*;
 
-/// Every operation with its opcode.
-pub const OPCODES: [(Operation, u32); 21] = [
-    (Mov, 0x01),
-    (Sel, 0x02),
-    (Not, 0x04),
-    (And, 0x05),
-    (Or, 0x06),
-    (Xor, 0x07),
-    (Shr, 0x08),
-    (Shl, 0x09),
-    (Asr, 0x0C),
-    (Cmp, 0x10),
-    (Add, 0x40),
-    (Mul, 0x41),
-    (Avg, 0x42),
-    (Nop, 0x7E),
-    (Jmpi, 0x20),
-    (If, 0x22),
-    (Else, 0x24),
-    (Endif, 0x25),
-    (While, 0x27),
-    (Break, 0x28),
-    (Cont, 0x29),
+/// Every operation with its name and its opcode.
+pub const OPERATIONS: [(Operation, &str, u32); 21] = [
+    (Mov, "mov", 0x01),
+    (Sel, "sel", 0x02),
+    (Not, "not", 0x04),
+    (And, "and", 0x05),
+    (Or, "or", 0x06),
+    (Xor, "xor", 0x07),
+    (Shr, "shr", 0x08),
+    (Shl, "shl", 0x09),
+    (Asr, "asr", 0x0C),
+    (Cmp, "cmp", 0x10),
+    (Add, "add", 0x40),
+    (Mul, "mul", 0x41),
+    (Avg, "avg", 0x42),
+    (Nop, "nop", 0x7E),
+    (Jmpi, "jmpi", 0x20),
+    (If, "if", 0x22),
+    (Else, "else", 0x24),
+    (Endif, "endif", 0x25),
+    (While, "while", 0x27),
+    (Break, "break", 0x28),
+    (Cont, "cont", 0x29),
 ];
 
 /// The branches.
@@ -59,13 +59,27 @@ pub const BRANCHES: [Operation; 7] = [Jmpi, If, Else, Endif, While, Break, Cont]
 impl Operation {
     /// The operation of an opcode, if the opcode is listed.
     pub fn from_opcode(opcode: u32) -> Option<Operation> {
-        let found = OPCODES.iter().find(|(_, listed)| *listed == opcode);
-        found.map(|(operation, _)| *operation)
+        let found = OPERATIONS.iter().find(|(_, _, listed)| *listed == opcode);
+        found.map(|(operation, ..)| *operation)
+    }
+
+    /// The operation of a name, if there is one.
+    pub fn from_name(name: &str) -> Option<Operation> {
+        let found = OPERATIONS.iter().find(|(_, listed, _)| *listed == name);
+        found.map(|(operation, ..)| *operation)
+    }
+
+    fn row(self) -> (Operation, &'static str, u32) {
+        let found = OPERATIONS.into_iter().find(|(operation, ..)| *operation == self);
+        found.expect("every operation is in the list")
+    }
+
+    pub fn name(self) -> &'static str {
+        self.row().1
     }
 
     pub fn opcode(self) -> u32 {
-        let found = OPCODES.iter().find(|(operation, _)| *operation == self);
-        found.expect("every operation is in the list").1
+        self.row().2
     }
 
     pub fn is_branch(self) -> bool {

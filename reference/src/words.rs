@@ -250,6 +250,23 @@ pub enum Search {
     Source,
 }
 
+/// The numbers that a dictionary must have for a word to have a short one, src0's before src1's.
+pub fn numbers_of(word: LongWord) -> Vec<(Search, u32)> {
+    let low_ten = (word.field(68, 64) << 5) | word.field(52, 48);
+    let mut numbers = vec![
+        (Search::Control, (word.saturate() << 16) | word.field(23, 8)),
+        (Search::Datatype, (word.field(63, 61) << 15) | word.field(46, 32)),
+        (Search::Source, word.field(88, 77)),
+    ];
+    if word.is_immediate_form() {
+        numbers.push((Search::LowTen, low_ten));
+    } else {
+        numbers.push((Search::Subregister, (word.field(100, 96) << 10) | low_ten));
+        numbers.push((Search::Source, word.field(120, 109)));
+    }
+    numbers
+}
+
 /// Finds the least index at which a table's number is the wanted one.
 pub trait Finder {
     fn least_index(&self, search: Search, wanted: u32) -> Option<u64>;

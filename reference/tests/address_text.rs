@@ -67,7 +67,7 @@ fn a0_as_an_operand() {
         }
     }
     assert_eq!(fields("mov(1) a0.3<1>:ud -a0.3<0;1,0>:ub", [(52, 48), (68, 64)]), [12, 3]);
-    all_refused(&["mov(1) a0.16<1>:uw 1:uw"], &["subregister 16 does not fit: the last is 15"]);
+    all_refused(&["mov(1) a0.16<1>:uw 1:uw"], &["subregister 16 does not fit: the last is 7"]);
     all_refused(&["mov(1) a0.x<1>:uw 1:uw"], &["subregister 'x' is no number"]);
     all_refused(&["mov(1) a1<1>:uw 1:uw", "mov(1) a00<1>:uw 1:uw"], &["is no register"]);
     all_refused(&["mov(1) a0:uw 1:uw"], &["is no destination"]);

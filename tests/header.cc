@@ -1,0 +1,2 @@
+// The header alone, as C++ sees it.
+#include "spokeshaver.h"
