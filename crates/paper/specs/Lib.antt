@@ -33,9 +33,8 @@ pub mod SheetMore
 pub mod SheetRefusals
 pub mod SheetVotes
 pub mod SheetLeaving
-pub mod SheetForward
 pub mod SheetHolds
-pub mod SheetPairs
+pub mod SheetParts
 pub mod SheetLogs
 pub mod SheetAddresses
 pub mod SheetListings

@@ -1,22 +1,18 @@
--- Each refusal of a kernel, with the offset of its instruction, and what just passes. Assumes nothing.
-use mathlib.Core.Bool.{Bool, true, false}
-use mathlib.Core.List.{List, [], _∷_, _++_, map}
-use Prim.Native.Nat.{ℕ, zero, suc, _+_, _-_, _*_, _^_}
-use lib.ListN.{replicate, take, set, length}
+-- Each refusal of an instruction, with its offset, and what just passes. Kernels that are lent with a dictionary stand in crate `sheets`. Assumes nothing.
+use mathlib.Core.List.{List, [], _∷_, _++_}
+use Prim.Native.Nat.{ℕ, _+_, _-_, _^_}
 use Rattle.paper.specs.Bits.{_at_, bytesOf}
-use Rattle.paper.specs.Limits.{kernelBytes}
 use Rattle.paper.specs.Kernel.{walk, judgeAt, parse, longAndShort}
 use Rattle.paper.specs.Jump.{withJumps}
-use Rattle.paper.specs.Calls.{Written, Changed, checkedAs, checkCall, packCall, unpackCall, shortenCall, expandCall, decodeCall, decodePart, startCall, stepCall, runCall}
-use Rattle.paper.specs.Assembler.{to, from0, from1, immediate0, immediate1, op, structuredTo, jmpiTo, nopWord, long, copies, numbers, zeros, blankDictionary, dictionaryA, clear, begin}
-use Rattle.paper.specs.Sheet.{Row, _gives_, shown, written, room, longA, shortA}
-use Rattle.paper.specs.SheetMore.{stateIs}
+use Rattle.paper.specs.Calls.{checkedAs}
+use Rattle.paper.specs.Assembler.{to, from0, from1, immediate0, immediate1, op, structuredTo, jmpiTo, nopWord, long}
+use Rattle.paper.specs.Sheet.{Row, _gives_, shown}
 
--- The check of a nop and then the given bytes: what is refused stands at byte 16.
-unfoldable pub second : List ℕ → List ℕ
-second bytes = shown (checkCall blankDictionary (long (nopWord ∷ []) ++ bytes))
+-- What is said of a nop and then the given bytes, under a dictionary of zeros: what is refused stands at byte 16.
+unfoldable pub secondBytes : List ℕ → List ℕ
+secondBytes bytes = shown (checkedAs (withJumps (parse longAndShort (λ _. 0) (long (nopWord ∷ []) ++ bytes))))
 
--- The same for one long word, without the dictionary's own rule.
+-- The same for one long word.
 unfoldable pub secondWord : ℕ → List ℕ
 secondWord w = shown (checkedAs (withJumps (parse longAndShort (λ _. 0) (long (nopWord ∷ w ∷ [])))))
 
@@ -24,27 +20,20 @@ secondWord w = shown (checkedAs (withJumps (parse longAndShort (λ _. 0) (long (
 unfoldable pub movWith : ℕ → ℕ
 movWith more = op 0x01 3 + to 1 4 0 + from0 1 2 0 4 3 1 + more
 
--- A short nop.
-unfoldable pub shortNop : List ℕ
-shortNop = bytesOf 8 (nopWord + 1 at 29)
-
 -- add(8) r4:d, r2:d, r3:d with the given subregister of src0 and width code of src1.
 unfoldable pub addWith : ℕ → ℕ → ℕ
 addWith sub wide = op 0x40 3 + to 1 4 0 + from0 1 2 sub 4 3 1 + from1 1 3 0 4 wide 1
 
-unfoldable pub rowsKernel : List Row
-rowsKernel =
-    (shown (checkCall (take 511 blankDictionary) []) gives 1 ∷ 0 ∷ 0 ∷ [])
-    ∷ (shown (checkCall blankDictionary (replicate (kernelBytes + 1) 0)) gives 1 ∷ 0 ∷ 0 ∷ [])
-    ∷ (shown (checkCall (numbers (set zeros 0 (2 ^ 17))) []) gives 2 ∷ 0 ∷ 0 ∷ [])
-    ∷ (shown (checkCall (numbers (set zeros 0 (2 ^ 17 - 1))) []) gives 0 ∷ 0 ∷ 0 ∷ [])
+unfoldable pub rowsForm : List Row
+rowsForm =
     -- 17 before 3, shown at a limit of two
-    ∷ (shown (checkedAs (walk (judgeAt longAndShort (λ _. 0) (long (nopWord ∷ nopWord ∷ []) ++ (1 ∷ []))) 33 2 0)) gives 17 ∷ 32 ∷ 0 ∷ [])
-    ∷ (second (1 ∷ 2 ∷ 3 ∷ []) gives 3 ∷ 16 ∷ 0 ∷ [])
-    ∷ (second (bytesOf 12 nopWord) gives 3 ∷ 16 ∷ 0 ∷ [])
+    (shown (checkedAs (walk (judgeAt longAndShort (λ _. 0) (long (nopWord ∷ nopWord ∷ []) ++ (1 ∷ []))) 33 2 0)) gives 17 ∷ 32 ∷ 0 ∷ [])
+    -- 3, 4 and 5
+    ∷ (secondBytes (1 ∷ 2 ∷ 3 ∷ []) gives 3 ∷ 16 ∷ 0 ∷ [])
+    ∷ (secondBytes (bytesOf 12 nopWord) gives 3 ∷ 16 ∷ 0 ∷ [])
     ∷ (secondWord 0x03 gives 4 ∷ 16 ∷ 0 ∷ [])
-    ∷ (second (bytesOf 8 (0x22 + 1 at 29)) gives 5 ∷ 16 ∷ 0 ∷ [])
-    ∷ (second shortNop gives 0 ∷ 0 ∷ 2 ∷ [])
+    ∷ (secondBytes (bytesOf 8 (0x22 + 1 at 29)) gives 5 ∷ 16 ∷ 0 ∷ [])
+    ∷ (secondBytes (bytesOf 8 (nopWord + 1 at 29)) gives 0 ∷ 0 ∷ 2 ∷ [])
     ∷ []
 
 unfoldable pub rowsWord : List Row
@@ -86,8 +75,9 @@ rowsWord =
     -- 8: mul with dwords; an immediate that is not last; unequal halves; a modifier on a src0 immediate, on logic; signs of shifts; sel
     ∷ (secondWord (op 0x41 3 + to 1 4 0 + from0 1 2 0 4 3 1 + from1 3 3 0 4 3 1) gives 8 ∷ 16 ∷ 0 ∷ [])
     ∷ (secondWord (op 0x40 3 + to 1 4 0 + immediate0 1 5 + 1 at 42 + 1 at 44) gives 8 ∷ 16 ∷ 0 ∷ [])
-    -- bit 111 of such an immediate is the second source's AddrMode, which is served
+    -- bit 111 of such an immediate is the second source's AddrMode, which is served; of an immediate as second source it is no AddrMode
     ∷ (secondWord (op 0x40 3 + to 1 4 0 + immediate0 1 (5 + 1 at 15) + 1 at 42 + 1 at 44) gives 8 ∷ 16 ∷ 0 ∷ [])
+    ∷ (secondWord (op 0x40 3 + to 1 4 0 + from0 1 2 0 4 3 1 + immediate1 1 (1 at 15)) gives 0 ∷ 0 ∷ 2 ∷ [])
     ∷ (secondWord (op 0x01 3 + to 1 4 0 + immediate0 3 5) gives 8 ∷ 16 ∷ 0 ∷ [])
     ∷ (secondWord (op 0x01 3 + to 1 4 0 + immediate0 3 0x00050005) gives 0 ∷ 0 ∷ 2 ∷ [])
     ∷ (secondWord (op 0x01 3 + to 1 4 0 + immediate0 1 5 + 1 at 77) gives 8 ∷ 16 ∷ 0 ∷ [])

@@ -1,11 +1,11 @@
--- Any and all, over groups of 2, 4, 8 and 16: rows worked out from 02 §2 by hand. Assumes nothing.
+-- Any and all, over groups of 2, 4, 8 and 16: rows worked out from 02 §2 by hand. Steps by them stand in crate `worked`. Assumes nothing.
 use mathlib.Core.List.{List, [], _∷_, map}
 use Prim.Native.Nat.{ℕ, _+_}
 use Rattle.paper.specs.Bits.{_at_}
 use Rattle.paper.specs.Enable.{ofBits, predicate}
-use Rattle.paper.specs.Assembler.{to, from0, immediate1, op, structuredTo, jmpiTo, nopWord, clear, begin}
+use Rattle.paper.specs.Assembler.{to, from0, immediate1, op, structuredTo, jmpiTo, nopWord}
 use Rattle.paper.specs.Sheet.{Row, _gives_}
-use Rattle.paper.specs.SheetMore.{one, r4, sevens, ranOver, stateIs}
+use Rattle.paper.specs.SheetMore.{sevens}
 use Rattle.paper.specs.SheetRefusals.{secondWord}
 
 -- ---- the predicates of the 16 channels
@@ -33,19 +33,6 @@ rowsVote =
     ∷ (predicates 10 0x0400 gives 0xFFFF ∷ 0 ∷ [])
     ∷ (predicates 11 0xFBFF gives 0 ∷ 0xFFFF ∷ [])
     ∷ (predicates 11 0xFFFF gives 0xFFFF ∷ 0 ∷ [])
-    ∷ []
-
--- ---- one step: what is enabled. `worked` has more of these.
-
-unfoldable pub rowsVoted : List Row
-rowsVoted =
-    -- a disabled channel's bit counts in its group: channel 1 is off, and its bit lets channel 0 work; off too, its missing bit stops channel 0
-    (r4 4 (one (sevens 1 + 4 at 16) clear (begin 1 2 0)) gives 7 ∷ 0 ∷ 0 ∷ 0 ∷ [])
-    ∷ (r4 4 (one (sevens 1 + 5 at 16) clear (begin 1 1 0)) gives 0 ∷ 0 ∷ 0 ∷ 0 ∷ [])
-    -- in the second quarter groups are those of channels 8 to 15
-    ∷ (r4 8 (one (sevens 3 + 1 at 12 + 4 at 16) clear (begin 0xFFFF 0x0804 0)) gives 0 ∷ 0 ∷ 0 ∷ 0 ∷ 7 ∷ 0 ∷ 7 ∷ 0 ∷ [])
-    -- if: the eight of which one says so go on
-    ∷ (ranOver ((structuredTo 0x22 4 + 8 at 16) ∷ nopWord ∷ []) 1 (begin 0xFFFF 0x0100 0) gives 21 ∷ 0 ∷ 1 ∷ stateIs 0x0100 0 2 0xFF00 0x00FF 4 0)
     ∷ []
 
 -- ---- 7 and 8

@@ -12,6 +12,17 @@ use Rattle.paper.specs.SheetHolds.{Hold}
 selected : ℕ
 selected = op 0x02 4 + 10 at 16 + to 2 4 0 + from0 4 2 0 5 4 1 + immediate1 2 0x00090009
 
+pub rowsCounted : List Row
+rowsCounted =
+    -- a disabled channel's bit counts in its group: channel 1 is off, and its bit lets channel 0 work; off too, its missing bit stops channel 0
+    (r4 4 (one (sevens 1 + 4 at 16) clear (begin 1 2 0)) gives 7 ∷ 0 ∷ 0 ∷ 0 ∷ [])
+    ∷ (r4 4 (one (sevens 1 + 5 at 16) clear (begin 1 1 0)) gives 0 ∷ 0 ∷ 0 ∷ 0 ∷ [])
+    -- in the second quarter groups are those of channels 8 to 15
+    ∷ (r4 8 (one (sevens 3 + 1 at 12 + 4 at 16) clear (begin 0xFFFF 0x0804 0)) gives 0 ∷ 0 ∷ 0 ∷ 0 ∷ 7 ∷ 0 ∷ 7 ∷ 0 ∷ [])
+    -- if: the eight of which one says so go on
+    ∷ (ranOver ((structuredTo 0x22 4 + 8 at 16) ∷ nopWord ∷ []) 1 (begin 0xFFFF 0x0100 0) gives 21 ∷ 0 ∷ 1 ∷ stateIs 0x0100 0 2 0xFF00 0x00FF 4 0)
+    ∷ []
+
 rowsVoted : List Row
 rowsVoted =
     -- any and all of two; inverted after the vote
@@ -39,3 +50,7 @@ rowsVoted =
 rowsVoted-hold : Hold rowsVoted
 unfolding Hold selected rowsVoted
 rowsVoted-hold = refl
+
+pub rowsCounted-hold : Hold rowsCounted
+unfolding Hold rowsCounted
+rowsCounted-hold = refl

@@ -1,31 +1,31 @@
 -- A long kernel and one that was sent for it: rows worked out from 02 §11 by hand. Assumes nothing.
-use mathlib.Core.List.{List, [], _∷_, _++_}
+use mathlib.Core.List.{List, [], _∷_}
 use mathlib.Core.Path.{refl}
 use Prim.Native.Nat.{ℕ, _+_}
 use lib.ListN.{take, set}
 use Rattle.paper.specs.Bits.{_at_, bytesOf}
 use Rattle.paper.specs.Program.{blanked, sameNumbers, agreed}
 use Rattle.paper.specs.Calls.{pairCall, loadPart}
 use Rattle.paper.specs.Assembler.{jmpiTo, nopWord, long, numbers, zeros, dictionaryA}
 use Rattle.paper.specs.Sheet.{Row, _gives_, shown, longA, shortA, kernelI}
 use Rattle.paper.specs.SheetHolds.{Hold}
 
 -- The answer to a pair under case A's dictionary.
-unfoldable pub paired : List ℕ → List ℕ → List ℕ
+paired : List ℕ → List ℕ → List ℕ
 paired longer sent = shown (pairCall dictionaryA longer sent)
 
 -- Case I's kernel: jmpi over an add, and a nop that has no short form. It is 48 bytes long, 40 packed, where its jmpi holds 1.
-unfoldable pub kernelLong : List ℕ
+kernelLong : List ℕ
 kernelLong = kernelI 2 (bytesOf 16 longA)
 
-unfoldable pub kernelSent : List ℕ
+kernelSent : List ℕ
 kernelSent = kernelI 1 (bytesOf 8 shortA)
 
 -- Case A's dictionary with its control number 1 once more, as number 5.
-unfoldable pub repeatedA : List ℕ
+repeatedA : List ℕ
 repeatedA = numbers (set (set (set (set zeros 1 0x6000) 5 0x6000) 34 0x94A5) 99 0x468)
 
-unfoldable pub rowsPair : List Row
+rowsPair : List Row
 rowsPair =
     -- packed, and not packed
     (paired kernelLong kernelSent gives 0 ∷ 0 ∷ 40 ∷ [])
@@ -62,6 +62,6 @@ rowsPair =
     ∷ []
 
 -- Every one of them holds.
-pub rowsPair-hold : Hold rowsPair
+rowsPair-hold : Hold rowsPair
 unfolding Hold blanked sameNumbers agreed pairCall loadPart paired kernelLong kernelSent repeatedA rowsPair
 rowsPair-hold = refl

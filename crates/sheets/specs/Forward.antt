@@ -1,26 +1,28 @@
 -- Jumps that go forward, and runs that end at their bound or never: rows worked out from 02 §14 by hand. Assumes nothing.
 use mathlib.Core.List.{List, [], _∷_}
+use mathlib.Core.Path.{refl}
 use Prim.Native.Nat.{ℕ, _-_, _^_}
 use Rattle.paper.specs.Calls.{forwardCall}
 use Rattle.paper.specs.Assembler.{structuredTo, jmpiTo, leaveTo, nopWord, long, blankDictionary, begin}
 use Rattle.paper.specs.Sheet.{Row, _gives_, shown}
 use Rattle.paper.specs.SheetMore.{ranOver, stateIs}
+use Rattle.paper.specs.SheetHolds.{Hold}
 
 -- What forward says of long words.
-unfoldable pub ahead : List ℕ → List ℕ
+ahead : List ℕ → List ℕ
 ahead words = shown (forwardCall blankDictionary (long words))
 
 -- Every kind of branch, each with its targets after it: jmpi, if, else, break, cont, while and endif, and a nop. With all channels awake and no predicate each
 -- leads to the next instruction.
-unfoldable pub everyKind : List ℕ
+everyKind : List ℕ
 everyKind =
     jmpiTo 0 ∷ structuredTo 0x22 4 ∷ structuredTo 0x24 2 ∷ leaveTo 0x28 2 2 ∷ leaveTo 0x29 2 2 ∷ structuredTo 0x27 2 ∷ structuredTo 0x25 2 ∷ nopWord ∷ []
 
 -- jmpi to itself: 2 places back from its end.
-unfoldable pub onItself : ℕ
+onItself : ℕ
 onItself = jmpiTo (2 ^ 32 - 2)
 
-unfoldable pub rowsForward : List Row
+pub rowsForward : List Row
 rowsForward =
     -- no jump at all, in a kernel of none and in one of a nop
     (ahead [] gives 0 ∷ 0 ∷ 1 ∷ [])
@@ -46,3 +48,7 @@ rowsForward =
     -- one step of jmpi to itself leaves the state as it was, so that no run over it ends
     ∷ (ranOver (onItself ∷ []) 1 (begin 0xFFFF 0 0) gives 21 ∷ 0 ∷ 1 ∷ begin 0xFFFF 0 0)
     ∷ []
+
+pub rowsForward-hold : Hold rowsForward
+unfolding Hold ahead everyKind onItself rowsForward
+rowsForward-hold = refl
