@@ -1,4 +1,4 @@
-/* Spokeshaver: decode, check, pack, unpack, list and run small graphics kernels, and keep a log of their runs.
+/* Spokeshaver: decode, check, pack, unpack, list and run small graphics kernels, keep a log of their runs, and place tiles.
  *
  * Link with libspokeshaver.a (x86-64 Linux; it needs only memcpy and memset of the C library). No call keeps anything between calls, takes memory,
  * writes a file or fails to return. Every call's answer, and every byte of what is lent to it, is proved to be what the rules say, for all inputs.
@@ -10,6 +10,8 @@
  *   - lend a NULL or stale pointer with a length over 0, or a length that is more than the memory behind the pointer. With length 0 any pointer will do.
  *   - lend for writing what overlaps anything else that is lent to the same call. What is only read may overlap.
  *   - let another thread write what is lent, or touch what is lent for writing, while the call runs. Calls on separate memory may run at once.
+ *   - make a call that adds or multiplies floats (step, run, place) with another floating-point mode than the processor starts with: rounding to nearest, no flushing
+ *     of subnormal numbers to zero. A program that is merely linked with -ffast-math flushes them. spokeshaver_floats_exact tells.
  *   A refusal changes nothing that was lent, but that a run which stops at a bad address (22) keeps the steps that it made before. Of an output, only the
  *   result's bytes are written; what lies behind them stays.
  *
@@ -39,7 +41,8 @@
  *
  * Elements
  *   Byte k of register n is registers[32 * n + k]. An element has its lowest byte first: word 3 of r4 is registers[134] + 256 * registers[135]. Signed types are in
- *   two's complement. Types, by code: ud 0 and d 1 of four bytes, uw 2 and w 3 of two, ub 4 and b 5 of one; as immediates ud, d, uw and w.
+ *   two's complement. Types, by code: ud 0 and d 1 of four bytes, uw 2 and w 3 of two, ub 4 and b 5 of one, f 7, a single float, of four; as immediates ud, d, uw, w,
+ *   f, and vf 5, four restricted floats in four bytes, channel 0's the lowest.
  *
  * Operations, by opcode; a and b are what src0 and src1 hold, as exact whole numbers
  *   0x01 mov    a
@@ -63,6 +66,9 @@
  *   0x41 mul    a * b, of words and bytes
  *   0x42 avg    (a + b + 1) / 2, rounded down
  *   0x7E nop    nothing
+ *   Where an operand is f or vf all are, and the operation is mov, add, mul or cmp. Sums and products round once, to nearest, ties to even; subnormal numbers are kept; any
+ *   NaN that they give is 0x7FC00000. mov copies bits. Modifiers act on the sign bit. cmp compares the floats themselves, with a NaN it is false but for nz, and a
+ *   destination gets the bits of the whole number 1 or 0.
  *   A result is stored modulo the destination type's width; with Saturate (mov, sel, add, mul, avg) it is clamped to the type. mov and not have one source. Regions,
  *   predicates, branches step by step, and what each operation asks of its operands: docs/KERNELS.md.
  *
@@ -272,6 +278,44 @@ uint64_t spokeshaver_list(const uint8_t *dictionary, size_t dictionary_len, cons
  * or the text ends inside of them, or the word is one that the bench refuses (4 to 11, or bit 29 is set) or is to be short and cannot be, or it would be the 4,097th. Jumps
  * that land nowhere come after all the rest: the lines of the first one. */
 uint64_t spokeshaver_read(const uint8_t *dictionary, size_t dictionary_len, const uint8_t *text, size_t text_len, uint8_t *out, size_t out_len);
+
+/* ---- placing tiles: floats cross as their 32-bit patterns, which memcpy gives; a record is 24 bytes, six little-endian patterns a to f */
+#define SPOKESHAVER_RECORD_BYTES 24
+#define SPOKESHAVER_POINT_BYTES 8
+#define SPOKESHAVER_PLACE_KERNEL_BYTES 128
+
+/* Orders of spokeshaver_place. */
+#define SPOKESHAVER_KEEP 0  /* x and y, their bits untouched */
+#define SPOKESHAVER_SHIFT 1 /* x + c and y + f */
+#define SPOKESHAVER_PLACE 2 /* (a * x + b * y) + c and (d * x + e * y) + f, each product and sum rounded once */
+
+/* Answers an order for a tile at x and y: the two patterns, little-endian, at the front of `out`. ACCEPTED with count 8; or 1 for a record that is not of 24 bytes, which
+ * every order takes, 7 for another order, 14. */
+uint64_t spokeshaver_place(uint64_t order, const uint8_t *record, size_t record_len, uint32_t x, uint32_t y, uint8_t *out, size_t out_len);
+
+/* Writes the fixed kernel that places sixteen tiles by one record, in long words. ACCEPTED with count 128; or 14. It finds the x of channel n in r2 and r3 (float n), the y in
+ * r4 and r5, the record in r6 from its first byte, and leaves the answers in r8 and r9, r10 and r11; r12 and r13 are its own. Every legal dictionary accepts it. From a start
+ * with any mask it ends after 8 steps, and the answers of each channel that is awake are the bits that spokeshaver_place gives for SPOKESHAVER_PLACE. */
+uint64_t spokeshaver_place_kernel(uint8_t *out, size_t out_len);
+
+/* Puts a record where the fixed kernel finds it. ACCEPTED; or 1 for a record that is not of 24 bytes or registers that are not of 4,096. */
+uint64_t spokeshaver_place_load(const uint8_t *record, size_t record_len, uint8_t *registers, size_t registers_len);
+
+/* 1 if the processor's floating-point mode is the one that floats need, and 0 if it rounds in another direction or flushes subnormal numbers to zero: three sums by
+ * spokeshaver_place. */
+static inline int spokeshaver_floats_exact(void) {
+    static const uint32_t sums[3][3] = {{1, 1, 2}, {0x4B800000, 0x3F800000, 0x4B800000}, {0x4B800001, 0x3F800000, 0x4B800002}};
+    int k, n;
+    for (k = 0; k < 3; k++) {
+        uint8_t record[SPOKESHAVER_RECORD_BYTES] = {0}, out[SPOKESHAVER_POINT_BYTES] = {0};
+        uint32_t sum = 0;
+        for (n = 0; n < 4; n++) record[8 + n] = (uint8_t)(sums[k][1] >> (8 * n));
+        spokeshaver_place(SPOKESHAVER_SHIFT, record, sizeof record, sums[k][0], 0, out, sizeof out);
+        for (n = 0; n < 4; n++) sum |= (uint32_t)out[n] << (8 * n);
+        if (sum != sums[k][2]) return 0;
+    }
+    return 1;
+}
 
 #ifdef __cplusplus
 }

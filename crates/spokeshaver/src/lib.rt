@@ -16,6 +16,9 @@ use machine::start::start;
 use packer::pack::pack;
 use packer::pack::unpack;
 use pair::pair::pair;
+use placement::calls::place;
+use placement::calls::place_kernel;
+use placement::calls::place_load;
 use run::calls::run;
 use run::calls::step;
 use short::calls::expand_word;
@@ -23,6 +26,7 @@ use short::calls::shorten_word;
 ghost use Rattle.contracts.specs.Contracts.{CheckPromise, ForwardPromise, PackPromise, UnpackPromise, PairPromise, ShortenPromise, ExpandPromise};
 ghost use Rattle.contracts.specs.Contracts.{DecodePromise, StartPromise, StepPromise, RunPromise};
 ghost use Rattle.contracts.specs.Contracts.{LogAppendPromise, LogReadPromise, LogRunsPromise, LogRunPromise, ListPromise, ReadPromise};
+ghost use Rattle.contracts.specs.Contracts.{PlacePromise, PlaceKernelPromise, PlaceLoadPromise};
 
 // Is the kernel accepted; the count is its instructions.
 #[no_mangle]
@@ -182,4 +186,28 @@ pub extern "C" fn spokeshaver_read(dictionary: &[u8], text: &[u8], out: &mut [u8
     ensures { λ r. ⌜ ReadPromise (now (dictionary .entry)) (now (text .entry)) (now (out .entry)) r (now (out .exit)) ⌝ }
 {
     number_of(read(dictionary, text, out))
+}
+
+// The answer to an order for a tile at x and y, as the bytes of two patterns; the count is theirs.
+#[no_mangle]
+pub extern "C" fn spokeshaver_place(order: u64, record: &[u8], x: u32, y: u32, out: &mut [u8]) -> u64
+    ensures { λ r. ⌜ PlacePromise order (now (record .entry)) x y (now (out .entry)) r (now (out .exit)) ⌝ }
+{
+    number_of(place(order, record, x, y, out))
+}
+
+// The fixed kernel that places sixteen tiles, in long words; the count is its bytes.
+#[no_mangle]
+pub extern "C" fn spokeshaver_place_kernel(out: &mut [u8]) -> u64
+    ensures { λ r. ⌜ PlaceKernelPromise (now (out .entry)) r (now (out .exit)) ⌝ }
+{
+    number_of(place_kernel(out))
+}
+
+// A record put where the fixed kernel finds it.
+#[no_mangle]
+pub extern "C" fn spokeshaver_place_load(record: &[u8], registers: &mut [u8]) -> u64
+    ensures { λ r. ⌜ PlaceLoadPromise (now (record .entry)) (now (registers .entry)) r (now (registers .exit)) ⌝ }
+{
+    number_of(place_load(record, registers))
 }

@@ -1,0 +1,3 @@
+mod Calling
+mod Joined
+mod SameBits
