@@ -31,15 +31,11 @@ pub record Acting (p : Plain) (w : ℕ) : Type 0 where
   pub legal : LegalPlain p w
   pub named : Named p w
 
--- A word can be executed if it is of an operation with operands.
-abbrev pub Actable : ℕ → Type 0
-Actable w = (p : Plain) → operation w ≡ plain p → Acting p w
-
--- It acts on registers alone if no operand is a0 besides.
+-- Word w, if it is of an operation with operands, can be executed and has no operand in a0: it acts on registers alone.
 abbrev pub OnRegisters : ℕ → Type 0
 OnRegisters w = (p : Plain) → operation w ≡ plain p → Acting p w × (usesA0 p w ≡ false)
 
--- Its effect is then that of its operation as the word stands.
+-- The effect of a word that can be executed is that of its operation as the word stands.
 pub effect-acting : (p : Plain) (w : ℕ) (awake : List Bool) (st : Store) → operation w ≡ plain p → Acting p w → effect w awake st ≡ plainEffect p w awake st
 unfolding effect
 effect-acting p w awake st o acting =

@@ -52,7 +52,7 @@ fn judge_places(p: Plain, w: Word) -> Broken
     Broken::Nothing
 }
 
-// The same of a word in which a0 has no part.
+// 10 and 11 of an operation in a word in which a0 has no part.
 fn judge_places_unaided(p: Plain, w: Word) -> Broken
     requires { ⌜ Unaided (toWord w) ⌝ }
     ensures { λ r. ⌜ numberOf r ≡ placesOf (plainIs p) (toWord w) ⌝ }

@@ -84,7 +84,7 @@ pub fn is_unaligned(subregister: u64, size: u64) -> bool
 // Whether a0 may have a part in the word is told to the tests of single operands: where it has none, nothing is asked for that.
 
 // The destination's is none, and it is named directly.
-pub fn dst_unaligned(looks: bool, w: Word) -> bool
+fn dst_unaligned(looks: bool, w: Word) -> bool
     requires { ⌜ (looks ≡ false → Unaided (toWord w)) ⌝ }
     ensures { λ r. ⌜ r ≡ dstUnaligned (toWord w) ⌝ }
 {
@@ -93,7 +93,7 @@ pub fn dst_unaligned(looks: bool, w: Word) -> bool
 }
 
 // A source's is none, and it is named directly.
-pub fn src_unaligned(looks: bool, x: Source, w: Word) -> bool
+fn src_unaligned(looks: bool, x: Source, w: Word) -> bool
     requires { ⌜ (looks ≡ false → Unaided (toWord w)) ⌝ }
     ensures { λ r. ⌜ r ≡ srcUnaligned (sourceIs x) (toWord w) ⌝ }
 {
@@ -101,6 +101,7 @@ pub fn src_unaligned(looks: bool, x: Source, w: Word) -> bool
     both(negated(both(looks, src_by_address(x, w))), broken)
 }
 
+// 10: an operand that is named directly is misaligned.
 pub fn alignment_broken(p: Plain, w: Word) -> bool
     ensures { λ r. ⌜ r ≡ alignmentBroken (plainIs p) (toWord w) ⌝ }
 {
@@ -109,7 +110,7 @@ pub fn alignment_broken(p: Plain, w: Word) -> bool
     some_operand(p, w, dst_unaligned(true, w), first, second)
 }
 
-// The same of a word in which a0 has no part.
+// 10 of a word in which a0 has no part.
 pub(crate) fn alignment_broken_unaided(p: Plain, w: Word) -> bool
     requires { ⌜ Unaided (toWord w) ⌝ }
     ensures { λ r. ⌜ r ≡ alignmentBroken (plainIs p) (toWord w) ⌝ }
@@ -163,7 +164,7 @@ pub(crate) fn region_too_far(bytes: usize, r: Region, last: usize) -> bool
 }
 
 // A source reaches too far, and is named directly.
-pub fn src_far(looks: bool, x: Source, w: Word) -> bool
+fn src_far(looks: bool, x: Source, w: Word) -> bool
     requires { ⌜ (looks ≡ false → Unaided (toWord w)) ⌝ }
     ensures { λ r. ⌜ r ≡ srcFar (sourceIs x) (toWord w) ⌝ }
 {
@@ -173,7 +174,7 @@ pub fn src_far(looks: bool, x: Source, w: Word) -> bool
 }
 
 // The destination does, and is named directly.
-pub fn dst_far(looks: bool, w: Word) -> bool
+fn dst_far(looks: bool, w: Word) -> bool
     requires { ⌜ (looks ≡ false → Unaided (toWord w)) ⌝ }
     ensures { λ r. ⌜ r ≡ dstFar (toWord w) ⌝ }
 {
@@ -182,6 +183,7 @@ pub fn dst_far(looks: bool, w: Word) -> bool
     both(negated(both(looks, dst_by_address(w))), far)
 }
 
+// 11: an operand that is named directly reaches too far.
 pub fn reach_broken(p: Plain, w: Word) -> bool
     ensures { λ r. ⌜ r ≡ reachBroken (plainIs p) (toWord w) ⌝ }
 {
@@ -190,7 +192,7 @@ pub fn reach_broken(p: Plain, w: Word) -> bool
     some_operand(p, w, dst_far(true, w), first, second)
 }
 
-// The same of a word in which a0 has no part.
+// 11 of a word in which a0 has no part.
 pub(crate) fn reach_broken_unaided(p: Plain, w: Word) -> bool
     requires { ⌜ Unaided (toWord w) ⌝ }
     ensures { λ r. ⌜ r ≡ reachBroken (plainIs p) (toWord w) ⌝ }

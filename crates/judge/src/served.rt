@@ -45,7 +45,7 @@ ghost use Rattle.words.specs.Unaided.{Unaided};
 ghost use Rattle.judge.specs.Rules.{a0Served, operandsServed};
 
 // 6: bit 7; for all but branches, which are told, 47 or 95:90, or 127:121 outside immediate form.
-pub fn reserved_set(jumps: bool, w: Word) -> bool
+pub(crate) fn reserved_set(jumps: bool, w: Word) -> bool
     requires { ⌜ jumps ≡ isBranch (operation (toWord w)) ⌝ }
     ensures { λ r. ⌜ r ≡ reservedSet (toWord w) ⌝ }
 {
@@ -120,7 +120,7 @@ pub fn control_served(comparing: bool, saturating: bool, w: Word) -> bool
 // Whether a0 may have a part in the word is told to the tests of single operands.
 
 // Registers, named directly or by address; or null or a0, named directly; of a listed type.
-pub fn dst_served(looks: bool, w: Word) -> bool
+fn dst_served(looks: bool, w: Word) -> bool
     requires { ⌜ (looks ≡ false → Unaided (toWord w)) ⌝ }
     ensures { λ r. ⌜ r ≡ dstServed (toWord w) ⌝ }
 {
@@ -131,7 +131,7 @@ pub fn dst_served(looks: bool, w: Word) -> bool
 }
 
 // An immediate of type 0 to 3; or, of type 0 to 5, a register, named directly or by address, or a0, named directly.
-pub fn src_served(looks: bool, x: Source, w: Word) -> bool
+fn src_served(looks: bool, x: Source, w: Word) -> bool
     requires { ⌜ (looks ≡ false → Unaided (toWord w)) ⌝ }
     ensures { λ r. ⌜ r ≡ srcServed (toWord w) (sourceIs x) ⌝ }
 {
@@ -202,7 +202,7 @@ fn operands_served(p: Plain, w: Word) -> bool
     both(dst_served(true, w), both(sources, a0_served(p, w)))
 }
 
-// The same in a word in which a0 has no part.
+// The operands of an operation in a word in which a0 has no part.
 fn operands_served_unaided(p: Plain, w: Word) -> bool
     requires { ⌜ Unaided (toWord w) ⌝ }
     ensures { λ r. ⌜ r ≡ operandsServed (plainIs p) (toWord w) ⌝ }
@@ -214,7 +214,7 @@ fn operands_served_unaided(p: Plain, w: Word) -> bool
 }
 
 // Every field that an operation with operands is judged by; whether a0 may have a part is told.
-pub fn plain_served(looks: bool, p: Plain, w: Word) -> bool
+pub(crate) fn plain_served(looks: bool, p: Plain, w: Word) -> bool
     requires { ⌜ (looks ≡ false → Unaided (toWord w)) ⌝ }
     ensures { λ r. ⌜ r ≡ plainServed (plainIs p) (toWord w) ⌝ }
 {
