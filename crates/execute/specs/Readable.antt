@@ -33,25 +33,21 @@ pub record Acting (p : Plain) (w : ℕ) : Type 0 where
   pub legal : LegalPlain p w
   pub named : Named p w
 
--- A word can be executed if it is of an operation with operands.
-abbrev pub Actable : ℕ → Type 0
-Actable w = (p : Plain) → operation w ≡ plain p → Acting p w
-
--- Besides, its operands are whole numbers;
+-- Operation p of word w can be executed, and its operands are whole numbers.
 pub record Counting (p : Plain) (w : ℕ) : Type 0 where
   pub acting : Acting p w
   pub whole : usesFloats p w ≡ false
 
--- or some of them is a float.
+-- Operation p of word w can be executed, and some of its operands is a float.
 pub record Reckoning (p : Plain) (w : ℕ) : Type 0 where
   pub acting : Acting p w
   pub some : usesFloats p w ≡ true
 
--- It acts on registers alone, and on whole numbers, if no operand is a0 or a float.
+-- Word w, if it is of an operation with operands, can be executed and has no operand that is a float or in a0: it acts on registers alone, and on whole numbers.
 abbrev pub OnRegisters : ℕ → Type 0
 OnRegisters w = (p : Plain) → operation w ≡ plain p → Counting p w × (usesA0 p w ≡ false)
 
--- Its effect is then that of its operation as the word stands.
+-- The effect of a word that can be executed is that of its operation as the word stands.
 pub effect-acting : (p : Plain) (w : ℕ) (awake : List Bool) (st : Store) → operation w ≡ plain p → Acting p w → effect w awake st ≡ plainEffect p w awake st
 unfolding effect
 effect-acting p w awake st o acting =

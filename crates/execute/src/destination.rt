@@ -35,7 +35,7 @@ pub(crate) fn write(w: Word, enable: u64, registers: &mut [u8], results: &[u64; 
     );
 }
 
-// The same in the file that the destination stands in, a0 or the registers, which is lent: element by element.
+// Results stored element by element, where the mask says, in the file that the destination stands in, a0 or the registers, which is lent; null stores nothing.
 pub(crate) fn write_by_element(w: Word, enable: u64, file: &mut [u8], results: &[u64; 16])
     requires { ⌜ Writable (toWord w) × (length (now file) ≡ bytesIn (dstIsA0 (toWord w))) ⌝ }
     ensures { λ r. ⌜ now (file .exit) ≡ written (toWord w) enable (now (file .entry)) (now (results .entry)) ⌝ }

@@ -52,7 +52,7 @@ fn judge_places(p: Plain, w: Word) -> Broken
     Broken::Nothing
 }
 
-// The same of a word that is as most are.
+// 10 and 11 of an operation in a word that is as most are: no part for a0, no float.
 fn judge_places_usual(p: Plain, w: Word) -> Broken
     requires { ⌜ Usual (toWord w) ⌝ }
     ensures { λ r. ⌜ numberOf r ≡ placesOf (plainIs p) (toWord w) ⌝ }

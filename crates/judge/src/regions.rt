@@ -84,7 +84,7 @@ pub fn is_unaligned(subregister: u64, size: u64) -> bool
 // Whether the word is unusual is told to the tests of single operands: where it is not, a0 has no part, and nothing is asked for that.
 
 // The destination's is none, and it is named directly.
-pub fn dst_unaligned(unusual: bool, w: Word) -> bool
+fn dst_unaligned(unusual: bool, w: Word) -> bool
     requires { ⌜ (unusual ≡ false → Usual (toWord w)) ⌝ }
     ensures { λ r. ⌜ r ≡ dstUnaligned (toWord w) ⌝ }
 {
@@ -93,7 +93,7 @@ pub fn dst_unaligned(unusual: bool, w: Word) -> bool
 }
 
 // A source's is none, and it is named directly.
-pub fn src_unaligned(unusual: bool, x: Source, w: Word) -> bool
+fn src_unaligned(unusual: bool, x: Source, w: Word) -> bool
     requires { ⌜ (unusual ≡ false → Usual (toWord w)) ⌝ }
     ensures { λ r. ⌜ r ≡ srcUnaligned (sourceIs x) (toWord w) ⌝ }
 {
@@ -101,6 +101,7 @@ pub fn src_unaligned(unusual: bool, x: Source, w: Word) -> bool
     both(negated(both(unusual, src_by_address(x, w))), broken)
 }
 
+// 10: an operand that is named directly is misaligned.
 pub fn alignment_broken(p: Plain, w: Word) -> bool
     ensures { λ r. ⌜ r ≡ alignmentBroken (plainIs p) (toWord w) ⌝ }
 {
@@ -109,7 +110,7 @@ pub fn alignment_broken(p: Plain, w: Word) -> bool
     some_operand(p, w, dst_unaligned(true, w), first, second)
 }
 
-// The same of a word that is as most are.
+// 10 of a word that is as most are.
 pub(crate) fn alignment_broken_usual(p: Plain, w: Word) -> bool
     requires { ⌜ Usual (toWord w) ⌝ }
     ensures { λ r. ⌜ r ≡ alignmentBroken (plainIs p) (toWord w) ⌝ }
@@ -163,7 +164,7 @@ pub(crate) fn region_too_far(bytes: usize, r: Region, last: usize) -> bool
 }
 
 // A source reaches too far, and is named directly.
-pub fn src_far(unusual: bool, x: Source, w: Word) -> bool
+fn src_far(unusual: bool, x: Source, w: Word) -> bool
     requires { ⌜ (unusual ≡ false → Usual (toWord w)) ⌝ }
     ensures { λ r. ⌜ r ≡ srcFar (sourceIs x) (toWord w) ⌝ }
 {
@@ -173,7 +174,7 @@ pub fn src_far(unusual: bool, x: Source, w: Word) -> bool
 }
 
 // The destination does, and is named directly.
-pub fn dst_far(unusual: bool, w: Word) -> bool
+fn dst_far(unusual: bool, w: Word) -> bool
     requires { ⌜ (unusual ≡ false → Usual (toWord w)) ⌝ }
     ensures { λ r. ⌜ r ≡ dstFar (toWord w) ⌝ }
 {
@@ -182,6 +183,7 @@ pub fn dst_far(unusual: bool, w: Word) -> bool
     both(negated(both(unusual, dst_by_address(w))), far)
 }
 
+// 11: an operand that is named directly reaches too far.
 pub fn reach_broken(p: Plain, w: Word) -> bool
     ensures { λ r. ⌜ r ≡ reachBroken (plainIs p) (toWord w) ⌝ }
 {
@@ -190,7 +192,7 @@ pub fn reach_broken(p: Plain, w: Word) -> bool
     some_operand(p, w, dst_far(true, w), first, second)
 }
 
-// The same of a word that is as most are.
+// 11 of a word that is as most are.
 pub(crate) fn reach_broken_usual(p: Plain, w: Word) -> bool
     requires { ⌜ Usual (toWord w) ⌝ }
     ensures { λ r. ⌜ r ≡ reachBroken (plainIs p) (toWord w) ⌝ }

@@ -48,7 +48,7 @@ ghost use Rattle.words.specs.Usual.{Usual};
 ghost use Rattle.judge.specs.Rules.{a0Served, floatsAllowed, operandsServed};
 
 // 6: bit 7; for all but branches, which are told, 47 or 95:90, or 127:121 outside immediate form.
-pub fn reserved_set(jumps: bool, w: Word) -> bool
+pub(crate) fn reserved_set(jumps: bool, w: Word) -> bool
     requires { ⌜ jumps ≡ isBranch (operation (toWord w)) ⌝ }
     ensures { λ r. ⌜ r ≡ reservedSet (toWord w) ⌝ }
 {
@@ -123,7 +123,7 @@ pub fn control_served(comparing: bool, saturating: bool, w: Word) -> bool
 // Whether the word is unusual is told to the tests of single operands: what few words need is asked of these alone.
 
 // Registers, named directly or by address; or null or a0, named directly; of a listed type.
-pub fn dst_served(unusual: bool, w: Word) -> bool
+fn dst_served(unusual: bool, w: Word) -> bool
     requires { ⌜ (unusual ≡ false → Usual (toWord w)) ⌝ }
     ensures { λ r. ⌜ r ≡ dstServed (toWord w) ⌝ }
 {
@@ -136,7 +136,7 @@ pub fn dst_served(unusual: bool, w: Word) -> bool
 }
 
 // An immediate of a listed type; or, of a listed type, a register, named directly or by address, or a0, named directly.
-pub fn src_served(unusual: bool, x: Source, w: Word) -> bool
+fn src_served(unusual: bool, x: Source, w: Word) -> bool
     requires { ⌜ (unusual ≡ false → Usual (toWord w)) ⌝ }
     ensures { λ r. ⌜ r ≡ srcServed (toWord w) (sourceIs x) ⌝ }
 {
@@ -229,7 +229,7 @@ fn operands_served(p: Plain, w: Word) -> bool
     both(dst_served(true, w), both(sources, few))
 }
 
-// The same in a word that is as most are.
+// The operands of an operation in a word that is as most are.
 fn operands_served_usual(p: Plain, w: Word) -> bool
     requires { ⌜ Usual (toWord w) ⌝ }
     ensures { λ r. ⌜ r ≡ operandsServed (plainIs p) (toWord w) ⌝ }
@@ -241,7 +241,7 @@ fn operands_served_usual(p: Plain, w: Word) -> bool
 }
 
 // Every field that an operation with operands is judged by; whether the word is unusual is told.
-pub fn plain_served(unusual: bool, p: Plain, w: Word) -> bool
+pub(crate) fn plain_served(unusual: bool, p: Plain, w: Word) -> bool
     requires { ⌜ (unusual ≡ false → Usual (toWord w)) ⌝ }
     ensures { λ r. ⌜ r ≡ plainServed (plainIs p) (toWord w) ⌝ }
 {

@@ -1,5 +1,5 @@
 -- The bench sheet's starred rows C to G, computed over the definitions that the contracts cite, and what its other rows name. A row is what the definitions
--- give and what the sheet says. A, B, H and I, which are lent a dictionary, stand in crate `sheets`. Assumes nothing.
+-- give and what the sheet says. A, B, H and I, which are lent a dictionary, stand in crate `computed`. Assumes nothing.
 use mathlib.Core.Bool.{Bool, true, false}
 use mathlib.Core.List.{List, [], _∷_, _++_, map}
 use Prim.Native.Nat.{ℕ, zero, suc, _+_}

@@ -1,4 +1,4 @@
--- What it is for rows to hold, here and in crates `worked` and `sheets`; and that those of the files above do. Assumes nothing.
+-- What it is for rows to hold, here and in crates `worked` and `computed`; and that those of the files above do. Assumes nothing.
 use mathlib.Core.List.{List, map}
 use mathlib.Core.Path.{_≡_, refl}
 use Rattle.paper.specs.Bits.{number, numberAt, bytesOf, putAt}

@@ -1,4 +1,4 @@
--- break and cont: rows worked out from 02 §9 by hand. Runs stand in crate `worked`, packing and short words in crate `sheets`. Assumes nothing.
+-- break and cont: rows worked out from 02 §9 by hand. Runs stand in crate `worked`, packing and short words in crate `computed`. Assumes nothing.
 use mathlib.Core.List.{List, [], _∷_, map}
 use Prim.Native.Nat.{ℕ, _+_, _-_, _^_}
 use Rattle.paper.specs.Bits.{_at_, bytesOf}

@@ -1,4 +1,4 @@
--- Listings, of one instruction: rows worked out from 02 §1 by hand. The calls stand in crate `sheets`. Assumes nothing.
+-- Listings, of one instruction: rows worked out from 02 §1 by hand. The calls stand in crate `computed`. Assumes nothing.
 use mathlib.Core.List.{List, [], _∷_, _++_}
 use mathlib.Core.Path.{refl}
 use Prim.Native.Nat.{ℕ}

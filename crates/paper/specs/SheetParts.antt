@@ -1,5 +1,5 @@
 -- The parts of which steps, packing, pairs and answers are made, each at a few numbers, without a dictionary and without registers: rows worked out from the
--- paper by hand. The calls made of them stand in crates `worked` and `sheets`. Assumes nothing.
+-- paper by hand. The calls made of them stand in crates `worked` and `computed`. Assumes nothing.
 use mathlib.Core.Bool.{false, cond}
 use mathlib.Core.List.{List, [], _∷_, map}
 use mathlib.Core.Option.{Option, none, some}

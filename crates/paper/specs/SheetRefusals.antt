@@ -1,4 +1,4 @@
--- Each refusal of an instruction, with its offset, and what just passes. Kernels that are lent with a dictionary stand in crate `sheets`. Assumes nothing.
+-- Each refusal of an instruction, with its offset, and what just passes. Kernels that are lent with a dictionary stand in crate `computed`. Assumes nothing.
 use mathlib.Core.List.{List, [], _∷_, _++_}
 use Prim.Native.Nat.{ℕ, _+_, _-_, _^_}
 use Rattle.paper.specs.Bits.{_at_, bytesOf}

@@ -14,9 +14,9 @@ use Rattle.worked.specs.Steps.{rowsEnable, rowsFlag, rowsEnable-hold, rowsFlag-
 use Rattle.worked.specs.Branches.{rowsBranch, rowsBranch-hold}
 use Rattle.worked.specs.Votes.{rowsCounted, rowsCounted-hold}
 use Rattle.worked.specs.Leaving.{rowsLeave, rowsLeave-hold}
-use Rattle.sheets.specs.Starred.{rowsA, rowsB, rowsH, rowsI, rowsRepeated, rowsA-hold, rowsB-hold, rowsH-hold, rowsI-hold, rowsRepeated-hold}
-use Rattle.sheets.specs.Kernels.{rowsKernel, rowsAround, rowsKernel-hold, rowsAround-hold}
-use Rattle.sheets.specs.Forward.{rowsForward, rowsForward-hold}
+use Rattle.computed.specs.Starred.{rowsA, rowsB, rowsH, rowsI, rowsRepeated, rowsA-hold, rowsB-hold, rowsH-hold, rowsI-hold, rowsRepeated-hold}
+use Rattle.computed.specs.Kernels.{rowsKernel, rowsAround, rowsKernel-hold, rowsAround-hold}
+use Rattle.computed.specs.Forward.{rowsForward, rowsForward-hold}
 
 abbrev pub starred : List Row
 starred = rowsA ++ (rowsB ++ (rowsCDEF ++ (rowsG ++ (rowsH ++ (rowsI)))))
