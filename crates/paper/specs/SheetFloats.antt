@@ -11,10 +11,9 @@ use Rattle.paper.specs.Single.{sum, product, comparesFloats, signModifie
 use Rattle.paper.specs.Restricted.{restrictedFloat, vectorFloat}
 use Rattle.paper.specs.Element.{Element, floatResult, made, meets}
 use Rattle.paper.specs.Enable.{digit}
-use Rattle.paper.specs.Calls.{checkCall}
 use Rattle.paper.specs.Placing.{placementOf, pointBytes, orderOf, placeKernel, placeCall, placeKernelCall, placeLoadCall, loadedWith}
-use Rattle.paper.specs.Assembler.{to, from0, from1, immediate0, immediate1, op, numbers, blankDictionary, clear}
-use Rattle.paper.specs.Sheet.{Row, _gives_, shown, written, room}
+use Rattle.paper.specs.Assembler.{to, from0, from1, immediate0, immediate1, op, numbers}
+use Rattle.paper.specs.Sheet.{Row, _gives_, written, room}
 use Rattle.paper.specs.SheetRefusals.{secondWord}
 use Rattle.paper.specs.SheetHolds.{Hold}
 
@@ -229,16 +228,13 @@ rowsPlace =
     ∷ (written (placeCall 3 (take 23 someRecord) (record { x = 0; y = 0 }) (room 7)) gives 1 ∷ 0 ∷ 0 ∷ room 7)
     ∷ (written (placeCall 3 someRecord (record { x = 0; y = 0 }) (room 7)) gives 7 ∷ 0 ∷ 0 ∷ room 7)
     ∷ (written (placeCall 2 someRecord (record { x = 0; y = 0 }) (room 7)) gives 14 ∷ 0 ∷ 0 ∷ room 7)
-    -- the fixed kernel: its bytes, and that it is accepted
+    -- the fixed kernel's room
     ∷ (take 3 (written (placeKernelCall (room 127))) gives 14 ∷ 0 ∷ 0 ∷ [])
     ∷ (take 3 (written (placeKernelCall (room 128))) gives 0 ∷ 0 ∷ 128 ∷ [])
-    ∷ (shown (checkCall blankDictionary placeKernel) gives 0 ∷ 0 ∷ 8 ∷ [])
     -- its first word: mul(16) r8:f, r6.0<0;1,0>:f, r2<8;8,1>:f
     ∷ (take 16 placeKernel gives numbers (0x00800041 ∷ 0x210077BD ∷ 0x000000C0 ∷ 0x008D0040 ∷ []))
-    -- loading: 1 of each; the bytes of r6 and no other
-    ∷ (shown (placeLoadCall (take 23 someRecord) clear .answer) gives 1 ∷ 0 ∷ 0 ∷ [])
-    ∷ (shown (placeLoadCall someRecord (take 4095 clear) .answer) gives 1 ∷ 0 ∷ 0 ∷ [])
-    ∷ (shown (placeLoadCall someRecord clear .answer) gives 0 ∷ 0 ∷ 0 ∷ [])
+    -- loading: the bytes of r6 and no other; a record of another size
+    ∷ (written (placeLoadCall (take 23 someRecord) (room 7)) gives 1 ∷ 0 ∷ 0 ∷ room 7)
     ∷ (take 28 (drop 190 (loadedWith someRecord (room 220))) gives room 2 ++ (someRecord ++ room 2))
     ∷ (length (loadedWith someRecord (room 220)) ∷ [] gives 220 ∷ [])
     ∷ []
