@@ -6,7 +6,7 @@ use Prim.Native.Nat.{ℕ, _%_, _^_, _<_, _≤_}
 use native.Mathlib.Nat.{mod-eq-of-lt}
 use native.Mathlib.Omega.{arith}
 use lib.Dec.{eqb, ltb}
-use lib.ListN.{length, drop, length-append}
+use lib.ListN.{length, drop}
 use borrow.Author.Tests.{eqb-true, eq-eqb, lt-ltb}
 use Rattle.paper.specs.Bits.{bytesOf, number, numberAt}
 use Rattle.paper.specs.Limits.{registerBytes, dictionaryBytes}
@@ -14,12 +14,12 @@ use Rattle.paper.specs.Dictionary.{dictionaryOf, inRange}
 use Rattle.paper.specs.Placing.{Point, recordBytes, Placement, placementOf, placedBy, pointBytes, orderOf, isOrder, answered, placeKernel, loadedWith, placeCall, placeKernelCall, placeLoadCall}
 use Rattle.paper.specs.Calls.{verdict, refusal, numberOf, countOf, Written, kept, deliver, checkCall, startCall, Changed, runCall}
 use Rattle.laws.specs.Truth.{both-true}
-use Rattle.laws.specs.Bytes.{length-bytesOf, number-bytesOf, numberAt-append}
+use Rattle.laws.specs.Bytes.{number-bytesOf}
 use Rattle.laws.specs.FloatResults.{sum-lt}
 use Rattle.laws.specs.PlacedWords.{kernel-length, kernel-checked}
 use Rattle.laws.specs.PlacedTiles.{tileIn, tileOut, Placed, kernel-places}
 use Rattle.contracts.specs.Contracts.{numberIn, countIn, PlacePromise, PlaceKernelPromise}
-use Rattle.answers.specs.Small.{number-back, count-back}
+use Rattle.answers.specs.Placings.{point-length}
 use Rattle.promises.specs.Promises.{result, Begun}
 use Rattle.promises.specs.Placements.{Given, Loaded, TilesPlaced, Placements}
 use Rattle.promises.specs.Results.{wrote, result-is, deliver-fits, deliver-room, start-fits}
@@ -50,12 +50,7 @@ place-writes order six at out = go (eqb (length six) recordBytes) (isOrder order
     go true false e = absurd (omega arith)
     go true true e = deliver-fits point out e
 
--- A point's eight bytes,
-point-length : (at : Point) → length (pointBytes at) ≡ 8
-unfolding pointBytes
-point-length at = simp (length-append, length-bytesOf)
-
--- and the two patterns that they write.
+-- The two patterns that a point's bytes write.
 point-across : (at : Point) (rest : List ℕ) → at .x < 2 ^ 32 → numberAt (pointBytes at ++ rest) 0 4 ≡ at .x
 unfolding pointBytes numberAt bytesOf
 point-across at rest low = number-bytesOf 4 (at .x) (bytesOf 4 (at .y) ++ rest) ∙ mod-eq-of-lt low
