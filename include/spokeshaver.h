@@ -10,8 +10,9 @@
  *   - lend a NULL or stale pointer with a length over 0, or a length that is more than the memory behind the pointer. With length 0 any pointer will do.
  *   - lend for writing what overlaps anything else that is lent to the same call. What is only read may overlap.
  *   - let another thread write what is lent, or touch what is lent for writing, while the call runs. Calls on separate memory may run at once.
- *   - make a call that adds or multiplies floats (step, run, place) with another floating-point mode than the processor starts with: rounding to nearest, no flushing
- *     of subnormal numbers to zero. A program that is merely linked with -ffast-math flushes them. spokeshaver_floats_exact tells.
+ *   - make a call that adds, multiplies or compares floats (step, run, place) in another floating-point mode than a program starts in: rounding to nearest, subnormal
+ *     numbers kept, no exception trapped. A program that is merely linked with -ffast-math flushes them to zero. spokeshaver_floats_exact tells of rounding and flushing;
+ *     who enables traps (feenableexcept) must disable them around such a call.
  *   A refusal changes nothing that was lent, but that a run which stops at a bad address (22) keeps the steps that it made before. Of an output, only the
  *   result's bytes are written; what lies behind them stays.
  *
@@ -66,11 +67,12 @@
  *   0x41 mul    a * b, of words and bytes
  *   0x42 avg    (a + b + 1) / 2, rounded down
  *   0x7E nop    nothing
- *   Where an operand is f or vf all are, and the operation is mov, add, mul or cmp. Sums and products round once, to nearest, ties to even; subnormal numbers are kept; any
- *   NaN that they give is 0x7FC00000. mov copies bits. Modifiers act on the sign bit. cmp compares the floats themselves, with a NaN it is false but for nz, and a
- *   destination gets the bits of the whole number 1 or 0.
- *   A result is stored modulo the destination type's width; with Saturate (mov, sel, add, mul, avg) it is clamped to the type. mov and not have one source. Regions,
- *   predicates, branches step by step, and what each operation asks of its operands: docs/KERNELS.md.
+ *   Where an operand is f or vf all are, a null destination by its type; the operation is mov, add, mul or cmp, without Saturate; vf is for up to four channels.
+ *   Sums and products round once, to nearest, ties to even; subnormal numbers are kept; any NaN that they give is 0x7FC00000. mov copies bits. Modifiers act on the
+ *   sign bit. cmp compares the floats themselves, with a NaN it is false but for nz, and a destination gets the bits of the whole number 1 or 0. A byte of vf is a
+ *   sign, three bits e and four bits f, the lowest: (16 + f) / 16 * 2^(e - 3), but 0x00 and 0x80 are 0 and -0.
+ *   A result is stored modulo the destination type's width; with Saturate (mov, sel, add, mul, avg of whole numbers) it is clamped to the type. mov and not have one
+ *   source. Regions, predicates, branches step by step, and what each operation asks of its operands: docs/KERNELS.md.
  *
  * Registers by address
  *   A source or destination in the registers may be found by address: at the byte that an element of a0 holds, and -512 to 511 bytes on, as the instruction
@@ -121,7 +123,7 @@ extern "C" {
 
 /* Refusals. Where more than one would do, the first of this list is given: 3 to 11 and 17 instruction by instruction, 12 after all have passed. 22 is judged at
  * each step, after ENDED and SPENT. */
-#define SPOKESHAVER_WRONG_SIZE 1        /* registers, state or dictionary of another size, a kernel over 65,536 bytes, a word not of 16 (shorten) or 8 (expand), a count over the log's buffer, a buffer over 4,294,967,295 bytes */
+#define SPOKESHAVER_WRONG_SIZE 1        /* registers, state or dictionary of another size, a kernel over 65,536 bytes, a word not of 16 (shorten) or 8 (expand), a record not of 24 (place, place_load), a count over the log's buffer, a buffer over 4,294,967,295 bytes */
 #define SPOKESHAVER_BUDGET_OVER 16      /* a budget over 1,000,000 */
 #define SPOKESHAVER_WIDE_DICTIONARY 2   /* a dictionary number is wider than its table */
 #define SPOKESHAVER_TOO_MANY 17         /* this would be the 4,097th instruction */
@@ -129,7 +131,7 @@ extern "C" {
 #define SPOKESHAVER_UNLISTED 4          /* an opcode that is not listed */
 #define SPOKESHAVER_WRONG_FORM 5        /* a short branch; a short word where a long one is asked, or the reverse */
 #define SPOKESHAVER_RESERVED_BITS 6     /* a bit is set that must be clear */
-#define SPOKESHAVER_NOT_SERVED 7        /* a field has a value that is not served, a predicate's group is larger than the size, or a0 is an operand of what is not a mov of uw operands */
+#define SPOKESHAVER_NOT_SERVED 7        /* a field has a value that is not served, a predicate's group is larger than the size, a0 is an operand of what is not a mov of uw operands, or a float of what is not a mov, add, mul or cmp without Saturate; place: no such order */
 #define SPOKESHAVER_OPERAND_RULE 8      /* an operand rule is broken */
 #define SPOKESHAVER_REGION_SHAPE 9      /* a stride or width is undefined, the size is under the width, a source has a shape on which the machine hangs (docs/CHECKING.md), or the destination's stride is 0 */
 #define SPOKESHAVER_UNALIGNED 10        /* a subregister, of an operand that is not by address, is no multiple of the element's size */
@@ -178,7 +180,7 @@ static inline const char *spokeshaver_message(unsigned number) {
  *   1   which size: each length that was lent against the sizes above
  *   2   which number of the dictionary: the first with a bit at or above its table's width, 17, 18, 15 or 12
  *   14  how much room: kernel_len for pack; for each instruction that check counts 16 bytes for unpack and SPOKESHAVER_LINES_MOST for list; 16 for each six lines that
- *       are read; 8 for shorten, 16 for expand; 64 bytes behind the whole records for another record
+ *       are read; 8 for shorten, 16 for expand; SPOKESHAVER_POINT_BYTES for place and SPOKESHAVER_PLACE_KERNEL_BYTES for place_kernel; 64 bytes behind the whole records for another record
  *   15  which place or channel: a place that is no `place=` of the kernel's listing and not kernel_len / 8; a channel with both bits set, or with a waiting place and
  *       without the waiting bit */
 
