@@ -1,5 +1,7 @@
 -- A placement and a point by their patterns, and what they are in the paper's terms. Assumes nothing.
+use mathlib.Core.List.{List, _++_}
 use Prim.Native.Nat.{ℕ}
+use Rattle.paper.specs.Bits.{bytesOf}
 use Rattle.paper.specs.Single.{float, pattern}
 use Rattle.paper.specs.Placing as paper
 use Rattle.placement.specs.declared.Placement.{Placement}
@@ -17,6 +19,10 @@ pointAt x y = record { x = x; y = y }
 
 abbrev pub spotIs : Spot → paper.Point
 spotIs at = pointAt (at .x) (at .y)
+
+-- A record's six patterns as the bytes that place_load takes.
+unfoldable pub sixBytes : Record → List ℕ
+sixBytes k = bytesOf 4 (k .a) ++ (bytesOf 4 (k .b) ++ (bytesOf 4 (k .c) ++ (bytesOf 4 (k .d) ++ (bytesOf 4 (k .e) ++ bytesOf 4 (k .f)))))
 
 -- ---- between floats and patterns
 

@@ -1,8 +1,11 @@
 // The calls on bytes: an order's answer, the fixed kernel, and a record loaded for it. A refusal leaves what is lent as it was.
+use crate::Placement;
 use crate::fixed::KERNEL;
 use crate::patterns::Record;
 use crate::patterns::Spot;
 use crate::patterns::answer_spot;
+use crate::patterns::load;
+use numbers::write4;
 use short::calls::deliver8;
 use text::write::put_text;
 use words::answer::Answer;
@@ -14,7 +17,7 @@ ghost use lib.ListN.{length};
 ghost use Rattle.paper.specs.Bits.{bytesOf, numberAt};
 ghost use Rattle.paper.specs.Placing.{recordBytes, placementOf, pointBytes, placeKernel, placeCall, placeKernelCall, placeLoadCall};
 ghost use Rattle.words.specs.Answer.{Wrote};
-ghost use Rattle.placement.specs.Spots.{recordIs, spotIs, pointAt};
+ghost use Rattle.placement.specs.Spots.{recordIs, spotIs, pointAt, loadedFrom, sixBytes};
 
 // How many bytes a record has.
 pub const RECORD_BYTES: usize = 24;
@@ -95,4 +98,27 @@ pub fn place_load(bytes: &[u8], registers: &mut [u8]) -> Answer
     }
     put_text(registers, 192, bytes);
     Answer::Told(0, 0)
+}
+
+// The bytes of a record's six patterns.
+fn bytes_of(k: Record) -> [u8; 24]
+    ensures { λ r. ⌜ r ≡ sixBytes k ⌝ }
+{
+    let mut bytes = [0u8; 24];
+    write4(&mut bytes, 0, k.a as u64);
+    write4(&mut bytes, 4, k.b as u64);
+    write4(&mut bytes, 8, k.c as u64);
+    write4(&mut bytes, 12, k.d as u64);
+    write4(&mut bytes, 16, k.e as u64);
+    write4(&mut bytes, 20, k.f as u64);
+    bytes
+}
+
+// Puts a placement's six floats where the fixed kernel finds them: it loads the record that writes them.
+pub fn load_placement(p: Placement, registers: &mut [u8]) -> Answer
+    ensures { λ r. ⌜ Wrote (placeLoadCall (sixBytes (loadedFrom p)) (now (registers .entry))) r (now (registers .exit)) ⌝ }
+{
+    let k = load(p);
+    let bytes = bytes_of(k);
+    place_load(&bytes, registers)
 }
