@@ -1,3 +1,4 @@
 mod Calling
 mod Joined
+mod Sixed
 mod SameBits
