@@ -70,12 +70,13 @@ given-is kernel g =
     g .is ∙ result-is placeKernel (g .out) (placeKernelCall (g .out)) fits (g .answer) (g .left) (t .count) (g .call .1)
 
 -- A record that was loaded was one, and so were the registers; it is among them.
-pub record Fit (six registers loaded : List ℕ) : Type 0 where
+record Fit (six registers loaded : List ℕ) : Type 0 where
   pub short : length six ≡ recordBytes
   pub long : length registers ≡ registerBytes
   pub are : loaded ≡ loadedWith six registers
 
 loaded-fit : (six registers loaded : List ℕ) → Loaded six registers loaded → Fit six registers loaded
+unfolding placeLoadCall
 loaded-fit six registers loaded l =
     let t = answers .placeLoad six registers (l .answer) loaded (l .call) in
     go (eqb (length six) recordBytes) (eqb (length registers) registerBytes) refl refl (sym (t .number) ∙ l .zero) (l .call .1)
