@@ -188,12 +188,12 @@ pub extern "C" fn spokeshaver_read(dictionary: &[u8], text: &[u8], out: &mut [u8
     number_of(read(dictionary, text, out))
 }
 
-// The answer to an order for a tile at x and y, as the bytes of two patterns; the count is theirs.
+// The answer to an order, with its record of six floats, for a tile at x and y, as the bytes of two patterns; the count is theirs.
 #[no_mangle]
-pub extern "C" fn spokeshaver_place(order: u64, record: &[u8], x: u32, y: u32, out: &mut [u8]) -> u64
-    ensures { λ r. ⌜ PlacePromise order (now (record .entry)) x y (now (out .entry)) r (now (out .exit)) ⌝ }
+pub extern "C" fn spokeshaver_place(order: u64, six: &[u8], x: u32, y: u32, out: &mut [u8]) -> u64
+    ensures { λ r. ⌜ PlacePromise order (now (six .entry)) x y (now (out .entry)) r (now (out .exit)) ⌝ }
 {
-    number_of(place(order, record, x, y, out))
+    number_of(place(order, six, x, y, out))
 }
 
 // The fixed kernel that places sixteen tiles, in long words; the count is its bytes.
@@ -204,10 +204,10 @@ pub extern "C" fn spokeshaver_place_kernel(out: &mut [u8]) -> u64
     number_of(place_kernel(out))
 }
 
-// A record put where the fixed kernel finds it.
+// A record, six floats in 24 bytes, put where the fixed kernel finds it.
 #[no_mangle]
-pub extern "C" fn spokeshaver_place_load(record: &[u8], registers: &mut [u8]) -> u64
-    ensures { λ r. ⌜ PlaceLoadPromise (now (record .entry)) (now (registers .entry)) r (now (registers .exit)) ⌝ }
+pub extern "C" fn spokeshaver_place_load(six: &[u8], registers: &mut [u8]) -> u64
+    ensures { λ r. ⌜ PlaceLoadPromise (now (six .entry)) (now (registers .entry)) r (now (registers .exit)) ⌝ }
 {
-    number_of(place_load(record, registers))
+    number_of(place_load(six, registers))
 }
