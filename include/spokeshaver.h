@@ -10,7 +10,7 @@
  *   - lend a NULL or stale pointer with a length over 0, or a length that is more than the memory behind the pointer. With length 0 any pointer will do.
  *   - lend for writing what overlaps anything else that is lent to the same call. What is only read may overlap.
  *   - let another thread write what is lent, or touch what is lent for writing, while the call runs. Calls on separate memory may run at once.
- *   - make a call that adds or multiplies floats (step, run, place) with another floating-point mode than the processor starts with: rounding to nearest, no flushing
+ *   - make a call that adds, multiplies or compares floats (step, run, place) with another floating-point mode than the processor starts with: rounding to nearest, no flushing
  *     of subnormal numbers to zero. A program that is merely linked with -ffast-math flushes them. spokeshaver_floats_exact tells.
  *   A refusal changes nothing that was lent, but that a run which stops at a bad address (22) keeps the steps that it made before. Of an output, only the
  *   result's bytes are written; what lies behind them stays.
