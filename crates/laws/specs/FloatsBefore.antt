@@ -1,5 +1,6 @@
--- The rules as they stood before floats were served (02 §8): 7, 8 and what an instruction does, of every operation and operand that is served now otherwise. Where the
--- paper has changed a definition, the one that stood is written out here under its name with `whole` before it, every number being whole then. Assumes nothing.
+-- The rules as they stood before floats were served (02 §8): 7, 8, and what an instruction does. A definition of the paper that the request changed is written out here as it
+-- stood, under its name with `whole` before it, every number being whole then. What it names without `whole` is the paper's of today. Of that, `sizeOf` and `isSigned` gained
+-- code 7, and are what they were at codes 0 to 5 (`sizes-stay` and `signs-stay` of FloatWords), the only ones that passed 7. Assumes nothing.
 use mathlib.Core.Bool.{Bool, true, false, not, cond, _&&_, _||_}
 use mathlib.Core.List.{List, map}
 use Prim.Native.Nat.{ℕ, _-_, _%_}
@@ -19,7 +20,7 @@ use Rattle.paper.specs.Effect.{patternAt, fileIn, scattered, isOn, withFlag}
 use Rattle.paper.specs.Legal.{anyOf, reservedSet, controlServed, usesA0, movesWords, branchServed, misplaced, badModifier, ownRuleBroken, shapeBroken, alignmentBroken, reachBroken, orElse}
 use Rattle.paper.specs.Machine.{Channel, State, Ways, wake, isAwake, act}
 
--- ---- types: 0 to 5
+-- ---- types: 0 to 5, as `sizeOf` and `isSigned` had them
 
 abbrev pub wholeSizeOf : ℕ → ℕ
 wholeSizeOf t = cond (ltb t 2) 4 (cond (ltb t 4) 2 (cond (ltb t 6) 1 0))

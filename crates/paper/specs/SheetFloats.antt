@@ -11,10 +11,9 @@ use Rattle.paper.specs.Single.{sum, product, comparesFloats, signModifie
 use Rattle.paper.specs.Restricted.{restrictedFloat, vectorFloat}
 use Rattle.paper.specs.Element.{Element, floatResult, made, meets}
 use Rattle.paper.specs.Enable.{digit}
-use Rattle.paper.specs.Calls.{checkCall}
 use Rattle.paper.specs.Placing.{placementOf, pointBytes, orderOf, placeKernel, placeCall, placeKernelCall, placeLoadCall, loadedWith}
-use Rattle.paper.specs.Assembler.{to, from0, from1, immediate0, immediate1, op, numbers, blankDictionary, clear}
-use Rattle.paper.specs.Sheet.{Row, _gives_, shown, written, room}
+use Rattle.paper.specs.Assembler.{to, from0, from1, immediate0, immediate1, op, numbers}
+use Rattle.paper.specs.Sheet.{Row, _gives_, written, room}
 use Rattle.paper.specs.SheetRefusals.{secondWord}
 use Rattle.paper.specs.SheetHolds.{Hold}
 
@@ -151,7 +150,16 @@ rowsServed =
     ∷ (secondWord (floats 0x42 4 0) gives 7 ∷ 16 ∷ 0 ∷ [])
     ∷ (secondWord (floats 0x02 4 (1 at 16)) gives 7 ∷ 16 ∷ 0 ∷ [])
     ∷ (secondWord (floats 0x05 4 0) gives 7 ∷ 16 ∷ 0 ∷ [])
+    ∷ (secondWord (floats 0x04 4 0) gives 7 ∷ 16 ∷ 0 ∷ [])
+    ∷ (secondWord (floats 0x06 4 0) gives 7 ∷ 16 ∷ 0 ∷ [])
+    ∷ (secondWord (floats 0x07 4 0) gives 7 ∷ 16 ∷ 0 ∷ [])
+    ∷ (secondWord (floats 0x08 4 0) gives 7 ∷ 16 ∷ 0 ∷ [])
+    ∷ (secondWord (floats 0x09 4 0) gives 7 ∷ 16 ∷ 0 ∷ [])
+    ∷ (secondWord (floats 0x0C 4 0) gives 7 ∷ 16 ∷ 0 ∷ [])
     ∷ (secondWord (floats 0x40 4 (1 at 31)) gives 7 ∷ 16 ∷ 0 ∷ [])
+    -- of vf too
+    ∷ (secondWord (op 0x05 2 + to 1 8 0 + from0 1 2 0 3 2 1 + immediate1 5 0x30405060) gives 7 ∷ 16 ∷ 0 ∷ [])
+    ∷ (secondWord (op 0x01 2 + to 7 8 0 + immediate0 5 0x30405060 + 1 at 31) gives 7 ∷ 16 ∷ 0 ∷ [])
     -- 7 comes before the mixture: avg of dwords into f, and a saturated one
     ∷ (secondWord (op 0x42 3 + to 7 8 0 + from0 1 2 0 4 3 1 + from1 1 4 0 4 3 1) gives 7 ∷ 16 ∷ 0 ∷ [])
     ∷ (secondWord (op 0x40 3 + to 1 8 0 + from0 7 2 0 4 3 1 + from1 1 4 0 4 3 1 + 1 at 31) gives 7 ∷ 16 ∷ 0 ∷ [])
@@ -191,6 +199,10 @@ rowsMixed =
     ∷ (secondWord (op 0x41 2 + to 7 8 0 + from0 7 2 0 3 2 1 + immediate1 5 0x30405060) gives 0 ∷ 0 ∷ 2 ∷ [])
     ∷ (secondWord (op 0x41 3 + to 7 8 0 + from0 7 2 0 4 3 1 + immediate1 5 0x30405060) gives 8 ∷ 16 ∷ 0 ∷ [])
     ∷ (secondWord (op 0x01 2 + to 1 8 0 + immediate0 5 0x30405060) gives 8 ∷ 16 ∷ 0 ∷ [])
+    -- of vf: a modifier on a src0 immediate; one that is not last; compared
+    ∷ (secondWord (op 0x01 2 + to 7 8 0 + immediate0 5 0x30405060 + 1 at 77) gives 8 ∷ 16 ∷ 0 ∷ [])
+    ∷ (secondWord (op 0x40 2 + to 7 8 0 + immediate0 5 0x30405060 + 1 at 42 + 7 at 44) gives 8 ∷ 16 ∷ 0 ∷ [])
+    ∷ (secondWord (op 0x10 2 + 3 at 24 + to 7 8 0 + from0 7 2 0 3 2 1 + immediate1 5 0x30405060) gives 0 ∷ 0 ∷ 2 ∷ [])
     -- 10 and 11 by four bytes an element
     ∷ (secondWord (op 0x01 0 + to 7 8 2 + from0 7 2 0 0 0 0) gives 10 ∷ 16 ∷ 0 ∷ [])
     ∷ (secondWord (op 0x01 4 + to 7 8 4 + from0 7 2 0 4 3 1) gives 11 ∷ 16 ∷ 0 ∷ [])
@@ -218,27 +230,25 @@ rowsPlace =
     ∷ (ordered 1 someRecord 0x3F800000 0x40000000 gives 0 ∷ 0 ∷ 8 ∷ numbers (0x40000000 ∷ 0x40200000 ∷ []) ++ room 1)
     -- (1, 2) placed: 2·1 + 3·2 + 1 = 9, 4·1 + 5·2 + 0.5 = 14.5
     ∷ (ordered 2 someRecord 0x3F800000 0x40000000 gives 0 ∷ 0 ∷ 8 ∷ numbers (0x41100000 ∷ 0x41680000 ∷ []) ++ room 1)
-    -- sums from the left: (2^24 + 1) + 1 is 2^24, and 1 + (1 + 2^24) would be 2^24 + 2
+    -- sums from the left: (2^24 + 1) + 1 is 2^24, and (1 + 1) + 2^24 is 2^24 + 2; from the right each would be the other
     ∷ (ordered 2 (sixOf 0x4B800000 0x3F800000 0x3F800000 0x3F800000 0x3F800000 0x4B800000) 0x3F800000 0x3F800000 gives 0 ∷ 0 ∷ 8 ∷ numbers (0x4B800000 ∷ 0x4B800001 ∷ []) ++ room 1)
     -- each is rounded, nothing is fused: with a = x = 1 + 2^-12 and c = −(1 + 2^-11) the product's last bit is lost
     ∷ (ordered 2 (sixOf 0x3F800800 0 0xBF801000 0 0 0) 0x3F800800 0 gives 0 ∷ 0 ∷ 8 ∷ numbers (0 ∷ 0 ∷ []) ++ room 1)
-    -- a shift is no placement by 1, 0, c, 0, 1, f: −0 shifted by −0, and ∞ in the other coordinate
+    -- a shift is no placement by 1, 0, c, 0, 1, f: −0 shifted by −0 stays, and is placed at +0; 0·∞ of the other coordinate is a NaN
     ∷ (ordered 1 (sixOf 0 0 0x80000000 0 0 0) 0x80000000 0x7F800000 gives 0 ∷ 0 ∷ 8 ∷ numbers (0x80000000 ∷ 0x7F800000 ∷ []) ++ room 1)
+    ∷ (ordered 2 (sixOf 0x3F800000 0 0x80000000 0 0x3F800000 0) 0x80000000 0x3F800000 gives 0 ∷ 0 ∷ 8 ∷ numbers (0 ∷ 0x3F800000 ∷ []) ++ room 1)
     ∷ (ordered 2 (sixOf 0x3F800000 0 0x80000000 0 0x3F800000 0) 0x80000000 0x7F800000 gives 0 ∷ 0 ∷ 8 ∷ numbers (0x7FC00000 ∷ 0x7F800000 ∷ []) ++ room 1)
     -- 1, 7, 14, in this order
     ∷ (written (placeCall 3 (take 23 someRecord) (record { x = 0; y = 0 }) (room 7)) gives 1 ∷ 0 ∷ 0 ∷ room 7)
     ∷ (written (placeCall 3 someRecord (record { x = 0; y = 0 }) (room 7)) gives 7 ∷ 0 ∷ 0 ∷ room 7)
     ∷ (written (placeCall 2 someRecord (record { x = 0; y = 0 }) (room 7)) gives 14 ∷ 0 ∷ 0 ∷ room 7)
-    -- the fixed kernel: its bytes, and that it is accepted
+    -- the fixed kernel's room
     ∷ (take 3 (written (placeKernelCall (room 127))) gives 14 ∷ 0 ∷ 0 ∷ [])
     ∷ (take 3 (written (placeKernelCall (room 128))) gives 0 ∷ 0 ∷ 128 ∷ [])
-    ∷ (shown (checkCall blankDictionary placeKernel) gives 0 ∷ 0 ∷ 8 ∷ [])
     -- its first word: mul(16) r8:f, r6.0<0;1,0>:f, r2<8;8,1>:f
     ∷ (take 16 placeKernel gives numbers (0x00800041 ∷ 0x210077BD ∷ 0x000000C0 ∷ 0x008D0040 ∷ []))
-    -- loading: 1 of each; the bytes of r6 and no other
-    ∷ (shown (placeLoadCall (take 23 someRecord) clear .answer) gives 1 ∷ 0 ∷ 0 ∷ [])
-    ∷ (shown (placeLoadCall someRecord (take 4095 clear) .answer) gives 1 ∷ 0 ∷ 0 ∷ [])
-    ∷ (shown (placeLoadCall someRecord clear .answer) gives 0 ∷ 0 ∷ 0 ∷ [])
+    -- loading: the bytes of r6 and no other; a record of another size
+    ∷ (written (placeLoadCall (take 23 someRecord) (room 7)) gives 1 ∷ 0 ∷ 0 ∷ room 7)
     ∷ (take 28 (drop 190 (loadedWith someRecord (room 220))) gives room 2 ++ (someRecord ++ room 2))
     ∷ (length (loadedWith someRecord (room 220)) ∷ [] gives 220 ∷ [])
     ∷ []

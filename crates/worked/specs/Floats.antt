@@ -8,8 +8,8 @@ use Rattle.paper.specs.Bits.{_at_, bytesOf}
 use Rattle.paper.specs.Single.{comparesFloats, signModified}
 use Rattle.paper.specs.Restricted.{restrictedFloat, vectorFloat}
 use Rattle.paper.specs.Element.{floatResult}
-use Rattle.paper.specs.Calls.{Changed, runCall}
-use Rattle.paper.specs.Placing.{placementOf, placeKernel, loadedWith}
+use Rattle.paper.specs.Calls.{Changed, checkCall, runCall}
+use Rattle.paper.specs.Placing.{placementOf, placeKernel, loadedWith, placeLoadCall}
 use Rattle.paper.specs.Assembler.{to, from0, from1, immediate0, immediate1, op, numbers, blankDictionary, clear, ramp, begin}
 use Rattle.paper.specs.Sheet.{Row, _gives_, shown}
 use Rattle.paper.specs.SheetMore.{one, r4}
@@ -60,7 +60,12 @@ ranPlaced mask = runCall blankDictionary placeKernel 100 (loadedWith someRecord 
 
 rowsKernel : List Row
 rowsKernel =
-    (shown (ranPlaced 0xFFFF .answer) gives 20 ∷ 0 ∷ 8 ∷ [])
+    -- accepted; loaded, and with a byte less
+    (shown (checkCall blankDictionary placeKernel) gives 0 ∷ 0 ∷ 8 ∷ [])
+    ∷ (shown (placeLoadCall (take 23 someRecord) clear .answer) gives 1 ∷ 0 ∷ 0 ∷ [])
+    ∷ (shown (placeLoadCall someRecord (take 4095 clear) .answer) gives 1 ∷ 0 ∷ 0 ∷ [])
+    ∷ (shown (placeLoadCall someRecord clear .answer) gives 0 ∷ 0 ∷ 0 ∷ [])
+    ∷ (shown (ranPlaced 0xFFFF .answer) gives 20 ∷ 0 ∷ 8 ∷ [])
     -- 9 and 2·−1 + 3·0.5 + 1 = 0.5; the other tiles stand at (0, 0), and go to (1, 0.5)
     ∷ (take 12 (drop 256 (ranPlaced 0xFFFF .registers)) gives numbers (0x41100000 ∷ 0x3F000000 ∷ 0x3F800000 ∷ []))
     -- 14.5 and 4·−1 + 5·0.5 + 0.5 = −1
@@ -74,5 +79,5 @@ unfolding Hold add mul ofBits toBits eq ne lt le comparesFloats signModified res
 rowsFloats-hold = refl
 
 rowsKernel-hold : Hold rowsKernel
-unfolding Hold add mul ofBits toBits floatResult signModified placementOf placeKernel loadedWith sixOf someRecord tiles ranPlaced rowsKernel
+unfolding Hold add mul ofBits toBits floatResult signModified placementOf placeKernel loadedWith placeLoadCall sixOf someRecord tiles ranPlaced rowsKernel
 rowsKernel-hold = refl
