@@ -24,6 +24,7 @@ use crate::placing;
 use std::collections::BTreeSet;
 
 pub use cases::case;
+pub use floats::pattern;
 pub use listings::every_listing_case;
 pub use logs::every_log_case;
 
