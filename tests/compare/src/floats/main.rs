@@ -157,7 +157,7 @@ fn report(tally: &Tally, seed: u64) {
     println!("seed {seed}; sums and products by kind: {}", kinds.join(", "));
     let Tally { pairs, placements, unlike_machine, unlike_reference, kinds } = tally;
     println!(
-        "floats: {pairs} sums, {pairs} products, {} comparisons and {placements} placements by the archive; \
+        "floats: {pairs} sums, {pairs} products, {} comparisons and {placements} placements by the bench; \
          {unlike_machine} differ from this machine's floats, {unlike_reference} from the reference's whole numbers",
         6 * pairs
     );
