@@ -1,7 +1,7 @@
 -- The loop's invariant: the elements of the channels passed are read. Its measure: the channels left. Assumes nothing.
 use borrow.Author.Needs.{needs}
 use mathlib.Core.Path.{_≡_, ap, _∙_}
-use Prim.Native.Nat.{ℕ, _-_, _^_, _≤_, _<_}
+use Prim.Native.Nat.{ℕ, _-_, _≤_}
 use native.Mathlib.Omega.{arith}
 use Rattle.lanes.specs.Mapped.{mapped-none, mapped-more}
 use Rattle.paper.specs.Bits.{numberAt}
