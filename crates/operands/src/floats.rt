@@ -73,21 +73,20 @@ fn float_gather(
     vert: usize,
     code: usize,
     horz: usize,
-    size: usize,
     n: usize,
     registers: &[u8],
     patterns: &mut [u32; 16],
 )
-    requires { ⌜ Small (regionFrom origin vert code horz size) × (size ≡ 4) × (0 < n) × (n ≤ 16) × (length (now patterns) ≡ 16) ⌝ }
-    requires { ⌜ ((k : ℕ) → k < n → elementAt (regionIs (regionFrom origin vert code horz size)) k + 4 ≤ length (now registers)) ⌝ }
-    ensures { λ u. ⌜ FloatsAt (now (registers .entry)) (elementAt (regionIs (regionFrom origin vert code horz size))) n (now (patterns .entry)) (now (patterns .exit)) ⌝ }
+    requires { ⌜ Small (regionFrom origin vert code horz 4) × (0 < n) × (n ≤ 16) × (length (now patterns) ≡ 16) ⌝ }
+    requires { ⌜ ((k : ℕ) → k < n → elementAt (regionIs (regionFrom origin vert code horz 4)) k + 4 ≤ length (now registers)) ⌝ }
+    ensures { λ u. ⌜ FloatsAt (now (registers .entry)) (elementAt (regionIs (regionFrom origin vert code horz 4))) n (now (patterns .entry)) (now (patterns .exit)) ⌝ }
 {
     let r = Region {
         origin: origin,
         vert: vert,
         code: code,
         horz: horz,
-        size: size,
+        size: 4,
     };
     if is_beside(r) {
         float_line(registers, origin, n, patterns);
@@ -155,16 +154,7 @@ pub fn first_floats(w: Word, n: usize, registers: &[u8], patterns: &mut [u32; 16
             float_vector(four as u32, n, patterns);
         }
         Operand::Direct(r) => {
-            float_gather(
-                r.origin,
-                r.vert,
-                r.code,
-                r.horz,
-                r.size,
-                n,
-                registers,
-                patterns,
-            );
+            float_gather(r.origin, r.vert, r.code, r.horz, n, registers, patterns);
             sign_all(src_modifier(Source::First, w), n, patterns);
         }
     }
@@ -184,16 +174,7 @@ pub fn second_floats(w: Word, n: usize, registers: &[u8], patterns: &mut [u32; 1
             float_vector(four as u32, n, patterns);
         }
         Operand::Direct(r) => {
-            float_gather(
-                r.origin,
-                r.vert,
-                r.code,
-                r.horz,
-                r.size,
-                n,
-                registers,
-                patterns,
-            );
+            float_gather(r.origin, r.vert, r.code, r.horz, n, registers, patterns);
             sign_all(src_modifier(Source::Second, w), n, patterns);
         }
     }

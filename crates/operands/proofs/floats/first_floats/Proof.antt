@@ -1,10 +1,12 @@
 -- An immediate is the same for all channels, or each has its own; elements are read by their region's shape and modified. Assumes nothing.
 use mathlib.Core.Bool.{true≢false}
-use mathlib.Core.Path.{sym, ap, _∙_}
+use mathlib.Core.Path.{sym, ap, _∙_, subst}
 use Rattle.paper.specs.Word.{src0}
 use Rattle.paper.specs.Value.{sizeOf}
 use Rattle.words.specs.Words.{toWord}
 use Rattle.words.specs.Operands.{fixed-told, fixed-no-vector, vector-told, direct-told}
+use Rattle.words.specs.Regions.{regionIs, Small}
+use Rattle.operands.specs.Shapes.{of-four}
 use Rattle.operands.specs.Sources.{count-channels, channels-some}
 use Rattle.operands.specs.Floats.{fixed-fits, float-direct, floats-inside, floats-fixed, floats-vector, floats-signed, floats-direct}
 use borrow.Author.Needs.{needs}
@@ -51,9 +53,11 @@ float-gather-requires : tie.Need-float-gather-requires
 float-gather-requires c κs =
     let s = c .before .before .before .before .before .before in
     let w = toWord (s .args .w) in
-    let t = direct-told src0 w _ (c .before .before .before .before .operand-of .ensures) _ (c .before .before .o3 .given .1) in (
-      (t .2, t .3 ∙ ap sizeOf (float-direct src0 w (s .pre .0) (t .0)), rw (s .pre .1) (channels-some w), rw (s .pre .1) (count-channels w (s .pre .0 .count)), s .pre .3),
-      floats-inside src0 w (s .pre .0) _ (t .0) (t .1) _ _ (s .pre .1) (s .pre .2),
+    let t = direct-told src0 w _ (c .before .before .before .before .operand-of .ensures) _ (c .before .before .o3 .given .1) in
+    let r = c .before .before .o3 .given .0 .0 in
+    let four = of-four r (t .3 ∙ ap sizeOf (float-direct src0 w (s .pre .0) (t .0))) in (
+      (subst Small (sym four) (t .2), rw (s .pre .1) (channels-some w), rw (s .pre .1) (count-channels w (s .pre .0 .count)), s .pre .3),
+      floats-inside src0 w (s .pre .0) _ (t .0) (ap regionIs four ∙ t .1) _ _ (s .pre .1) (s .pre .2),
     )
 
 src-modifier-requires : tie.Need-src-modifier-requires
@@ -84,7 +88,9 @@ returns-3 c =
     let s = c .before .before .before .before .before .before .before .before .before .before in
     let w = toWord (s .args .w) in
     let t = direct-told src0 w _ (c .before .before .before .before .before .before .before .before .operand-of .ensures) _ (c .before .before .before .before .before .before .o3 .given .1) in
-    floats-direct w (s .args .registers .now) src0 _ _ _ (s .pre .0) _ _ (t .0) (c .before .before .src-modifier .ensures .0) (t .1)
+    let r = c .before .before .before .before .before .before .o3 .given .0 .0 in
+    let four = of-four r (t .3 ∙ ap sizeOf (float-direct src0 w (s .pre .0) (t .0))) in
+    floats-direct w (s .args .registers .now) src0 _ _ _ (s .pre .0) _ _ (t .0) (c .before .before .src-modifier .ensures .0) (ap regionIs four ∙ t .1)
     (floats-signed _ _ _ _ _ _ _ (c .before .before .before .float-gather .ensures) (c .sign-all .ensures))
 
 pub first-floats-spec : {M : Type 1} → statement M

@@ -1,17 +1,10 @@
 -- Each shape's bytes are those of the region. Assumes nothing.
-use mathlib.Core.Path.{_≡_, _∙_, ap, sym}
-use Prim.Native.Nat.{ℕ, _+_, _*_}
-use Rattle.paper.specs.Region.{Region, elementAt}
 use Rattle.words.specs.Regions.{regionIs}
 use Rattle.operands.specs.Shapes.{regionFrom, beside-at, single-at}
 use Rattle.operands.specs.Floats.{floats-same, floats-single}
 use borrow.Author.Needs.{needs}
 use Rattle.operands.proofs.floats.float_gather.Statement.{statement}
 use Rattle.operands.proofs.floats.float_gather.Tie as tie
-
--- Side by side, elements of four bytes are four bytes apart.
-line-at : (r : Region) (k : ℕ) → r .size ≡ 4 → r .horz ≡ 1 → r .vert ≡ r .wide → r .origin + k * 4 ≡ elementAt r k
-line-at r k four h v = ap (λ (z : ℕ). r .origin + k * z) (sym four) ∙ beside-at r k h v
 
 is-beside-requires : tie.Need-is-beside-requires
 is-beside-requires c κs = search needs
@@ -20,13 +13,13 @@ float-line-requires : tie.Need-float-line-requires
 float-line-requires c κs =
     let s = c .before .before .before .before in
     let e = c .before .before .is-beside .ensures (c .before .if1 .taken) in
-    (s .pre .0 .3, s .pre .0 .4, λ k h. rw (line-at (regionIs (regionFrom (s .args .origin) (s .args .vert) (s .args .code) (s .args .horz) (s .args .size))) k (s .pre .0 .1) (e .0) (e .1)) (s .pre .1 k h))
+    (s .pre .0 .2, s .pre .0 .3, λ k h. rw (beside-at (regionIs (regionFrom (s .args .origin) (s .args .vert) (s .args .code) (s .args .horz) 4)) k (e .0) (e .1)) (s .pre .1 k h))
 
 returns : tie.Need-returns
 returns c =
     let s = c .before .before .before .before .before in
     let e = c .before .before .before .is-beside .ensures (c .before .before .if1 .taken) in
-    floats-same _ _ _ _ _ _ (λ k h. line-at (regionIs (regionFrom (s .args .origin) (s .args .vert) (s .args .code) (s .args .horz) (s .args .size))) k (s .pre .0 .1) (e .0) (e .1)) (c .float-line .ensures)
+    floats-same _ _ _ _ _ _ (λ k h. beside-at (regionIs (regionFrom (s .args .origin) (s .args .vert) (s .args .code) (s .args .horz) 4)) k (e .0) (e .1)) (c .float-line .ensures)
 
 is-single-requires : tie.Need-is-single-requires
 is-single-requires c κs = search needs
@@ -35,7 +28,7 @@ read4-requires : tie.Need-read4-requires
 read4-requires c κs =
     let s = c .before .before .before .before .before in
     let e = c .before .is-single .ensures (c .if2 .taken) in
-    rw (single-at (regionIs (regionFrom (s .args .origin) (s .args .vert) (s .args .code) (s .args .horz) (s .args .size))) 0 (e .0) (e .1)) (s .pre .1 0 (s .pre .0 .2))
+    rw (single-at (regionIs (regionFrom (s .args .origin) (s .args .vert) (s .args .code) (s .args .horz) 4)) 0 (e .0) (e .1)) (s .pre .1 0 (s .pre .0 .1))
 
 cast-pattern : tie.Need-cast-pattern
 cast-pattern c = search needs
@@ -48,7 +41,7 @@ returns-2 c =
     let s = c .before .before .before .before .before .before .before .before in
     let e = c .before .before .before .before .is-single .ensures (c .before .before .before .if2 .taken) in
     let read = c .before .before .read4 .ensures in
-    floats-single (s .args .registers .now) (s .args .origin) _ _ _ _ _ (λ k. single-at (regionIs (regionFrom (s .args .origin) (s .args .vert) (s .args .code) (s .args .horz) (s .args .size))) k (e .0) (e .1)) (read .0) (read .1) (c .float-spread .ensures)
+    floats-single (s .args .registers .now) (s .args .origin) _ _ _ _ _ (λ k. single-at (regionIs (regionFrom (s .args .origin) (s .args .vert) (s .args .code) (s .args .horz) 4)) k (e .0) (e .1)) (read .0) (read .1) (c .float-spread .ensures)
 
 float-lines-requires : tie.Need-float-lines-requires
 float-lines-requires c κs = search needs
