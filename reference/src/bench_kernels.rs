@@ -105,7 +105,9 @@ pub fn floats() -> BenchKernel {
     let kernel = kernel_of(&closed(words.collect()));
     let mut random = Random::new(0x5EED);
     let mut registers: Vec<u8> = (0..FILE_BYTES / 4)
-        .flat_map(|_| (random.bits(1) << 31 | (124 + random.bits(2)) << 23 | random.bits(23)).to_le_bytes())
+        .flat_map(|_| {
+            (random.bits(1) << 31 | (124 + random.bits(2)) << 23 | random.bits(23)).to_le_bytes()
+        })
         .collect();
     let record = [0.75f32, -0.5, 3.0, 0.5, 0.75, -1.25, 8.0, 0.375];
     for (n, number) in record.iter().enumerate() {
@@ -286,7 +288,8 @@ fn float_word(number: usize) -> LongWord {
         let made = base(Mul, to).register_source(0, record, 4 * float, SCALAR, F);
         made.register_source(1, tiles, 0, PACKED, F)
     };
-    let with_record = |made: LongWord, float: u32| made.register_source(1, record, 4 * float, SCALAR, F);
+    let with_record =
+        |made: LongWord, float: u32| made.register_source(1, record, 4 * float, SCALAR, F);
     match number % 20 {
         0 => times(to, 0, 2),
         1 => times(12, 1, 4),
