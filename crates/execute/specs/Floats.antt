@@ -2,31 +2,26 @@
 use mathlib.Core.Path.{_≡_, refl, sym, ap, _∙_, subst}
 use mathlib.Core.Bool.{Bool, true, false, cond, _&&_, _||_, true≢false, false≢true, or-true}
 use mathlib.Core.List.{List}
-use Prim.Native.Nat.{ℕ, _+_, _%_, _^_, _≤_, _<_}
-use native.Mathlib.Omega.{arith}
-use lib.Dec.{eqb, lit<}
+use Prim.Native.Nat.{ℕ, _+_, _*_, _%_, _^_, _<_}
+use lib.Dec.{eqb}
 use lib.IntN.{ℤ, pos}
-use lib.ListN.{length, getD, replicate, getD-replicate}
+use lib.ListN.{length, getD}
 use Rattle.paper.specs.Bits.{bit}
-use Rattle.paper.specs.Word.{src0, src1, condModifier, saturate, dstType, srcType}
+use Rattle.paper.specs.Word.{src0, src1, condModifier, saturate, isNull, dstType, dstStride, srcType}
 use Rattle.paper.specs.Operation as paper
-use Rattle.paper.specs.Value.{typeF, width, modZ, stored}
+use Rattle.paper.specs.Value.{typeF, width, sizeOf, modZ, stored}
 use Rattle.paper.specs.Element.{Element, oneIf, isFloat, meaning, result, floatResult, resultOf, made}
-use Rattle.paper.specs.Region.{srcIsVector, srcKind, channels}
-use Rattle.paper.specs.Effect.{operand}
+use Rattle.paper.specs.Region.{srcIsVector, srcKind, channels, strideOf, dstOrigin}
+use Rattle.paper.specs.Effect.{operand, scattered}
 use Rattle.laws.specs.Sources.{readsTwo, first-source}
 use Rattle.lanes.specs.Mapped.{Mapped}
 use Rattle.operands.specs.Floats.{FloatsRead}
 use Rattle.execute.specs.Readable.{Reckoning, floats-served, float-destination, float-source}
 use Rattle.execute.specs.Results.{channelMakes, Makes}
+use Rattle.execute.specs.Effects.{written}
 
--- The n first numbers are patterns.
-abbrev pub Patterns : ℕ → List ℕ → Type 0
-Patterns n values = (k : ℕ) → k < n → getD values k 0 < 2 ^ 32
-
--- So are those of the second source, and each is what its channel reads if there is one.
+-- Each of the n first numbers is the pattern that its channel of the second source reads, if there is one.
 pub record SecondFloats (p : paper.Plain) (w : ℕ) (registers : List ℕ) (n : ℕ) (values : List ℕ) : Type 0 where
-  pub patterns : Patterns n values
   pub reads : readsTwo p ≡ true → (k : ℕ) → k < n → pos (getD values k 0) ≡ meaning (operand w registers src1 k)
 
 -- Each of the n first patterns becomes the result of the operation on it and on the second.
@@ -35,24 +30,16 @@ Reckoned p condition n first second made = Mapped (λ k a b. pos b ≡ floatResu
 
 -- ---- what is read
 
-pub read-patterns : (w : ℕ) (registers : List ℕ) (n : ℕ) (old new : List ℕ) → FloatsRead w registers src0 n old new → Patterns n new
-unfolding FloatsRead
-read-patterns w registers n old new m k h = m .done k h .1
-
 pub floats-sixteen : (w : ℕ) (registers : List ℕ) (n : ℕ) (old new : List ℕ) → FloatsRead w registers src0 n old new → length new ≡ 16
 unfolding FloatsRead
 floats-sixteen w registers n old new m = m .sixteen
 
-pub second-floats : (p : paper.Plain) (w : ℕ) (registers : List ℕ) (n : ℕ) (old new : List ℕ) → FloatsRead w registers src1 n old new → SecondFloats p w registers n new
+pub second-told : (p : paper.Plain) (w : ℕ) (registers : List ℕ) (n : ℕ) (old new : List ℕ) → FloatsRead w registers src1 n old new → SecondFloats p w registers n new
 unfolding FloatsRead
-second-floats p w registers n old new m = record { patterns = λ k h. m .done k h .1; reads = λ t k h. m .done k h .0 }
+second-told p w registers n old new m = record { reads = λ t k h. m .done k h .0 }
 
-pub no-second : (p : paper.Plain) (w : ℕ) (registers : List ℕ) (n : ℕ) (values : List ℕ) → readsTwo p ≡ false → Patterns n values → SecondFloats p w registers n values
-no-second p w registers n values e h = record { patterns = h; reads = λ t k q. absurd (true≢false (sym t ∙ e)) }
-
--- Zeros are patterns.
-pub zero-patterns : (n : ℕ) → n ≤ 16 → Patterns n (replicate 16 0)
-zero-patterns n h k q = let zero : _≡_ {A = ℕ} (getD (replicate 16 0) k 0) 0 = getD-replicate {A = ℕ} 16 k 0 0 (omega arith) in rw zero (lit< tt)
+pub no-second : (p : paper.Plain) (w : ℕ) (registers : List ℕ) (n : ℕ) (values : List ℕ) → readsTwo p ≡ false → SecondFloats p w registers n values
+no-second p w registers n values e = record { reads = λ t k q. absurd (true≢false (sym t ∙ e)) }
 
 -- ---- results
 
@@ -132,3 +119,13 @@ module _ (p : paper.Plain) (w : ℕ) (l : Reckoning p w) (registers : List ℕ) 
       let told : pos (getD made k 0) ≡ resultOf p c (bit predicate k) (operand w registers src0 k) (operand w registers src1 k) =
       m .done k below ∙ float-result c (bit predicate k) k below in
       rw (float-destination p w l, floats-served p w l .1, ← ec) (plain-stored (getD made k 0) ∙ ap (stored false typeF) told)
+
+-- ---- what is stored
+
+-- Where the destination has floats, its elements have four bytes.
+pub floats-written : (w enable : ℕ) (bytes results : List ℕ) → dstType w ≡ typeF → isNull w ≡ false
+    → scattered bytes (λ k. dstOrigin w + k * strideOf (dstStride w) * 4) 4 (bit enable) (λ k. getD results k 0) (channels w) ≡ written w enable bytes results
+unfolding written
+floats-written w enable bytes results e kept =
+    rw kept
+    (ap (λ (t : ℕ). scattered bytes (λ k. dstOrigin w + k * strideOf (dstStride w) * sizeOf t) (sizeOf t) (bit enable) (λ k. getD results k 0) (channels w)) (sym e))

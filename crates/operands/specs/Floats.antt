@@ -28,6 +28,32 @@ pub record FloatsIn (x : Source) (w : ℕ) : Type 0 where
 unfoldable pub FloatsRead : ℕ → List ℕ → Source → ℕ → List ℕ → List ℕ → Type 0
 FloatsRead w registers x n old new = Mapped (λ k a b. (pos b ≡ meaning (operand w registers x k)) × (b < 2 ^ 32)) n old new
 
+-- Of sixteen numbers, each of the n first is the pattern of four bytes at its own place; the others stay.
+abbrev pub FloatsAt : List ℕ → (ℕ → ℕ) → ℕ → List ℕ → List ℕ → Type 0
+FloatsAt registers at n old new = Mapped (λ k a b. (b ≡ numberAt registers (at k) 4) × (b < 2 ^ 32)) n old new
+
+-- Elements at equal bytes are the same.
+pub floats-same : (registers : List ℕ) (f g : ℕ → ℕ) (n : ℕ) (old new : List ℕ) → ((k : ℕ) → k < n → f k ≡ g k) → FloatsAt registers f n old new → FloatsAt registers g n old new
+floats-same registers f g n old new e m = mapped-weaker _ _ n old new (λ k a b h r. (r .0 ∙ ap (λ (i : ℕ). numberAt registers i 4) (e k h), r .1)) m
+
+-- One element for all channels.
+pub floats-single : (registers : List ℕ) (from : ℕ) (f : ℕ → ℕ) (n v : ℕ) (old new : List ℕ) → ((k : ℕ) → from ≡ f k) → v ≡ numberAt registers from 4 → v < 2 ^ 32
+    → Mapped (λ k a b. b ≡ v) n old new → FloatsAt registers f n old new
+floats-single registers from f n v old new e read less m =
+    mapped-weaker _ _ n old new
+    (λ k a b h same. (same ∙ read ∙ ap (λ (i : ℕ). numberAt registers i 4) (e k), subst (λ (z : ℕ). z < 2 ^ 32) (sym same) less)) m
+
+-- Elements that are read, and then modified.
+pub floats-signed : (registers : List ℕ) (at : ℕ → ℕ) (modifier n : ℕ) (old read new : List ℕ) → FloatsAt registers at n old read
+    → Mapped (λ k a b. (b ≡ signModified modifier a) × (a < 2 ^ 32 → b < 2 ^ 32)) n read new
+    → Mapped (λ k a b. (b ≡ signModified modifier (numberAt registers (at k) 4)) × (b < 2 ^ 32)) n old new
+floats-signed registers at modifier n old read new m s =
+    record {
+      sixteen = s .sixteen;
+      done = λ k h. (s .done k h .0 ∙ ap (signModified modifier) (m .done k h .0), s .done k h .1 (m .done k h .1));
+      kept = λ k h. s .kept k h ∙ m .kept k h;
+    }
+
 module _ (x : Source) (w : ℕ) (is : FloatsIn x w) where
   -- What is not of type vf is of type f.
   pub float-type : srcIsVector x w ≡ false → srcType x w ≡ typeF
@@ -36,6 +62,10 @@ module _ (x : Source) (w : ℕ) (is : FloatsIn x w) where
       left : (a b : Bool) → b ≡ false → (a || b) ≡ true → a ≡ true
       left true b e f = refl
       left false b e f = sym (sym f ∙ e)
+
+  -- An immediate of it has 32 bits.
+  pub fixed-fits : (pattern : ℕ) → srcIsVector x w ≡ false → pattern < 2 ^ width (srcType x w) → pattern < 2 ^ 32
+  fixed-fits pattern e h = subst (λ (t : ℕ). pattern < 2 ^ width t) (float-type e) h
 
   -- What is no immediate is so, and has elements of four bytes.
   pub float-direct : isImmediate x w ≡ false → srcType x w ≡ typeF
@@ -57,7 +87,7 @@ module _ (w : ℕ) (registers : List ℕ) (x : Source) (n : ℕ) (old new : List
   unfolding FloatsRead operand patternAt signModified
   floats-fixed pattern e v ep h m =
       let kind : srcType x w ≡ typeF = float-type x w is v in
-      let fits : pattern < 2 ^ 32 = subst (λ (t : ℕ). pattern < 2 ^ width t) kind h in
+      let fits : pattern < 2 ^ 32 = fixed-fits x w is pattern v h in
       let same : pattern ≡ immediate 32 w = ep ∙ ap (λ (t : ℕ). immediate (width t) w) kind in
       mapped-weaker _ _ n old new (λ k a b q r. let one : b ≡ pattern = r in rw (e, kind, one) (ap pos same, fits)) m
 

@@ -16,7 +16,7 @@ ghost use Rattle.operands.specs.Reads.{ElementsRead};
 ghost use Rattle.operands.specs.Shapes.{regionFrom};
 
 // The elements lie side by side: HorzStride is 1, and VertStride is the width.
-fn is_beside(r: Region) -> bool
+pub(crate) fn is_beside(r: Region) -> bool
     requires { ⌜ Small r ⌝ }
     ensures { λ b. ⌜ (b ≡ true → (r .horz ≡ 1) × (r .vert ≡ 2 ^ r .code)) ⌝ }
 {
@@ -27,7 +27,7 @@ fn is_beside(r: Region) -> bool
 }
 
 // All channels read one element: both strides are 0.
-fn is_single(r: Region) -> bool
+pub(crate) fn is_single(r: Region) -> bool
     ensures { λ b. ⌜ (b ≡ true → (r .horz ≡ 0) × (r .vert ≡ 0)) ⌝ }
 {
     if r.horz == 0 {

@@ -1,11 +1,13 @@
 -- Words as most are: no operand is by address, and none is a0 or a float, be it read or not. Assumes nothing.
-use mathlib.Core.Bool.{Bool, true, false, not, _&&_}
+use mathlib.Core.Bool.{Bool, true, false, not, _&&_, _||_}
 use mathlib.Core.Path.{_≡_, refl, _∙_}
 use Prim.Native.Nat.{ℕ, _+_, _*_, _/_, _%_, _^_, _<_}
 use native.Mathlib.Omega.{arith}
+use native.Mathlib.Nat.{div-div-eq-div-mul}
 use lib.Dec.{eqb}
-use borrow.Author.Tests.{eqb-true, not-false}
+use borrow.Author.Tests.{eqb-true, ne-eqb, not-false}
 use Rattle.paper.specs.Bits.{bits}
+use Rattle.paper.specs.Value.{typeF, typeVf}
 use Rattle.paper.specs.Word.{Source, src0, src1, isImmediate, dstByAddress, srcByAddress, dstIsA0, srcIsA0}
 use Rattle.paper.specs.Operation.{Plain}
 use Rattle.paper.specs.Legal.{dstIsFloat, srcIsFloat}
@@ -55,3 +57,27 @@ bits-direct lo hi h e =
     neither : (b : Bool) → (not b && false) ≡ false
     neither true = refl
     neither false = refl
+
+-- A type under 4 is no float's.
+float-none : (t : ℕ) (b : Bool) → t < 4 → (eqb t typeF || (b && eqb t typeVf)) ≡ false
+float-none t b h = rw (ne-eqb t typeF (λ e. omega arith), ne-eqb t typeVf (λ e. omega arith)) (neither b)
+  where
+    neither : (b : Bool) → (b && false) ≡ false
+    neither true = refl
+    neither false = refl
+
+-- Three bits whose highest is 0 are under 4.
+under-four : (x : ℕ) → x / 4 % 2 ≡ 0 → x % 8 < 4
+under-four x e = omega (arith, e)
+
+-- Where the highest bits of the three types are 0, no operand is a float.
+pub bits-whole : (lo hi : ℕ) → lo / 2 ^ 36 % 2 + lo / 2 ^ 41 % 2 + lo / 2 ^ 46 % 2 ≡ 0 → Whole (lo + hi * 2 ^ 64)
+bits-whole lo hi n =
+    let d : bits (lo + hi * 2 ^ 64) 34 3 < 4 = rw (bits-within 64 34 3 lo hi (omega arith)) (under-four (lo / 2 ^ 34) (rw (div-div-eq-div-mul lo (2 ^ 34) 4) (omega (arith, n)))) in
+    let f : bits (lo + hi * 2 ^ 64) 39 3 < 4 = rw (bits-within 64 39 3 lo hi (omega arith)) (under-four (lo / 2 ^ 39) (rw (div-div-eq-div-mul lo (2 ^ 39) 4) (omega (arith, n)))) in
+    let s : bits (lo + hi * 2 ^ 64) 44 3 < 4 = rw (bits-within 64 44 3 lo hi (omega arith)) (under-four (lo / 2 ^ 44) (rw (div-div-eq-div-mul lo (2 ^ 44) 4) (omega (arith, n)))) in
+    record {
+      destination = ne-eqb (bits (lo + hi * 2 ^ 64) 34 3) typeF (λ e. omega arith);
+      source =
+          each-source (λ x. srcIsFloat (lo + hi * 2 ^ 64) x ≡ false) (float-none _ (isImmediate src0 (lo + hi * 2 ^ 64)) f) (float-none _ (isImmediate src1 (lo + hi * 2 ^ 64)) s);
+    }

@@ -17,10 +17,13 @@ fn may_address(w: Word) -> bool
     (w.lo >> 63) + (w.hi >> 15) % 2 + (w.hi >> 47) % 2 != 0
 }
 
-// An operand is a float, be it read or not.
+// An operand is a float, be it read or not. Most words are told by the highest bits of their types.
 fn may_reckon(w: Word) -> bool
     ensures { λ r. ⌜ (r ≡ false → Whole (toWord w)) ⌝ }
 {
+    if (w.lo >> 36) % 2 + (w.lo >> 41) % 2 + (w.lo >> 46) % 2 == 0 {
+        return false;
+    }
     if dst_is_float(w) {
         return true;
     }

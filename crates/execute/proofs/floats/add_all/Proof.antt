@@ -27,26 +27,14 @@ mul-x c = search needs
 element-copy-out-x : tie.Need-element-copy-out-x Inv-loop μ-loop
 element-copy-out-x c = search needs
 
-cast-x : tie.Need-cast-x Inv-loop μ-loop
-unfolding Reckoned
-cast-x c =
-    let k = c .before .before .loop .k in
-    record { fits = rw (c .before .before .loop .inv .1 .kept k (omega arith)) (c .before .before .before .pre .2 k (c .before .loop-test .taken)) }
-
 mul-y : tie.Need-mul-y Inv-loop μ-loop
 mul-y c = search needs
 
 element-copy-out-y : tie.Need-element-copy-out-y Inv-loop μ-loop
 element-copy-out-y c = search needs
 
-cast-y : tie.Need-cast-y Inv-loop μ-loop
-cast-y c = record { fits = c .before .before .before .before .pre .3 (c .before .before .before .loop .k) (c .before .before .loop-test .taken) }
-
 add-pattern-requires : tie.Need-add-pattern-requires Inv-loop μ-loop
 add-pattern-requires c κs = search needs
-
-cast-first : tie.Need-cast-first Inv-loop μ-loop
-cast-first c = search needs
 
 mul-first : tie.Need-mul-first Inv-loop μ-loop
 mul-first c = search needs
@@ -78,12 +66,9 @@ add-all-spec =
     loop-holds
     mul-x
     element-copy-out-x
-    cast-x
     mul-y
     element-copy-out-y
-    cast-y
     add-pattern-requires
-    cast-first
     mul-first
     element-write-first
     add-k

@@ -27,20 +27,11 @@ mul-x c = search needs
 element-copy-out-x : tie.Need-element-copy-out-x Inv-loop μ-loop
 element-copy-out-x c = search needs
 
-cast-x : tie.Need-cast-x Inv-loop μ-loop
-unfolding Reckoned
-cast-x c =
-    let k = c .before .before .loop .k in
-    record { fits = rw (c .before .before .loop .inv .1 .kept k (omega arith)) (c .before .before .before .pre .2 k (c .before .loop-test .taken)) }
-
 mul-y : tie.Need-mul-y Inv-loop μ-loop
 mul-y c = search needs
 
 element-copy-out-y : tie.Need-element-copy-out-y Inv-loop μ-loop
 element-copy-out-y c = search needs
-
-cast-y : tie.Need-cast-y Inv-loop μ-loop
-cast-y c = record { fits = c .before .before .before .before .pre .3 (c .before .before .before .loop .k) (c .before .before .loop-test .taken) }
 
 compare-pattern-requires : tie.Need-compare-pattern-requires Inv-loop μ-loop
 compare-pattern-requires c κs = search needs
@@ -62,7 +53,7 @@ loop-less c = search needs
 
 loop-again : tie.Need-loop-again Inv-loop μ-loop
 unfolding Reckoned floatResult
-loop-again c = (omega arith, mapped-more _ (c .before .before .before .before .before .loop .k) _ _ _ (omega arith) (c .before .before .before .before .before .loop .inv .1) (one-told (c .before .compare-pattern .result) _ (c .one-if .ensures .0) ∙ ap oneIf (c .before .compare-pattern .ensures)))
+loop-again c = (omega arith, mapped-more _ (c .before .before .before .before .before .loop .k) _ _ _ (omega arith) (c .before .before .before .before .before .loop .inv .1) (one-told (c .before .compare-pattern .result) _ (c .one-if .ensures) ∙ ap oneIf (c .before .compare-pattern .ensures)))
 
 returns : tie.Need-returns Inv-loop μ-loop
 returns c =
@@ -78,10 +69,8 @@ compare-all-spec =
     loop-holds
     mul-x
     element-copy-out-x
-    cast-x
     mul-y
     element-copy-out-y
-    cast-y
     compare-pattern-requires
     one-if-requires
     mul-first

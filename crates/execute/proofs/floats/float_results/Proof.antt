@@ -6,7 +6,7 @@ use Rattle.laws.specs.Sources.{first-source}
 use Rattle.words.specs.Operations.{plainIs}
 use Rattle.words.specs.Words.{toWord}
 use Rattle.execute.specs.Readable.{legal-count, not-source, float-registers, legal-floats}
-use Rattle.execute.specs.Floats.{zero-patterns, floats-sixteen, read-patterns, floats-made}
+use Rattle.execute.specs.Floats.{floats-sixteen, floats-made}
 use borrow.Author.Needs.{needs}
 use Rattle.execute.proofs.floats.float_results.Statement.{statement}
 use Rattle.execute.proofs.floats.float_results.Tie as tie
@@ -14,8 +14,8 @@ use Rattle.execute.proofs.floats.float_results.Tie as tie
 channels-requires : tie.Need-channels-requires
 channels-requires c κs = legal-count _ _ (c .before .pre .0 .acting)
 
-float-operand-requires : tie.Need-float-operand-requires
-float-operand-requires c κs =
+first-floats-requires : tie.Need-first-floats-requires
+first-floats-requires c κs =
     let s = c .before .before .before in
     let p = plainIs (s .args .p) in
     let w = toWord (s .args .w) in
@@ -25,7 +25,7 @@ float-operand-requires c κs =
 float-second-requires : tie.Need-float-second-requires
 float-second-requires c κs =
     let s = c .before .before .before .before .before in
-    (s .pre .0, c .before .before .before .channels .ensures .0, s .pre .1, refl, zero-patterns _ (c .before .before .before .channels .ensures .1))
+    (s .pre .0, c .before .before .before .channels .ensures .0, s .pre .1, refl)
 
 cond-modifier-requires : tie.Need-cond-modifier-requires
 cond-modifier-requires c κs = search needs
@@ -34,13 +34,13 @@ reckon-all-requires : tie.Need-reckon-all-requires
 reckon-all-requires c κs =
     let s = c .before .before .before .before .before .before .before .before .before in
     let w = toWord (s .args .w) in
-    let a = c .before .before .before .before .before .float-operand .ensures in
-    (c .before .before .before .before .before .before .before .channels .ensures .1, floats-sixteen w (s .args .registers .now) _ _ _ a, read-patterns w (s .args .registers .now) _ _ _ a, c .before .before .before .float-second .ensures .patterns)
+    let a = c .before .before .before .before .before .first-floats .ensures in
+    (c .before .before .before .before .before .before .before .channels .ensures .1, floats-sixteen w (s .args .registers .now) _ _ _ a)
 
 returns : tie.Need-returns
 returns c =
     let s = c .before .before .before .before .before .before .before .before .before .before in
-    floats-made (plainIs (s .args .p)) (toWord (s .args .w)) (s .pre .0) (s .args .registers .now) _ _ _ _ (c .before .before .before .before .before .before .float-operand .ensures) (c .before .before .before .before .float-second .ensures) _ _
+    floats-made (plainIs (s .args .p)) (toWord (s .args .w)) (s .pre .0) (s .args .registers .now) _ _ _ _ (c .before .before .before .before .before .before .first-floats .ensures) (c .before .before .before .before .float-second .ensures) _ _
     (c .before .before .before .before .before .before .before .before .channels .ensures .0) (c .before .before .before .cond-modifier .ensures .0) (c .reckon-all .ensures)
 
 pub float-results-spec : {M : Type 1} → statement M
@@ -48,7 +48,7 @@ float-results-spec =
     tie.close
     (tie.spec
     channels-requires
-    float-operand-requires
+    first-floats-requires
     float-second-requires
     cond-modifier-requires
     reckon-all-requires

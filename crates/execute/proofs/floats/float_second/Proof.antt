@@ -6,7 +6,7 @@ use Rattle.laws.specs.Sources.{second-source}
 use Rattle.words.specs.Operations.{plainIs}
 use Rattle.words.specs.Words.{toWord}
 use Rattle.execute.specs.Readable.{not-source, float-registers, legal-floats}
-use Rattle.execute.specs.Floats.{second-floats, no-second}
+use Rattle.execute.specs.Floats.{second-told, no-second}
 use borrow.Author.Needs.{needs}
 use Rattle.execute.proofs.floats.float_second.Statement.{statement}
 use Rattle.execute.proofs.floats.float_second.Tie as tie
@@ -14,8 +14,8 @@ use Rattle.execute.proofs.floats.float_second.Tie as tie
 reads-two-requires : tie.Need-reads-two-requires
 reads-two-requires c κs = search needs
 
-float-operand-requires : tie.Need-float-operand-requires
-float-operand-requires c κs =
+second-floats-requires : tie.Need-second-floats-requires
+second-floats-requires c κs =
     let s = c .before .before .before .before in
     let p = plainIs (s .args .p) in
     let w = toWord (s .args .w) in
@@ -24,10 +24,10 @@ float-operand-requires c κs =
     (legal-floats p w (s .pre .0) src1 (second-source p two), s .pre .1, s .pre .2 ∙ ap bytesIn (sym direct), s .pre .3, direct)
 
 returns : tie.Need-returns
-returns c = second-floats _ _ _ _ _ _ (c .float-operand .ensures)
+returns c = second-told _ _ _ _ _ _ (c .second-floats .ensures)
 
 returns-2 : tie.Need-returns-2
-returns-2 c = no-second _ _ _ _ (c .before .before .before .args .patterns .now) (sym (c .before .reads-two .ensures) ∙ c .if1 .left) (c .before .before .before .pre .4)
+returns-2 c = no-second _ _ _ _ (c .before .before .before .args .patterns .now) (sym (c .before .reads-two .ensures) ∙ c .if1 .left)
 
 pub float-second-spec : {M : Type 1} → statement M
-float-second-spec = tie.close (tie.spec reads-two-requires float-operand-requires returns returns-2)
+float-second-spec = tie.close (tie.spec reads-two-requires second-floats-requires returns returns-2)

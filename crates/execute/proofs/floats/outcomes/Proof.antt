@@ -24,6 +24,9 @@ mul-lowest c = search needs
 element-copy-out-lowest : tie.Need-element-copy-out-lowest Inv-loop μ-loop
 element-copy-out-lowest c = search needs
 
+cast-lowest : tie.Need-cast-lowest Inv-loop μ-loop
+cast-lowest c = record { fits = omega arith }
+
 shl-mask : tie.Need-shl-mask Inv-loop μ-loop
 shl-mask c = search needs
 
@@ -58,6 +61,7 @@ outcomes-spec =
     loop-holds
     mul-lowest
     element-copy-out-lowest
+    cast-lowest
     shl-mask
     add-mask
     add-k

@@ -5,7 +5,7 @@ use Rattle.words.specs.Operations.{plainIs}
 use Rattle.words.specs.Words.{toWord}
 use Rattle.lanes.specs.Masks.{awakeList, quarterMask}
 use Rattle.execute.specs.Stores.{storeOf}
-use Rattle.execute.specs.Readable.{legal-writable, not-destination, float-registers}
+use Rattle.execute.specs.Readable.{legal-writable, not-destination, float-registers, float-destination}
 use Rattle.execute.proofs.Executed.{Made, direct-registers, direct-flags, direct-less, addresses-still}
 use borrow.Author.Needs.{needs}
 use Rattle.execute.proofs.floats.reckon.Statement.{statement}
@@ -26,12 +26,13 @@ float-results-requires c κs = (c .before .before .before .before .before .befor
 quarter-mask-requires : tie.Need-quarter-mask-requires
 quarter-mask-requires c κs = search needs
 
-write-by-element-requires : tie.Need-write-by-element-requires
-write-by-element-requires c κs =
+write-floats-requires : tie.Need-write-floats-requires
+write-floats-requires c κs =
     let s = c .before .before .before .before .before .before .before .before .before .before in
     let p = plainIs (s .args .p) in
     let w = toWord (s .args .w) in
-    (legal-writable p w (s .pre .0 .acting), s .pre .1 .0 ∙ ap bytesIn (sym (not-destination p w (float-registers p w (s .pre .0)))))
+    let direct = not-destination p w (float-registers p w (s .pre .0)) in
+    (legal-writable p w (s .pre .0 .acting), s .pre .1 .0 ∙ ap bytesIn (sym direct), direct, float-destination p w (s .pre .0))
 
 float-flags-requires : tie.Need-float-flags-requires
 float-flags-requires c κs = c .before .before .before .before .before .before .before .before .before .before .before .before .before .before .pre .0 .acting
@@ -59,7 +60,7 @@ returns c =
     let legal = s .pre .0 .acting in
     let none = float-registers p w (s .pre .0) in (
       λ addresses. (
-        direct-registers p w (s .args .awake) registers (s .args .flags) _ _ _ _ _ _ legal none made _ (c .before .before .before .before .write-by-element .ensures) addresses,
+        direct-registers p w (s .args .awake) registers (s .args .flags) _ _ _ _ _ _ legal none made _ (c .before .before .before .before .write-floats .ensures) addresses,
         addresses-still p w (awakeList (s .args .awake)) (storeOf registers (s .args .flags) addresses) (not-destination p w none),
       ),
       (
@@ -77,7 +78,7 @@ reckon-spec =
     enable-of-requires
     float-results-requires
     quarter-mask-requires
-    write-by-element-requires
+    write-floats-requires
     float-flags-requires
     same-length
     returns)

@@ -1,22 +1,21 @@
--- The loop's invariant: the elements of the channels passed are read and modified. Its measure: the channels left. Assumes nothing.
+-- The loop's invariant: the elements of the channels passed are read. Its measure: the channels left. Assumes nothing.
 use borrow.Author.Needs.{needs}
 use mathlib.Core.Path.{_≡_, ap, _∙_}
-use Prim.Native.Nat.{ℕ, _-_, _^_, _≤_, _<_}
+use Prim.Native.Nat.{ℕ, _-_, _≤_}
 use native.Mathlib.Omega.{arith}
-use Rattle.lanes.specs.Mapped.{Mapped, mapped-none, mapped-more}
+use Rattle.lanes.specs.Mapped.{mapped-none, mapped-more}
 use Rattle.paper.specs.Bits.{numberAt}
 use Rattle.paper.specs.Region.{elementAt}
-use Rattle.paper.specs.Single.{signModified}
 use Rattle.words.specs.Regions.{regionIs}
+use Rattle.operands.specs.Floats.{FloatsAt}
 use Rattle.operands.proofs.floats.float_lines.Statement.{statement}
 use Rattle.operands.proofs.floats.float_lines.Tie as tie
 
 abbrev Inv-loop : tie.InvT-loop
-Inv-loop registers r modifier n patterns₀ k₀ patterns k =
-    (k ≤ n) × Mapped (λ k old new. (new ≡ signModified modifier (numberAt registers (elementAt (regionIs r) k) 4)) × (new < 2 ^ 32)) k patterns₀ patterns
+Inv-loop registers r n patterns₀ k₀ patterns k = (k ≤ n) × FloatsAt registers (elementAt (regionIs r)) k patterns₀ patterns
 
 abbrev μ-loop : tie.MeasureT-loop
-μ-loop registers r modifier n patterns₀ k₀ patterns k = n - k
+μ-loop registers r n patterns₀ k₀ patterns k = n - k
 
 loop-holds : tie.Need-loop-holds Inv-loop μ-loop
 loop-holds c = (omega arith, mapped-none _ _ (c .before .pre .2))
@@ -28,12 +27,6 @@ element-at-requires c κs =
 
 read4-requires : tie.Need-read4-requires Inv-loop μ-loop
 read4-requires c κs = rw (c .element-at .ensures .0) (c .before .before .before .before .pre .3 (c .before .before .loop .k) (c .before .loop-test .taken))
-
-cast-pattern : tie.Need-cast-pattern Inv-loop μ-loop
-cast-pattern c = search needs
-
-modify-pattern-requires : tie.Need-modify-pattern-requires Inv-loop μ-loop
-modify-pattern-requires c κs = search needs
 
 cast-patterns : tie.Need-cast-patterns Inv-loop μ-loop
 cast-patterns c = search needs
@@ -52,11 +45,10 @@ loop-less c = search needs
 
 loop-again : tie.Need-loop-again Inv-loop μ-loop
 loop-again c =
-    let fits : c .modify-pattern .result < 2 ^ 32 = search needs in
-    let s = c .before .before .before .before .before .before in (
+    let s = c .before .before .before .before .before in (
       omega arith,
-      mapped-more _ (c .before .before .before .before .loop .k) _ _ _ (omega arith) (c .before .before .before .before .loop .inv .1)
-          (c .modify-pattern .ensures ∙ ap (signModified (s .args .modifier)) (c .before .read4 .ensures .0 ∙ ap (λ (i : ℕ). numberAt (s .args .registers .now) i 4) (c .before .before .element-at .ensures .0)), fits),
+      mapped-more _ (c .before .before .before .loop .k) _ _ _ (omega arith) (c .before .before .before .loop .inv .1)
+          (c .read4 .ensures .0 ∙ ap (λ (i : ℕ). numberAt (s .args .registers .now) i 4) (c .before .element-at .ensures .0), c .read4 .ensures .1),
     )
 
 returns : tie.Need-returns Inv-loop μ-loop
@@ -73,8 +65,6 @@ float-lines-spec =
     loop-holds
     element-at-requires
     read4-requires
-    cast-pattern
-    modify-pattern-requires
     cast-patterns
     mul-patterns
     element-write-patterns

@@ -20,9 +20,6 @@ loop-holds c = (omega arith, mapped-none _ _ (c .pre .1))
 vector-pattern-requires : tie.Need-vector-pattern-requires Inv-loop μ-loop
 vector-pattern-requires c κs = search needs
 
-cast-patterns : tie.Need-cast-patterns Inv-loop μ-loop
-cast-patterns c = search needs
-
 mul-patterns : tie.Need-mul-patterns Inv-loop μ-loop
 mul-patterns c = search needs
 
@@ -53,7 +50,6 @@ float-vector-spec =
     μ-loop
     loop-holds
     vector-pattern-requires
-    cast-patterns
     mul-patterns
     element-write-patterns
     add-k
