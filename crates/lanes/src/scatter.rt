@@ -31,7 +31,14 @@ fn either(on: bool, v: u64, old: u64) -> u64
 }
 
 // Channel k's value stored where the mask enables it, without a branch: a disabled channel's bytes are stored as they are.
-pub(crate) fn blend_channel(registers: &mut [u8], from: usize, size: usize, enable: u64, k: usize, v: u64)
+pub(crate) fn blend_channel(
+    registers: &mut [u8],
+    from: usize,
+    size: usize,
+    enable: u64,
+    k: usize,
+    v: u64,
+)
     requires { ⌜ Size size × (k < 16) × (from + size ≤ length (now registers)) ⌝ }
     ensures { λ r. ⌜ now (registers .exit) ≡ cond (bit enable k) (putAt (now (registers .entry)) from size v) (now (registers .entry)) ⌝ }
 {
