@@ -64,8 +64,8 @@ def wrapper(name, types):
                      f'  %l{number} = getelementptr i8, ptr %s{number}, i64 8', f'  store i64 %n{number}, ptr %l{number}, align 8']
             words.append(f'ptr %s{number}')
         else:
-            head.append(f'i64 %p{number}')
-            words.append(f'i64 %p{number}')
+            head.append(f'{kind} %p{number}')
+            words.append(f'{kind} %p{number}')
     call = f'  %r = call i64 @"spokeshaver::{name}"({", ".join(words)})'
     return '\n'.join([f'define i64 @{name}({", ".join(head)}) {{', *body, call, '  ret i64 %r', '}', ''])
 
@@ -74,7 +74,7 @@ def export(module):
     text = module.read_text()
     found = re.findall(r'^define internal noundef i64 @"spokeshaver::(\w+)"\(([^)]*)\)', text, re.M)
     text = re.sub(r'^define i32 @main\(\).*?^}\n', '', text, flags=re.M | re.S)
-    module.write_text(text + ''.join(wrapper(name, re.findall(r'\b(ptr|i64) noundef', types)) for name, types in found))
+    module.write_text(text + ''.join(wrapper(name, re.findall(r'\b(ptr|i\d+) noundef', types)) for name, types in found))
 
 
 if __name__ == '__main__':

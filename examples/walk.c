@@ -3,7 +3,7 @@
  *   walk FILE MASK FLAG REGISTER:TYPE..      for example: walk sides.in ffff 0fff 4:ub
  *
  * The file has 512 dictionary bytes and then a kernel, as for ./check; the mask of channels and f0.0 are in hex. r2 holds the channels' numbers, as words, and every
- * other register 0. At the end the registers are printed, the lowest element first; the type is ub, uw or ud. */
+ * other register 0. At the end the registers are printed, the lowest element first; the type is ub, uw, ud or f. */
 #include "spokeshaver.h"
 
 #include <stdio.h>
@@ -51,16 +51,33 @@ static void print_waiting(void) {
     }
 }
 
+/* An element of so many bytes, the lowest first. */
+static uint32_t element(unsigned at, unsigned size) {
+    uint32_t value = 0;
+    for (unsigned n = 0; n < size; n++) value |= (uint32_t)registers[at + n] << 8 * n;
+    return value;
+}
+
+/* A float by its 32 bits, with as many digits as tell it from every other. */
+static void print_float(uint32_t pattern) {
+    float value;
+    memcpy(&value, &pattern, sizeof value);
+    printf(" %.9g", value);
+}
+
 static void print_register(const char *asked) {
     char *type;
     unsigned long number = strtoul(asked, &type, 10);
-    unsigned size = strcmp(type, ":ud") == 0 ? 4 : strcmp(type, ":uw") == 0 ? 2 : 1;
+    int is_float = strcmp(type, ":f") == 0;
+    unsigned size = is_float || strcmp(type, ":ud") == 0 ? 4 : strcmp(type, ":uw") == 0 ? 2 : 1;
     if (number >= SPOKESHAVER_REGISTER_BYTES / REGISTER) return;
     printf("r%s:", asked);
     for (unsigned at = 0; at < REGISTER; at += size) {
-        unsigned long element = 0;
-        for (unsigned k = size; k > 0; k--) element = element << 8 | registers[REGISTER * number + at + k - 1];
-        printf(" %lu", element);
+        uint32_t value = element(number * REGISTER + at, size);
+        if (is_float)
+            print_float(value);
+        else
+            printf(" %lu", (unsigned long)value);
     }
     printf("\n");
 }

@@ -1,4 +1,4 @@
-/* Spokeshaver: decode, check, pack, unpack, list and run small graphics kernels, and keep a log of their runs.
+/* Spokeshaver: decode, check, pack, unpack, list and run small graphics kernels, keep a log of their runs, and place tiles.
  *
  * Link with libspokeshaver.a (x86-64 Linux; it needs only memcpy and memset of the C library). No call keeps anything between calls, takes memory,
  * writes a file or fails to return. Every call's answer, and every byte of what is lent to it, is proved to be what the rules say, for all inputs.
@@ -10,6 +10,9 @@
  *   - lend a NULL or stale pointer with a length over 0, or a length that is more than the memory behind the pointer. With length 0 any pointer will do.
  *   - lend for writing what overlaps anything else that is lent to the same call. What is only read may overlap.
  *   - let another thread write what is lent, or touch what is lent for writing, while the call runs. Calls on separate memory may run at once.
+ *   - make a call that adds, multiplies or compares floats (step, run, place) in another floating-point mode than a program starts in: rounding to nearest, subnormal
+ *     numbers kept, no exception trapped. A program that is merely linked with -ffast-math flushes them to zero. spokeshaver_floats_exact tells of rounding and flushing;
+ *     who enables traps (feenableexcept) must disable them around such a call.
  *   A refusal changes nothing that was lent, but that a run which stops at a bad address (22) keeps the steps that it made before. Of an output, only the
  *   result's bytes are written; what lies behind them stays.
  *
@@ -39,7 +42,8 @@
  *
  * Elements
  *   Byte k of register n is registers[32 * n + k]. An element has its lowest byte first: word 3 of r4 is registers[134] + 256 * registers[135]. Signed types are in
- *   two's complement. Types, by code: ud 0 and d 1 of four bytes, uw 2 and w 3 of two, ub 4 and b 5 of one; as immediates ud, d, uw and w.
+ *   two's complement. Types, by code: ud 0 and d 1 of four bytes, uw 2 and w 3 of two, ub 4 and b 5 of one, f 7, a single float, of four; as immediates ud, d, uw, w,
+ *   f, and vf 5, four restricted floats in four bytes, channel 0's the lowest.
  *
  * Operations, by opcode; a and b are what src0 and src1 hold, as exact whole numbers
  *   0x01 mov    a
@@ -63,8 +67,12 @@
  *   0x41 mul    a * b, of words and bytes
  *   0x42 avg    (a + b + 1) / 2, rounded down
  *   0x7E nop    nothing
- *   A result is stored modulo the destination type's width; with Saturate (mov, sel, add, mul, avg) it is clamped to the type. mov and not have one source. Regions,
- *   predicates, branches step by step, and what each operation asks of its operands: docs/KERNELS.md.
+ *   Where an operand is f or vf all are, a null destination by its type; the operation is mov, add, mul or cmp, without Saturate; vf is for up to four channels.
+ *   Sums and products round once, to nearest, ties to even; subnormal numbers are kept; any NaN that they give is 0x7FC00000. mov copies bits. Modifiers act on the
+ *   sign bit. cmp compares the floats themselves, with a NaN it is false but for nz, and a destination gets the bits of the whole number 1 or 0. A byte of vf is a
+ *   sign, three bits e and four bits f, the lowest: (16 + f) / 16 * 2^(e - 3), but 0x00 and 0x80 are 0 and -0.
+ *   A result is stored modulo the destination type's width; with Saturate (mov, sel, add, mul, avg of whole numbers) it is clamped to the type. mov and not have one
+ *   source. Regions, predicates, branches step by step, and what each operation asks of its operands: docs/KERNELS.md.
  *
  * Registers by address
  *   A source or destination in the registers may be found by address: at the byte that an element of a0 holds, and -512 to 511 bytes on, as the instruction
@@ -115,7 +123,7 @@ extern "C" {
 
 /* Refusals. Where more than one would do, the first of this list is given: 3 to 11 and 17 instruction by instruction, 12 after all have passed. 22 is judged at
  * each step, after ENDED and SPENT. */
-#define SPOKESHAVER_WRONG_SIZE 1        /* registers, state or dictionary of another size, a kernel over 65,536 bytes, a word not of 16 (shorten) or 8 (expand), a count over the log's buffer, a buffer over 4,294,967,295 bytes */
+#define SPOKESHAVER_WRONG_SIZE 1        /* registers, state or dictionary of another size, a kernel over 65,536 bytes, a word not of 16 (shorten) or 8 (expand), a record not of 24 (place, place_load), a count over the log's buffer, a buffer over 4,294,967,295 bytes */
 #define SPOKESHAVER_BUDGET_OVER 16      /* a budget over 1,000,000 */
 #define SPOKESHAVER_WIDE_DICTIONARY 2   /* a dictionary number is wider than its table */
 #define SPOKESHAVER_TOO_MANY 17         /* this would be the 4,097th instruction */
@@ -123,7 +131,7 @@ extern "C" {
 #define SPOKESHAVER_UNLISTED 4          /* an opcode that is not listed */
 #define SPOKESHAVER_WRONG_FORM 5        /* a short branch; a short word where a long one is asked, or the reverse */
 #define SPOKESHAVER_RESERVED_BITS 6     /* a bit is set that must be clear */
-#define SPOKESHAVER_NOT_SERVED 7        /* a field has a value that is not served, a predicate's group is larger than the size, or a0 is an operand of what is not a mov of uw operands */
+#define SPOKESHAVER_NOT_SERVED 7        /* a field has a value that is not served, a predicate's group is larger than the size, a0 is an operand of what is not a mov of uw operands, or a float of what is not a mov, add, mul or cmp without Saturate; place: no such order */
 #define SPOKESHAVER_OPERAND_RULE 8      /* an operand rule is broken */
 #define SPOKESHAVER_REGION_SHAPE 9      /* a stride or width is undefined, the size is under the width, a source has a shape on which the machine hangs (docs/CHECKING.md), or the destination's stride is 0 */
 #define SPOKESHAVER_UNALIGNED 10        /* a subregister, of an operand that is not by address, is no multiple of the element's size */
@@ -172,7 +180,7 @@ static inline const char *spokeshaver_message(unsigned number) {
  *   1   which size: each length that was lent against the sizes above
  *   2   which number of the dictionary: the first with a bit at or above its table's width, 17, 18, 15 or 12
  *   14  how much room: kernel_len for pack; for each instruction that check counts 16 bytes for unpack and SPOKESHAVER_LINES_MOST for list; 16 for each six lines that
- *       are read; 8 for shorten, 16 for expand; 64 bytes behind the whole records for another record
+ *       are read; 8 for shorten, 16 for expand; SPOKESHAVER_POINT_BYTES for place and SPOKESHAVER_PLACE_KERNEL_BYTES for place_kernel; 64 bytes behind the whole records for another record
  *   15  which place or channel: a place that is no `place=` of the kernel's listing and not kernel_len / 8; a channel with both bits set, or with a waiting place and
  *       without the waiting bit */
 
@@ -272,6 +280,44 @@ uint64_t spokeshaver_list(const uint8_t *dictionary, size_t dictionary_len, cons
  * or the text ends inside of them, or the word is one that the bench refuses (4 to 11, or bit 29 is set) or is to be short and cannot be, or it would be the 4,097th. Jumps
  * that land nowhere come after all the rest: the lines of the first one. */
 uint64_t spokeshaver_read(const uint8_t *dictionary, size_t dictionary_len, const uint8_t *text, size_t text_len, uint8_t *out, size_t out_len);
+
+/* ---- placing tiles: floats cross as their 32-bit patterns, which memcpy gives; a record is 24 bytes, six little-endian patterns a to f */
+#define SPOKESHAVER_RECORD_BYTES 24
+#define SPOKESHAVER_POINT_BYTES 8
+#define SPOKESHAVER_PLACE_KERNEL_BYTES 128
+
+/* Orders of spokeshaver_place. */
+#define SPOKESHAVER_KEEP 0  /* x and y, their bits untouched */
+#define SPOKESHAVER_SHIFT 1 /* x + c and y + f */
+#define SPOKESHAVER_PLACE 2 /* (a * x + b * y) + c and (d * x + e * y) + f, each product and sum rounded once */
+
+/* Answers an order for a tile at x and y: the two patterns, little-endian, at the front of `out`. ACCEPTED with count 8; or 1 for a record that is not of 24 bytes, which
+ * every order takes, 7 for another order, 14. */
+uint64_t spokeshaver_place(uint64_t order, const uint8_t *record, size_t record_len, uint32_t x, uint32_t y, uint8_t *out, size_t out_len);
+
+/* Writes the fixed kernel that places sixteen tiles by one record, in long words. ACCEPTED with count 128; or 14. It finds the x of channel n in r2 and r3 (float n), the y in
+ * r4 and r5, the record in r6 from its first byte, and leaves the answers in r8 and r9, r10 and r11; r12 and r13 are its own. Every legal dictionary accepts it. From a start
+ * with any mask it ends after 8 steps, and the answers of each channel that is awake are the bits that spokeshaver_place gives for SPOKESHAVER_PLACE. */
+uint64_t spokeshaver_place_kernel(uint8_t *out, size_t out_len);
+
+/* Puts a record where the fixed kernel finds it. ACCEPTED; or 1 for a record that is not of 24 bytes or registers that are not of 4,096. */
+uint64_t spokeshaver_place_load(const uint8_t *record, size_t record_len, uint8_t *registers, size_t registers_len);
+
+/* 1 if the processor's floating-point mode is the one that floats need, and 0 if it rounds in another direction or flushes subnormal numbers to zero: three sums by
+ * spokeshaver_place. */
+static inline int spokeshaver_floats_exact(void) {
+    static const uint32_t sums[3][3] = {{1, 1, 2}, {0x4B800000, 0x3F800000, 0x4B800000}, {0x4B800001, 0x3F800000, 0x4B800002}};
+    int k, n;
+    for (k = 0; k < 3; k++) {
+        uint8_t record[SPOKESHAVER_RECORD_BYTES] = {0}, out[SPOKESHAVER_POINT_BYTES] = {0};
+        uint32_t sum = 0;
+        for (n = 0; n < 4; n++) record[8 + n] = (uint8_t)(sums[k][1] >> (8 * n));
+        spokeshaver_place(SPOKESHAVER_SHIFT, record, sizeof record, sums[k][0], 0, out, sizeof out);
+        for (n = 0; n < 4; n++) sum |= (uint32_t)out[n] << (8 * n);
+        if (sum != sums[k][2]) return 0;
+    }
+    return 1;
+}
 
 #ifdef __cplusplus
 }

@@ -77,6 +77,9 @@ static uint64_t call(const uint64_t *number) {
     case 14: return spokeshaver_forward(dictionary, d, kernel, k);
     case 15: return spokeshaver_list(dictionary, d, kernel, k, out, o);
     case 16: return spokeshaver_read(dictionary, d, kernel, k, out, o);
+    case 17: return spokeshaver_place(number[FIRST], kernel, k, (uint32_t)number[SECOND], (uint32_t)number[THIRD], out, o);
+    case 18: return spokeshaver_place_kernel(out, o);
+    case 19: return spokeshaver_place_load(kernel, k, out, o);
     default: return UINT64_MAX;
     }
 }

@@ -1,7 +1,10 @@
 //! Runs of 1,000,000 steps, against both engines.
 
-use crate::measure::{in_turn, Job, Times, FIRST_ENGINE, PROVED, SECOND_ENGINE};
-use spokeshaver_reference::bench_kernels::all;
+use crate::measure::{
+    in_turn, Job, Run, Times, FIRST_ENGINE, FIRST_WITH_FLOATS, PROVED, SECOND_ENGINE,
+    SECOND_WITH_FLOATS,
+};
+use spokeshaver_reference::bench_kernels::{all, floats, BenchKernel};
 use spokeshaver_reference::calls::BUDGET_LIMIT;
 
 /// The steps of a run.
@@ -15,17 +18,22 @@ pub fn table(runs: usize) -> bool {
     println!("kernel         proved   first  second  medians   least   medians   least");
     let mut agree = true;
     for kernel in all() {
-        let name = kernel.name;
-        let job = Job { kernel, budget: STEPS, calls: 1 };
-        match in_turn(&job, [PROVED, FIRST_ENGINE, SECOND_ENGINE], runs) {
-            Some(times) => report(name, &times),
-            None => {
-                println!("{name:13} the sides differ");
-                agree = false;
-            }
-        }
+        agree &= line(kernel.name, kernel, [PROVED, FIRST_ENGINE, SECOND_ENGINE], runs);
     }
-    agree
+    // The reference works floats out in whole numbers: beside it, both engines with the machine's.
+    let sides = [PROVED, FIRST_WITH_FLOATS, SECOND_WITH_FLOATS];
+    agree & line("by machine's", floats(), sides, runs)
+}
+
+/// Prints a kernel's line and tells whether the sides agree.
+fn line(name: &str, kernel: BenchKernel, sides: [Run; 3], runs: usize) -> bool {
+    let job = Job { kernel, budget: STEPS, calls: 1 };
+    let times = in_turn(&job, sides, runs);
+    match &times {
+        Some(times) => report(name, times),
+        None => println!("{name:13} the sides differ"),
+    }
+    times.is_some()
 }
 
 /// One line of the table.

@@ -12,6 +12,9 @@ pub type Run = fn(&[u8], &[u8], u64, &mut [u8], &mut [u8]) -> u64;
 pub const PROVED: Run = archive::run;
 pub const FIRST_ENGINE: Run = calls::run;
 pub const SECOND_ENGINE: Run = calls::run_by_second_engine;
+/// The engines with the machine's own floats.
+pub const FIRST_WITH_FLOATS: Run = host::calls::run;
+pub const SECOND_WITH_FLOATS: Run = host::calls::run_by_second_engine;
 
 /// What is timed as one: calls of a run on a kernel, each going on from what the one before
 /// left, the first from the kernel's own registers and state.

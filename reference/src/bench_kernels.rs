@@ -6,8 +6,9 @@ use crate::dictionary::Dictionary;
 use crate::operations::ElementType::{self, *};
 use crate::operations::Operation::{self, *};
 use crate::packing;
+use crate::placing::RECORD_REGISTER;
 use crate::random::Random;
-use crate::regions::FILE_BYTES;
+use crate::regions::{FILE_BYTES, REGISTER_BYTES};
 use crate::rules::{read_kernel, Accepts};
 use crate::state::State;
 use crate::words::LongWord;
@@ -22,9 +23,17 @@ pub struct BenchKernel {
     pub state: Vec<u8>,
 }
 
-/// The six kernels.
+/// The seven kernels.
 pub fn all() -> Vec<BenchKernel> {
-    vec![mixed(), one_channel(), byte_types(), branch_heavy(), mixed_packed(), by_address()]
+    vec![
+        mixed(),
+        one_channel(),
+        byte_types(),
+        branch_heavy(),
+        mixed_packed(),
+        by_address(),
+        floats(),
+    ]
 }
 
 /// The instructions of the mixed loop.
@@ -87,6 +96,25 @@ pub fn by_address() -> BenchKernel {
     let state = State { a0, ..State::start(0xFFFF, 0x5A3C, 0x0FF0) };
     let bench = finish("by address", Dictionary::zero(), kernel);
     BenchKernel { state: state.to_bytes().to_vec(), ..bench }
+}
+
+/// (g) The mixed loop's length of placing tiles, three quarters of it on floats. No float grows
+/// without end: coordinates go on by a step and back to where they started.
+pub fn floats() -> BenchKernel {
+    let words = (0..199).map(float_word);
+    let kernel = kernel_of(&closed(words.collect()));
+    let mut random = Random::new(0x5EED);
+    let mut registers: Vec<u8> = (0..FILE_BYTES / 4)
+        .flat_map(|_| {
+            (random.bits(1) << 31 | (124 + random.bits(2)) << 23 | random.bits(23)).to_le_bytes()
+        })
+        .collect();
+    let record = [0.75f32, -0.5, 3.0, 0.5, 0.75, -1.25, 8.0, 0.375];
+    for (n, number) in record.iter().enumerate() {
+        let at = REGISTER_BYTES * RECORD_REGISTER + 4 * n;
+        registers[at..at + 4].copy_from_slice(&number.to_le_bytes());
+    }
+    BenchKernel { registers, ..finish("floats", Dictionary::zero(), kernel) }
 }
 
 fn is_branch(word: LongWord) -> bool {
@@ -241,6 +269,64 @@ fn address_word(number: usize) -> LongWord {
             .address_source(0, at(5), SCALAR, W)
             .address_source(1, at(11), region(16, 16, 1), W)
             .predicated(0, true),
+    }
+}
+
+/// One of twenty kinds of word, fifteen of them on floats: two coordinates as the fixed kernel has
+/// them, a cmp and a mov that keep an answer, the next tile, and four restricted floats. The record
+/// has behind its six floats how far a tile may lie, and a step. Tiles lie in r2 to r5, where they
+/// started in r14 to r17, answers from r20 on; r12 and r13 are for what is added, r18 counts.
+fn float_word(number: usize) -> LongWord {
+    let to = 20 + 4 * (number / 20) as u32;
+    let record = RECORD_REGISTER as u32;
+    let base = |operation, to| word(operation, 16).to_register(to, 0, 1, F);
+    let one = |operation, to, from| base(operation, to).register_source(0, from, 0, PACKED, F);
+    let two = |operation, to, from, other| {
+        one(operation, to, from).register_source(1, other, 0, PACKED, F)
+    };
+    let times = |to, float: u32, tiles| {
+        let made = base(Mul, to).register_source(0, record, 4 * float, SCALAR, F);
+        made.register_source(1, tiles, 0, PACKED, F)
+    };
+    let with_record =
+        |made: LongWord, float: u32| made.register_source(1, record, 4 * float, SCALAR, F);
+    match number % 20 {
+        0 => times(to, 0, 2),
+        1 => times(12, 1, 4),
+        2 => two(Add, to, to, 12),
+        3 => with_record(one(Add, to, to), 2),
+        4 => times(to + 2, 3, 2),
+        5 => times(12, 4, 4),
+        6 => two(Add, to + 2, to + 2, 12),
+        7 => with_record(one(Add, to + 2, to + 2), 5),
+        8 => with_record(one(Cmp, 0, to), 6).to_null(F).modified(0, 1).conditioned(3, 0),
+        9 => one(Mov, to, 14).modified(0, 2).predicated(0, false),
+        10 => with_record(one(Add, 2, 2), 7),
+        11 => with_record(one(Cmp, 0, 2), 6).to_null(F).conditioned(4, 1),
+        12 => one(Mov, 2, 14).predicated(1, false),
+        13 => two(Add, 4, 16, to + 2).modified(1, 2),
+        14 => word(Mul, 4)
+            .to_register(to, 0, 1, F)
+            .register_source(0, to + 2, 0, region(4, 4, 1), F)
+            // In an immediate code 5 is vf.
+            .immediate_source(1, B, 0x3038_B040),
+        15 => word(Add, 1)
+            .to_register(18, 0, 1, D)
+            .register_source(0, 18, 0, SCALAR, D)
+            .immediate_source(1, D, 1),
+        16 => word(And, 16)
+            .to_register(100, 0, 1, D)
+            .register_source(0, 18, 0, SCALAR, D)
+            .immediate_source(1, D, 15),
+        17 => word(Add, 16)
+            .to_register(102, 0, 1, D)
+            .register_source(0, 102, 0, PACKED, D)
+            .register_source(1, 100, 0, PACKED, D),
+        18 => word(Mov, 16).to_register(104, 0, 1, W).register_source(0, 102, 0, PACKED, D),
+        _ => word(Xor, 16)
+            .to_register(106, 0, 1, D)
+            .register_source(0, to, 0, PACKED, D)
+            .register_source(1, 102, 0, PACKED, D),
     }
 }
 

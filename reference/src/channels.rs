@@ -6,6 +6,7 @@
 use crate::decoded::{
     Condition, Decoded, Destination, Layout, Modifier, Origin, Predicate, Source,
 };
+use crate::floats;
 use crate::locations::A0_ELEMENTS;
 use crate::operations::{ElementType, Operation};
 use crate::regions::FILE_BYTES;
@@ -59,12 +60,17 @@ fn execute_channels<const N: usize>(
     let results = match instruction.operation {
         Operation::Sel => select(&left, &right, holding),
         Operation::Cmp => {
-            let results = compare(&left, &right, instruction.condition);
+            let results = match instruction.on_floats {
+                true => compare_floats(&left, &right, instruction.condition),
+                false => compare(&left, &right, instruction.condition),
+            };
             let bits = mask_of(&results) & enabled;
             let flag = &mut state.flags[instruction.predicate.flag];
             *flag = (*flag & !(enabled << first)) | (bits << first);
             results
         }
+        Operation::Add if instruction.on_floats => each_float(&left, &right, floats::sum),
+        Operation::Mul if instruction.on_floats => each_float(&left, &right, floats::product),
         operation => combine(operation, left, &right),
     };
     if let Some(destination) = &instruction.destination {
@@ -79,6 +85,7 @@ type A0 = [u16; A0_ELEMENTS];
 fn load<const N: usize>(registers: &Registers, a0: &A0, source: &Source) -> [i64; N] {
     let (origin, layout, element, modifier) = match source {
         Source::Immediate(value) => return [*value; N],
+        Source::Four(values) => return std::array::from_fn(|n| values[n]),
         Source::Elements { origin, layout, element, modifier } => {
             (origin, layout, element, modifier)
         }
@@ -88,8 +95,26 @@ fn load<const N: usize>(registers: &Registers, a0: &A0, source: &Source) -> [i64
         Origin::Address(address) => address.start(a0) as usize,
         Origin::A0(first) => return modified(from_a0(a0, *first as usize, layout), *modifier),
     };
-    modified(gather_typed(registers, start, layout, *element), *modifier)
+    let values = gather_typed(registers, start, layout, *element);
+    match element {
+        ElementType::F => modified_floats(values, *modifier),
+        _ => modified(values, *modifier),
+    }
 }
+
+/// A modifier of floats clears, flips or sets the sign bit.
+#[inline]
+fn modified_floats<const N: usize>(values: [i64; N], modifier: Modifier) -> [i64; N] {
+    match modifier {
+        Modifier::None => values,
+        Modifier::Absolute => values.map(|value| value & (SIGN - 1)),
+        Modifier::Negated => values.map(|value| value ^ SIGN),
+        Modifier::NegatedAbsolute => values.map(|value| value | SIGN),
+    }
+}
+
+/// The sign bit of a float.
+const SIGN: i64 = 1 << 31;
 
 #[inline]
 fn modified<const N: usize>(values: [i64; N], modifier: Modifier) -> [i64; N] {
@@ -116,7 +141,9 @@ fn gather_typed<const N: usize>(
     element: ElementType,
 ) -> [i64; N] {
     match element {
-        ElementType::Ud => gather(registers, start, layout, |it| u32::from_le_bytes(it) as i64),
+        ElementType::Ud | ElementType::F => {
+            gather(registers, start, layout, |it| u32::from_le_bytes(it) as i64)
+        }
         ElementType::D => gather(registers, start, layout, |it| i32::from_le_bytes(it) as i64),
         ElementType::Uw => gather(registers, start, layout, |it| u16::from_le_bytes(it) as i64),
         ElementType::W => gather(registers, start, layout, |it| i16::from_le_bytes(it) as i64),
@@ -274,6 +301,34 @@ fn compare<const N: usize>(left: &[i64; N], right: &[i64; N], condition: Conditi
         Condition::Less => each(left, right, |a, b| (a < b) as i64),
         Condition::LessOrEqual => each(left, right, |a, b| (a <= b) as i64),
     }
+}
+
+/// An operation on floats by their patterns.
+#[inline]
+fn each_float<const N: usize>(
+    left: &[i64; N],
+    right: &[i64; N],
+    operation: impl Fn(u32, u32) -> u32,
+) -> [i64; N] {
+    each(left, right, |a, b| operation(a as u32, b as u32) as i64)
+}
+
+/// 1 where the one float stands to the other as the condition says, else 0. A NaN is equal to
+/// none, greater than none and less than none.
+#[inline]
+fn compare_floats<const N: usize>(
+    left: &[i64; N],
+    right: &[i64; N],
+    condition: Condition,
+) -> [i64; N] {
+    let nan = |value: i64| value & (SIGN - 1) > 0x7F80_0000;
+    let ordered = |value: i64| match value & SIGN {
+        0 => value,
+        _ => SIGN - value,
+    };
+    let compared = compare(&left.map(ordered), &right.map(ordered), condition);
+    let otherwise = i64::from(condition == Condition::NotZero);
+    std::array::from_fn(|n| if nan(left[n]) || nan(right[n]) { otherwise } else { compared[n] })
 }
 
 /// The mask of the channels whose result is 1.

@@ -1,10 +1,11 @@
 //! Instructions decoded ahead of a run, with targets as instruction numbers, the end being
 //! one past the last.
 
+use crate::floats;
 use crate::locations::{Kind, Location, A0_ELEMENTS};
 use crate::operations::{ElementType, Operation};
 use crate::regions::{power_of_code, Region, FILE_BYTES, REGISTER_BYTES};
-use crate::rules::{group_size, writes, Instruction, Program};
+use crate::rules::{group_size, is_float, is_vector, writes, Instruction, Program};
 use crate::state::CHANNELS;
 use crate::words::LongWord;
 
@@ -18,6 +19,8 @@ pub struct Decoded {
     pub channels: usize,
     pub first_channel: usize,
     pub condition: Condition,
+    /// Whether the operands are floats, whose values are their patterns.
+    pub on_floats: bool,
     pub sources: [Source; 2],
     pub destination: Option<Destination>,
     /// Whether an operand lies where an element of a0 says.
@@ -79,7 +82,7 @@ fn groups(flag: u16, ones: u16, passes: impl Fn(u16) -> bool) -> u16 {
     passing.fold(0, |mask, first| mask | ones << first)
 }
 
-#[derive(Clone, Copy)]
+#[derive(Clone, Copy, PartialEq, Eq, Debug)]
 pub enum Condition {
     Zero,
     NotZero,
@@ -92,7 +95,14 @@ pub enum Condition {
 #[derive(Clone, Copy)]
 pub enum Source {
     Immediate(i64),
-    Elements { origin: Origin, layout: Layout, element: ElementType, modifier: Modifier },
+    /// A number for each channel.
+    Four([i64; 4]),
+    Elements {
+        origin: Origin,
+        layout: Layout,
+        element: ElementType,
+        modifier: Modifier,
+    },
 }
 
 /// Where an operand's first element lies.
@@ -206,6 +216,7 @@ pub fn decode(instruction: &Instruction, program: &Program) -> Decoded {
         channels: power_of_code(word.execution_size_code()).unwrap_or(1),
         first_channel: if word.quarter_control() == 1 { 8 } else { 0 },
         condition: decode_condition(word.condition_modifier()),
+        on_floats: takes_operands && is_float(&word.source(0)),
         sources: [source(0), source(1)],
         destination: if takes_operands { decode_destination(word) } else { None },
         by_address: false,
@@ -220,7 +231,7 @@ impl Decoded {
     pub fn addresses(&self) -> impl Iterator<Item = Address> {
         let of_source = |source: &Source| match source {
             Source::Elements { origin, .. } => Some(*origin),
-            Source::Immediate(_) => None,
+            Source::Immediate(_) | Source::Four(_) => None,
         };
         let [first, second] = [0, 1].map(|which| of_source(&self.sources[which]));
         let origins = [first, second, self.destination.map(|destination| destination.origin)];
@@ -263,6 +274,9 @@ fn decode_destination(word: LongWord) -> Option<Destination> {
 fn decode_source(word: LongWord, which: usize) -> Source {
     let fields = word.source(which);
     let element = ElementType::from_code(fields.type_code).expect("judged");
+    if is_vector(&fields) {
+        return Source::Four(floats::restricted_four(word.immediate()).map(i64::from));
+    }
     if fields.location().kind() == Kind::Immediate {
         return Source::Immediate(immediate_value(word.immediate(), element));
     }
@@ -296,7 +310,7 @@ fn origin_of(word: LongWord, region: &Region, location: Location) -> Origin {
 
 fn immediate_value(number: u32, element: ElementType) -> i64 {
     match element {
-        ElementType::Ud => number as i64,
+        ElementType::Ud | ElementType::F => number as i64,
         ElementType::D => number as i32 as i64,
         ElementType::Uw => number as u16 as i64,
         ElementType::W => number as i16 as i64,

@@ -7,30 +7,35 @@ mod addresses;
 mod cases;
 mod damage;
 mod dictionaries;
+mod floats;
 mod instructions;
 mod kernels;
 mod listings;
 mod logs;
+mod makers;
 mod pairs;
+mod placements;
 mod states;
 
 use crate::answers::Answer;
 use crate::calls;
 use crate::log;
+use crate::placing;
 use std::collections::BTreeSet;
 
 pub use cases::case;
+pub use floats::pattern;
 pub use listings::every_listing_case;
 pub use logs::every_log_case;
 
 /// How many calls there are. So many seeds in a row give each of them once.
-pub const CALLS: u64 = 17;
+pub const CALLS: u64 = 20;
 
 /// One call with all its inputs. Vectors that the call may write are lent as they stand here.
 #[derive(Clone, PartialEq, Eq, Debug)]
 pub struct Case {
     pub seed: u64,
-    /// Empty for start and for logs, which have none.
+    /// Empty for start, for logs and for placements, which have none.
     pub dictionary: Vec<u8>,
     pub call: Call,
 }
@@ -55,6 +60,9 @@ pub enum Call {
     LogRun { log: Vec<u8>, count: u64, answer: u64, state: Vec<u8> },
     List { kernel: Vec<u8>, out: Vec<u8> },
     Read { text: Vec<u8>, out: Vec<u8> },
+    Place { order: u64, record: Vec<u8>, x: u32, y: u32, out: Vec<u8> },
+    PlaceKernel { out: Vec<u8> },
+    PlaceLoad { record: Vec<u8>, registers: Vec<u8> },
 }
 
 impl Call {
@@ -77,6 +85,9 @@ impl Call {
             Call::LogRun { .. } => "log_run",
             Call::List { .. } => "list",
             Call::Read { .. } => "read",
+            Call::Place { .. } => "place",
+            Call::PlaceKernel { .. } => "place_kernel",
+            Call::PlaceLoad { .. } => "place_load",
         }
     }
 }
@@ -125,6 +136,9 @@ impl Bench for Reference {
             Call::LogRun { count, answer, .. } => log::log_run(out, *count, *answer, state),
             Call::List { kernel, .. } => calls::list(dictionary, kernel, out),
             Call::Read { text, .. } => calls::read(dictionary, text, out),
+            Call::Place { order, record, x, y, .. } => placing::place(*order, record, *x, *y, out),
+            Call::PlaceKernel { .. } => placing::place_kernel(out),
+            Call::PlaceLoad { record, .. } => placing::place_load(record, registers),
         }
     }
 }
@@ -144,6 +158,8 @@ pub fn lent(case: &Case) -> Outcome {
         | Call::Unpack { out, .. }
         | Call::List { out, .. }
         | Call::Read { out, .. }
+        | Call::Place { out, .. }
+        | Call::PlaceKernel { out }
         | Call::Shorten { out, .. }
         | Call::Expand { out, .. } => before.out = out.clone(),
         // Nothing is written there: it must stay as it is.
@@ -157,6 +173,7 @@ pub fn lent(case: &Case) -> Outcome {
             before.state = state.clone();
         }
         Call::Start { state, .. } => before.state = state.clone(),
+        Call::PlaceLoad { registers, .. } => before.registers = registers.clone(),
         Call::Step { registers, state, .. } | Call::Run { registers, state, .. } => {
             before.registers = registers.clone();
             before.state = state.clone();
@@ -191,7 +208,9 @@ pub fn possible(name: &str) -> BTreeSet<u8> {
         "shorten" => [0, 1, 2, 4, 5, 13, 14].into(),
         "expand" => [0, 1, 2, 4, 5, 14].into(),
         "decode" => (0..=11).collect(),
-        "start" => [0, 1].into(),
+        "start" | "place_load" => [0, 1].into(),
+        "place" => [0, 1, 7, 14].into(),
+        "place_kernel" => [0, 14].into(),
         "step" => with(&[0, 15, 17, 20, 22]),
         "pair" => with(&[0, 17, 31]),
         "log_read" | "log_runs" => [0, 1, 32].into(),

@@ -1,10 +1,11 @@
 //! One step, told as plainly as the paper tells it (paper: "Operations" and "How the road
 //! forks"). The run in `engine` does the same work in a quicker way.
 
+use crate::floats;
 use crate::locations::{Kind, Location, A0_ELEMENTS};
 use crate::operations::{ElementType, Operation};
 use crate::regions::{power_of_code, Region, FILE_BYTES, REGISTER_BYTES};
-use crate::rules::{group_size, writes, Instruction, Program};
+use crate::rules::{group_size, is_float, is_vector, writes, Instruction, Program};
 use crate::state::{State, CHANNELS};
 use crate::words::LongWord;
 
@@ -219,6 +220,10 @@ fn element_result(
         2 => source_value(word, 1, registers, a0, n),
         _ => 0,
     };
+    if is_float(&word.source(0)) {
+        let condition = word.condition_modifier();
+        return float_result(instruction.operation, condition, first as u32, second as u32) as i128;
+    }
     match instruction.operation {
         Operation::Mov => first,
         Operation::Sel => {
@@ -230,6 +235,17 @@ fn element_result(
         }
         Operation::Cmp => compare(first - second, word.condition_modifier()) as i128,
         operation => combine(operation, first, second),
+    }
+}
+
+/// The result of an operation on two floats: a float, and of cmp the whole number 1 or 0.
+fn float_result(operation: Operation, condition: u32, first: u32, second: u32) -> u32 {
+    match operation {
+        Operation::Mov => first,
+        Operation::Add => floats::sum(first, second),
+        Operation::Mul => floats::product(first, second),
+        Operation::Cmp => floats::compare(condition, first, second) as u32,
+        other => unreachable!("{other:?} takes no floats"),
     }
 }
 
@@ -264,11 +280,15 @@ fn compare(difference: i128, condition: u32) -> bool {
     }
 }
 
-/// The value of a source for channel n, its modifier applied. Of a0 the type is uw.
+/// The value of a source for channel n, its modifier applied. Of a0 the type is uw. A float's value
+/// is its pattern.
 fn source_value(word: LongWord, which: usize, registers: &[u8], a0: &A0, n: usize) -> i128 {
     let fields = word.source(which);
     let element = ElementType::from_code(fields.type_code).expect("judged");
     let kind = fields.location().kind();
+    if is_vector(&fields) {
+        return floats::restricted_four(word.immediate())[n] as i128;
+    }
     if kind == Kind::Immediate {
         return value_of_bytes(&word.immediate().to_le_bytes(), element);
     }
@@ -278,6 +298,7 @@ fn source_value(word: LongWord, which: usize, registers: &[u8], a0: &A0, n: usiz
         _ => value_of_bytes(&registers[start..], element),
     };
     match fields.modifier {
+        modifier if is_float(&fields) => floats::modified(modifier, value as u32) as i128,
         0 => value,
         1 => value.abs(),
         2 => -value,

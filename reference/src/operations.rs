@@ -99,6 +99,11 @@ impl Operation {
         matches!(self, Shr | Shl | Asr)
     }
 
+    /// Whether floats are served on it.
+    pub fn takes_floats(self) -> bool {
+        matches!(self, Mov | Add | Mul | Cmp)
+    }
+
     pub fn may_saturate(self) -> bool {
         matches!(self, Mov | Sel | Add | Mul | Avg)
     }
@@ -114,7 +119,7 @@ impl Operation {
     }
 }
 
-/// The element types.
+/// The element types. A float stands for its pattern, an unsigned whole number.
 #[derive(Clone, Copy, PartialEq, Eq, Debug)]
 pub enum ElementType {
     Ud,
@@ -123,16 +128,25 @@ pub enum ElementType {
     W,
     Ub,
     B,
+    F = 7,
 }
 
 use ElementType::*;
 
-/// The types in the order of their codes.
+/// The types of whole numbers in the order of their codes.
 pub const TYPES: [ElementType; 6] = [Ud, D, Uw, W, Ub, B];
+
+/// The code of floats.
+pub const TYPE_F: u32 = 7;
+/// The code of four restricted floats, which only an immediate may be.
+pub const TYPE_VF: u32 = 5;
 
 impl ElementType {
     pub fn from_code(code: u32) -> Option<ElementType> {
-        TYPES.get(code as usize).copied()
+        match code {
+            TYPE_F => Some(F),
+            _ => TYPES.get(code as usize).copied(),
+        }
     }
 
     pub fn code(self) -> u32 {
@@ -142,7 +156,7 @@ impl ElementType {
     /// Size of an element in bytes.
     pub fn size(self) -> usize {
         match self {
-            Ud | D => 4,
+            Ud | D | F => 4,
             Uw | W => 2,
             Ub | B => 1,
         }
@@ -153,7 +167,7 @@ impl ElementType {
     }
 
     pub fn is_dword(self) -> bool {
-        self.size() == 4
+        matches!(self, Ud | D)
     }
 
     pub fn is_word(self) -> bool {

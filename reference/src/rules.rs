@@ -3,7 +3,7 @@
 use crate::answers::Refusal;
 use crate::dictionary::Dictionary;
 use crate::locations::Kind;
-use crate::operations::{ElementType, Operation};
+use crate::operations::{ElementType, Operation, TYPE_F, TYPE_VF};
 use crate::regions::{power_of_code, Region};
 use crate::words::{expand, is_short, LongWord, ShortWord, SourceFields, FILE_IMMEDIATE};
 
@@ -260,6 +260,7 @@ fn operands_are_served(word: LongWord, operation: Operation) -> bool {
     destination_is_served(word)
         && sources(word, operation).all(|fields| source_is_served(&fields))
         && a0_is_served(word, operation)
+        && floats_are_served(word, operation)
 }
 
 fn destination_is_served(word: LongWord) -> bool {
@@ -271,7 +272,7 @@ fn destination_is_served(word: LongWord) -> bool {
 
 fn source_is_served(source: &SourceFields) -> bool {
     match source.location().kind() {
-        Kind::Immediate => source.type_code <= 3,
+        Kind::Immediate => matches!(source.type_code, 0..=3 | TYPE_VF | TYPE_F),
         kind => kind.has_region() && ElementType::from_code(source.type_code).is_some(),
     }
 }
@@ -287,6 +288,38 @@ fn a0_is_served(word: LongWord, operation: Operation) -> bool {
     !has_a0 || (operation == Operation::Mov && are_uw)
 }
 
+/// Whether a source is of type f. vf counts as f.
+pub fn is_float(source: &SourceFields) -> bool {
+    source.type_code == TYPE_F || is_vector(source)
+}
+
+/// Whether a source is an immediate of four restricted floats.
+pub fn is_vector(source: &SourceFields) -> bool {
+    source.file == FILE_IMMEDIATE && source.type_code == TYPE_VF
+}
+
+/// Whether each operand is a float, a null destination by its type.
+fn float_operands(word: LongWord, operation: Operation) -> Vec<bool> {
+    let destination = word.destination().type_code == TYPE_F;
+    let sources = sources(word, operation).map(|fields| is_float(&fields));
+    sources.chain([destination]).collect()
+}
+
+/// Rule 7, floats: only on mov, add, mul and cmp, and without Saturate.
+fn floats_are_served(word: LongWord, operation: Operation) -> bool {
+    let has_float = float_operands(word, operation).contains(&true);
+    !has_float || (operation.takes_floats() && word.saturate() == 0)
+}
+
+/// Rule 8, floats: all operands or none, and four restricted floats for at most four channels.
+fn floats_obey(word: LongWord, operation: Operation) -> bool {
+    let floats = float_operands(word, operation);
+    let is_mixed = floats.contains(&true) && floats.contains(&false);
+    let has_vector = sources(word, operation).any(|fields| is_vector(&fields));
+    let size = power_of_code(word.execution_size_code()).unwrap_or(1);
+    !is_mixed && (!has_vector || size <= 4)
+}
+
 /// The sources that an operation reads.
 fn sources(word: LongWord, operation: Operation) -> impl Iterator<Item = SourceFields> {
     (0..operation.source_count()).map(move |which| word.source(which))
@@ -297,6 +330,7 @@ fn operands_obey(word: LongWord, operation: Operation) -> bool {
     immediates_obey(word, operation)
         && modifiers_obey(word, operation)
         && types_obey(word, operation)
+        && floats_obey(word, operation)
         && (operation != Operation::Sel || word.predicate_control() != 0)
 }
 

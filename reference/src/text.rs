@@ -15,6 +15,7 @@ mod attributes;
 mod disassemble;
 mod faults;
 mod fields;
+mod floats;
 mod instructions;
 mod laying;
 mod lines;

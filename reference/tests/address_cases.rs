@@ -17,7 +17,7 @@ const ROUNDS: u64 = 16_000;
 
 /// The cases of one call in the rounds of seeds that have addresses.
 fn cases(number: u64) -> impl Iterator<Item = Case> {
-    (3..ROUNDS).step_by(4).map(move |round| case(round * CALLS + number))
+    (3..ROUNDS).step_by(5).map(move |round| case(round * CALLS + number))
 }
 
 /// An operand of an instruction: its name, what it is, and its region as the word has it.

@@ -76,7 +76,7 @@ struct Trips {
 fn trips() -> &'static Trips {
     static MADE: OnceLock<Trips> = OnceLock::new();
     MADE.get_or_init(|| {
-        let kernels = accepted(6_000);
+        let kernels = accepted(7_500);
         let mut words = HashSet::new();
         for (dictionary, kernel) in &kernels {
             add_words(&mut words, &round_trip(dictionary, kernel));
@@ -114,7 +114,7 @@ fn notations() -> Vec<String> {
     let operations =
         "mov sel not and or xor shr shl asr cmp.z cmp.nz cmp.g cmp.ge cmp.l cmp.le add \
         mul avg nop jmpi if else endif while break cont mov.sat sel.sat add.sat mul.sat avg.sat";
-    let types = ":ud :d :uw :w :ub :b null:ud null:b null";
+    let types = ":ud :d :uw :w :ub :b :f null:ud null:b null:f null inf:f -0.0:f 7fc00000:f";
     let flags = "f0.0 f0.1 -f0.0 -f0.1 f0.0.any2h f0.1.all2h -f0.0.any4h -f0.1.all4h f0.0.any8h \
         f0.0.all8h -f0.0.any16h -f0.1.all16h";
     let operands = "r0 r127 |r2 -r2 -|r2 r2.1 -r2.31 a0.0 a0.7 0:ud 1:d -1:d -32768:w 65535:uw \

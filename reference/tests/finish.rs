@@ -161,7 +161,10 @@ fn origin(word: LongWord, a0: &[u16; 8]) -> usize {
 
 /// The channel of a word, counted with its quarter, whose destination element has a byte.
 fn writer(word: LongWord, a0: &[u16; 8], byte: usize) -> Option<u32> {
-    let size = 4 >> (word.field(36, 34) / 2);
+    let size = match word.field(36, 34) {
+        7 => 4,
+        code => 4 >> (code / 2),
+    };
     let stride = [0, 1, 2, 4][word.field(62, 61) as usize];
     let origin = origin(word, a0);
     let found = (0..1u32 << word.execution_size_code()).find(|&channel| {

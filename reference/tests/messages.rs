@@ -25,7 +25,7 @@ fn numbers_have_their_true_limits() {
     says("mov(8) r4<1>:w 0x8000:w", &["immediate 0x8000 does not fit w, -32768 to 32767"]);
     says("mov(8) r4<1>:w -0x1:uw", &["immediate -0x1 does not fit uw, 0 to 65535"]);
     says("mov(8) r4<1>:d 1:d {DepCtrl=4}", &["DepCtrl 4 does not fit: the last is 3"]);
-    says("mov(8) r4<1>:d 1:b", &["unknown type of a number `b`: there are ud, d, uw, w"]);
+    says("mov(8) r4<1>:d 1:b", &["unknown type of a number `b`: there are ud, d, uw, w, f, vf"]);
 }
 
 #[test]
@@ -57,7 +57,7 @@ fn misspelt_names() {
 
 #[test]
 fn names_that_are_near_to_none() {
-    says("mov(8) r4<1>:f 1:d", &["unknown type `f`: there are ud, d, uw, w, ub, b"]);
+    says("mov(8) r4<1>:q 1:d", &["unknown type `q`: there are ud, d, uw, w, ub, b, f"]);
     says(
         "cmp.eq(8) f0.0 null:d r2<8;8,1>:d 1:d",
         &["unknown suffix `eq`: there are sat, z, nz, g, ge, l, le"],
@@ -150,7 +150,7 @@ fn all_faults_come() {
         (3, "channel count 3 has no code: there are 1, 2, 4, 8, 16"),
         (3, "register 300 does not fit: the last is r127"),
         (3, "subregister 9 does not fit: the last is 7"),
-        (3, "unknown type of a number `q`: there are ud, d, uw, w"),
+        (3, "unknown type of a number `q`: there are ud, d, uw, w, f, vf"),
         (3, "unknown field `Dep`"),
         (4, "f0.3 is no flag: f0.0 or f0.1"),
         (4, "unknown suffix `zz`; do you mean `z`?"),

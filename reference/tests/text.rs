@@ -142,11 +142,18 @@ fn strides_of_null() {
 
 #[test]
 fn types() {
-    for (code, element) in (0..).zip(["ud", "d", "uw", "w", "ub", "b"]) {
+    let codes = [0, 1, 2, 3, 4, 5, 7];
+    for (code, element) in codes.into_iter().zip(["ud", "d", "uw", "w", "ub", "b", "f"]) {
         let line = format!("add(4) r4<1>:{element} r2<4;4,1>:{element} r2<4;4,1>:{element}");
         assert_eq!(fields(&line, [(36, 34), (41, 39), (46, 44)]), [code; 3]);
     }
-    let unknown = ["mov(8) r4<1>:f 1:d", "mov(8) r4<1>:D 1:d", "mov(8) null: 1:d"];
+    assert_eq!(
+        fields("mov(4) r4<1>:f 1.5:f", [(36, 34), (41, 39), (127, 96)]),
+        [7, 7, 0x3FC0_0000]
+    );
+    let four = "mov(4) r4<1>:f 1/0.5/-2/0:vf";
+    assert_eq!(fields(four, [(36, 34), (41, 39), (127, 96)]), [7, 5, 0x00C0_2030]);
+    let unknown = ["mov(8) r4<1>:q 1:d", "mov(8) r4<1>:D 1:d", "mov(8) null: 1:d"];
     all_refused(&unknown, &["unknown type"]);
     all_refused(&["mov(8) r4<1>:d 1:q", "mov(8) r4<1>:d r2<8;8,1>:d:d"], &["unknown type"]);
     all_refused(&["mov(8) r4<1> 1:d", "mov(8) r4<1>:d 1"], &["has no type"]);

@@ -7,4 +7,5 @@ pub mod Kernels
 pub mod Calls
 pub mod Logs
 pub mod Listings
+pub mod Placings
 pub mod OneAnswer

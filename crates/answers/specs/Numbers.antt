@@ -67,3 +67,15 @@ listNumbers n = unpackNumbers n
 -- Read: 0, 1, 2, 14 or 30.
 abbrev pub readNumbers : ℕ → Bool
 readNumbers n = eqb n 0 || (eqb n 1 || (eqb n 2 || (eqb n 14 || eqb n 30)))
+
+-- Place: 0, 1, 7 or 14.
+abbrev pub placeNumbers : ℕ → Bool
+placeNumbers n = eqb n 0 || (eqb n 1 || (eqb n 7 || eqb n 14))
+
+-- The fixed kernel: 0 or 14.
+abbrev pub placeKernelNumbers : ℕ → Bool
+placeKernelNumbers n = eqb n 0 || eqb n 14
+
+-- A record loaded for it: 0 or 1.
+abbrev pub placeLoadNumbers : ℕ → Bool
+placeLoadNumbers n = startNumbers n

@@ -6,6 +6,7 @@ use Prim.Native.Nat.{ℕ}
 use Rattle.paper.specs.Calls.{checkCall, forwardCall, packCall, unpackCall, pairCall, shortenCall, expandCall, decodeCall, startCall, stepCall, runCall}
 use Rattle.paper.specs.Log.{Entry, logReadCall, logRunsCall, logAppendCall, logRunCall}
 use Rattle.paper.specs.Listing.{listCall, readCall}
+use Rattle.paper.specs.Placing.{Point, placeCall, placeKernelCall, placeLoadCall}
 use Rattle.words.specs.declared.answer.Answer.{Answer}
 use Rattle.words.specs.Answer.{answerIs, Wrote, Left, one-answer, one-written, one-changed}
 
@@ -45,6 +46,11 @@ pub record OneAnswer : Type 0 where
       → Wrote (listCall dictionary kernel out) r out′ → Wrote (listCall dictionary kernel out) s out″ → (r ≡ s) × (out′ ≡ out″)
   pub read : (dictionary text out : List ℕ) (r s : Answer) (out′ out″ : List ℕ)
       → Wrote (readCall dictionary text out) r out′ → Wrote (readCall dictionary text out) s out″ → (r ≡ s) × (out′ ≡ out″)
+  pub place : (order : ℕ) (six : List ℕ) (at : Point) (out : List ℕ) (r s : Answer) (out′ out″ : List ℕ)
+      → Wrote (placeCall order six at out) r out′ → Wrote (placeCall order six at out) s out″ → (r ≡ s) × (out′ ≡ out″)
+  pub placeKernel : (out : List ℕ) (r s : Answer) (out′ out″ : List ℕ) → Wrote (placeKernelCall out) r out′ → Wrote (placeKernelCall out) s out″ → (r ≡ s) × (out′ ≡ out″)
+  pub placeLoad : (six registers : List ℕ) (r s : Answer) (registers′ registers″ : List ℕ)
+      → Wrote (placeLoadCall six registers) r registers′ → Wrote (placeLoadCall six registers) s registers″ → (r ≡ s) × (registers′ ≡ registers″)
 
 pub one-outcome : OneAnswer
 one-outcome =
@@ -66,4 +72,7 @@ one-outcome =
       logRun = λ log count answer state. one-written (logRunCall log count answer state);
       list = λ dictionary kernel out. one-written (listCall dictionary kernel out);
       read = λ dictionary text out. one-written (readCall dictionary text out);
+      place = λ order six at out. one-written (placeCall order six at out);
+      placeKernel = λ out. one-written (placeKernelCall out);
+      placeLoad = λ six registers. one-written (placeLoadCall six registers);
     }

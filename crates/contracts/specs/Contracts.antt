@@ -6,6 +6,7 @@ use mathlib.Core.List.{List}
 use Prim.Native.Nat.{ℕ, _/_, _%_, _^_}
 use Rattle.paper.specs.Log.{entry, logReadCall, logRunsCall, logAppendCall, logRunCall}
 use Rattle.paper.specs.Listing.{listCall, readCall}
+use Rattle.paper.specs.Placing.{placeCall, placeKernelCall, placeLoadCall}
 use Rattle.paper.specs.Calls.{asNumber, Written, Changed, checkCall, forwardCall, packCall, unpackCall, pairCall, shortenCall, expandCall, decodeCall, startCall, stepCall, runCall}
 
 -- ---- an answer taken apart, as the header's macros do
@@ -85,3 +86,12 @@ ListPromise dictionary kernel out r out′ = Wrote (listCall dictionary kernel o
 
 abbrev pub ReadPromise : List ℕ → List ℕ → List ℕ → ℕ → List ℕ → Type 0
 ReadPromise dictionary text out r out′ = Wrote (readCall dictionary text out) r out′
+
+abbrev pub PlacePromise : ℕ → List ℕ → ℕ → ℕ → List ℕ → ℕ → List ℕ → Type 0
+PlacePromise order six x y out r out′ = Wrote (placeCall order six (record { x = x; y = y }) out) r out′
+
+abbrev pub PlaceKernelPromise : List ℕ → ℕ → List ℕ → Type 0
+PlaceKernelPromise out r out′ = Wrote (placeKernelCall out) r out′
+
+abbrev pub PlaceLoadPromise : List ℕ → List ℕ → ℕ → List ℕ → Type 0
+PlaceLoadPromise six registers r registers′ = Wrote (placeLoadCall six registers) r registers′

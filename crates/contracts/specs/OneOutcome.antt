@@ -6,6 +6,7 @@ use Prim.Native.Nat.{ℕ}
 use Rattle.contracts.specs.Contracts.{CheckPromise, ForwardPromise, PackPromise, UnpackPromise, PairPromise, ShortenPromise, ExpandPromise}
 use Rattle.contracts.specs.Contracts.{DecodePromise, StartPromise, StepPromise, RunPromise}
 use Rattle.contracts.specs.Contracts.{LogAppendPromise, LogReadPromise, LogRunsPromise, LogRunPromise, ListPromise, ReadPromise}
+use Rattle.contracts.specs.Contracts.{PlacePromise, PlaceKernelPromise, PlaceLoadPromise}
 
 -- The contract of each call admits one outcome only: one answer, and one final content of each buffer that is lent for writing.
 pub record OneOutcome : Type 0 where
@@ -39,3 +40,8 @@ pub record OneOutcome : Type 0 where
       → ListPromise dictionary kernel out r out′ → ListPromise dictionary kernel out s out″ → (r ≡ s) × (out′ ≡ out″)
   pub read : (dictionary text out : List ℕ) (r s : ℕ) (out′ out″ : List ℕ)
       → ReadPromise dictionary text out r out′ → ReadPromise dictionary text out s out″ → (r ≡ s) × (out′ ≡ out″)
+  pub place : (order : ℕ) (six : List ℕ) (x y : ℕ) (out : List ℕ) (r s : ℕ) (out′ out″ : List ℕ)
+      → PlacePromise order six x y out r out′ → PlacePromise order six x y out s out″ → (r ≡ s) × (out′ ≡ out″)
+  pub placeKernel : (out : List ℕ) (r s : ℕ) (out′ out″ : List ℕ) → PlaceKernelPromise out r out′ → PlaceKernelPromise out s out″ → (r ≡ s) × (out′ ≡ out″)
+  pub placeLoad : (six registers : List ℕ) (r s : ℕ) (registers′ registers″ : List ℕ)
+      → PlaceLoadPromise six registers r registers′ → PlaceLoadPromise six registers s registers″ → (r ≡ s) × (registers′ ≡ registers″)

@@ -4,6 +4,7 @@ use mathlib.Core.Path.{_≡_, sym, _∙_}
 use Prim.Native.Nat.{ℕ}
 use Rattle.paper.specs.Log.{entry, logAppendCall, logRunCall}
 use Rattle.paper.specs.Listing.{listCall, readCall}
+use Rattle.paper.specs.Placing.{placeCall, placeKernelCall, placeLoadCall}
 use Rattle.paper.specs.Calls.{Written, Changed, packCall, unpackCall, shortenCall, expandCall, startCall, stepCall, runCall}
 use Rattle.contracts.specs.Contracts.{Wrote, Left}
 use Rattle.contracts.specs.OneOutcome.{OneOutcome}
@@ -36,4 +37,7 @@ one-outcome =
       logRun = λ log count answer state. one-written (logRunCall log count answer state);
       list = λ dictionary kernel out. one-written (listCall dictionary kernel out);
       read = λ dictionary text out. one-written (readCall dictionary text out);
+      place = λ order six x y out. one-written (placeCall order six (record { x = x; y = y }) out);
+      placeKernel = λ out. one-written (placeKernelCall out);
+      placeLoad = λ six registers. one-written (placeLoadCall six registers);
     }

@@ -8,9 +8,9 @@ use lib.Dec.{ltb, leb}
 use lib.IntN.{ℤ, pos, negℤ, subℕ}
 use lib.Pow.{pow-mono, pow-pos}
 use lib.Bits.{bitXor, xor-zero-r, xor-comm, xor-shifted, xor-block}
-use borrow.Author.Tests.{eq-eqb, ne-eqb, leb-true, leb-false}
-use Rattle.paper.specs.Value.{width, IsType, isSigned, value, least, greatest, clampTo}
-use Rattle.laws.specs.Values.{by-type}
+use borrow.Author.Tests.{lt-ltb, eq-eqb, ne-eqb, leb-true, leb-false}
+use Rattle.paper.specs.Value.{width, isSigned, value, least, greatest, clampTo}
+use Rattle.laws.specs.Values.{IsWhole, whole-type, by-type}
 use Rattle.laws.specs.Differences.{is-pos, sub-eq, neg-of}
 use Rattle.element.specs.Biased.{ex, Near, signBit}
 use Rattle.element.specs.Operands.{width-most}
@@ -27,7 +27,11 @@ half-most t = pow-mono {i = width t - 1} {j = 31} (omega (arith, width-most t))
 
 pub sign-none : (t : ℕ) → (t % 2 ≡ 1 → ⊥) → 0 ≡ signBit t
 unfolding signBit
-sign-none t o = simp (ne-eqb (t % 2) 1 o)
+sign-none t o = simp (ne-eqb (t % 2) 1 o) (pick (ltb t 6))
+  where
+    pick : (b : Bool) → 0 ≡ cond (b && false) (half t) 0
+    pick true = refl
+    pick false = refl
 
 -- A sign bit is half the patterns at most.
 pub sign-half : (t : ℕ) → signBit t ≤ half t
@@ -41,14 +45,17 @@ sign-half t = pick (isSigned t)
 pub sign-most : (t : ℕ) → signBit t ≤ 2 ^ 31
 sign-most t = omega (arith, sign-half t, half-most t)
 
-module _ (t : ℕ) (is : IsType t) where
+module _ (t : ℕ) (is : IsWhole t) where
   width-half : 2 * half t ≡ 2 ^ width t
-  width-half = by-type (λ size bits. 2 * 2 ^ (bits - 1) ≡ 2 ^ bits) refl refl refl t is
+  width-half = by-type (λ size bits. 2 * 2 ^ (bits - 1) ≡ 2 ^ bits) refl refl refl t (whole-type t is)
 
   -- A signed type's sign bit, from the pattern with every bit set.
   pub sign-some : t % 2 ≡ 1 → (2 ^ width t - 1) / 2 + 1 ≡ signBit t
   unfolding signBit
-  sign-some o = simp (eq-eqb (t % 2) 1 o) (omega (arith, width-half, pow-pos (width t - 1)))
+  sign-some o =
+      let signed : isSigned t ≡ true = rw (lt-ltb t 6 is) (eq-eqb (t % 2) 1 o) in
+      let bit : cond (isSigned t) (half t) 0 ≡ half t = ap (λ (b : Bool). cond b (half t) 0) signed in
+      omega (arith, width-half, pow-pos (width t - 1), bit)
 
   pub sign-ones : signBit t ≤ 2 ^ width t - 1
   sign-ones = omega (arith, sign-half t, width-half, pow-pos (width t - 1))
@@ -115,7 +122,7 @@ loads-signed k n s u = pick (leb (2 ^ k) n) refl
     pick true e = loads-high k n s (leb-true (2 ^ k) n e) u
     pick false e = loads-low k n s (leb-false (2 ^ k) n e)
 
-loads : (t n : ℕ) → IsType t → n < 2 ^ width t → Loads n (signBit t) (2 ^ width t) (value t n)
+loads : (t n : ℕ) → IsWhole t → n < 2 ^ width t → Loads n (signBit t) (2 ^ width t) (value t n)
 unfolding signBit value
 loads t n is h = pick (isSigned t)
   where
@@ -124,13 +131,13 @@ loads t n is h = pick (isSigned t)
     pick false = loads-plain n (2 ^ width t) h
 
 -- The value of a pattern.
-pub ex-load : (t n : ℕ) → IsType t → n < 2 ^ width t → ex (loaded n (signBit t)) ≡ value t n
+pub ex-load : (t n : ℕ) → IsWhole t → n < 2 ^ width t → ex (loaded n (signBit t)) ≡ value t n
 ex-load t n is h = loads t n is h .is
 
-pub load-near : (t n : ℕ) → IsType t → n < 2 ^ width t → Near (width t) (loaded n (signBit t))
+pub load-near : (t n : ℕ) → IsWhole t → n < 2 ^ width t → Near (width t) (loaded n (signBit t))
 load-near t n is h = record { above = loads t n is h .above; below = loads t n is h .below }
 
-pub load-fits : (t n : ℕ) → IsType t → n < 2 ^ width t → loaded n (signBit t) < 2 ^ 64
+pub load-fits : (t n : ℕ) → IsWhole t → n < 2 ^ width t → loaded n (signBit t) < 2 ^ 64
 load-fits t n is h = omega (arith, loads t n is h .below, ones-most t is)
 
 -- ---- clamping
@@ -144,7 +151,7 @@ ex-least t = pick (isSigned t)
     pick true = neg-of (half t) (2 ^ 63 - half t) (2 ^ 63) (omega (arith, half-most t))
     pick false = sym (is-pos (2 ^ 63 - 0) (2 ^ 63) 0 (omega arith))
 
-ex-greatest : (t : ℕ) → IsType t → greatest t ≡ ex (2 ^ 63 + (2 ^ width t - 1 - signBit t))
+ex-greatest : (t : ℕ) → IsWhole t → greatest t ≡ ex (2 ^ 63 + (2 ^ width t - 1 - signBit t))
 unfolding greatest signBit
 ex-greatest t is = pick (isSigned t)
   where
@@ -162,6 +169,6 @@ ex-kept t v l u p q =
     ex-cond (ltb v l) l (cond (ltb u v) u v) ∙ ap (cond (ltb v l) (ex l)) (ex-cond (ltb u v) u v)
     ∙ rw (p, q) (sym (ap₂ (λ (b c : Bool). cond b (ex l) (cond c (ex u) (ex v))) (ex-lt v l) (ex-lt u v)))
 
-pub ex-clamp : (t v : ℕ) → IsType t → ex (kept v (2 ^ 63 - signBit t) (2 ^ 63 + (2 ^ width t - 1 - signBit t))) ≡ clampTo t (ex v)
+pub ex-clamp : (t v : ℕ) → IsWhole t → ex (kept v (2 ^ 63 - signBit t) (2 ^ 63 + (2 ^ width t - 1 - signBit t))) ≡ clampTo t (ex v)
 ex-clamp t v is =
     ex-kept t v (2 ^ 63 - signBit t) (2 ^ 63 + (2 ^ width t - 1 - signBit t)) (ex-least t) (ex-greatest t is)

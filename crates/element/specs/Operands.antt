@@ -6,12 +6,12 @@ use Prim.Native.Nat.{ℕ, _*_, _≤_}
 use native.Mathlib.Omega.{arith}
 use lib.Dec.{ltb, lit≤}
 use lib.IntN.{ℤ}
-use borrow.Author.Tests.{le-ltb}
+use borrow.Author.Tests.{lt-ltb, le-ltb}
 use Rattle.paper.specs.Operation as paper
 use Rattle.paper.specs.Word.{Source, src0, src1}
 use Rattle.paper.specs.Value.{width, modified}
 use Rattle.paper.specs.Element.{result}
-use Rattle.laws.specs.Values.{by-code}
+use Rattle.laws.specs.Values.{IsWhole, by-code}
 use Rattle.words.specs.Operations.{plainIs}
 use Rattle.words.specs.declared.operation.Plain.{Plain}
 use Rattle.element.specs.Biased.{Near}
@@ -27,13 +27,12 @@ pub width-most : (t : ℕ) → width t ≤ 32
 width-most = by-code (λ size bits. bits ≤ 32) (lit≤ tt) (lit≤ tt) (lit≤ tt) (lit≤ tt)
 
 -- A word or a byte has 16 at most.
-pub width-short : (t : ℕ) → 2 ≤ t → width t ≤ 16
-width-short t h = rw (le-ltb t 2 h) (pick (ltb t 4) (ltb t 6))
+pub width-short : (t : ℕ) → 2 ≤ t → IsWhole t → width t ≤ 16
+width-short t h is = rw (le-ltb t 2 h, lt-ltb t 6 is) (pick (ltb t 4))
   where
-    pick : (q r : Bool) → 8 * cond q 2 (cond r 1 0) ≤ 16
-    pick true r = lit≤ tt
-    pick false true = lit≤ tt
-    pick false false = lit≤ tt
+    pick : (q : Bool) → 8 * cond q 2 1 ≤ 16
+    pick true = lit≤ tt
+    pick false = lit≤ tt
 
 -- No modifier changes nothing: so an immediate is read with modifier 0.
 pub modified-none : (v : ℤ) → modified 0 v ≡ v

@@ -1,19 +1,20 @@
 -- What cmp finds, as a mask taken from its results: channel k's bit is the lowest of what the channel stores. Assumes nothing.
 use mathlib.Core.Path.{_≡_, refl, sym, ap, _∙_, subst}
-use mathlib.Core.Bool.{Bool, true, false}
+use mathlib.Core.Bool.{Bool, true, false, cond}
 use mathlib.Core.List.{List}
 use Prim.Native.Nat.{ℕ, _+_, _-_, _*_, _%_, _^_, _≤_, _<_}
 use native.Mathlib.Omega.{arith}
 use native.Mathlib.Nat.{mul-le-mul-right, mod-eq-of-lt}
 use native.Mathlib.Numerals.{add-one}
 use lib.Dec.{eqb}
+use lib.IntN.{_-ℤ_}
 use lib.ListN.{getD}
 use lib.Pow.{pow-mono}
 use Rattle.paper.specs.Bits.{bit}
 use Rattle.paper.specs.Word.{src0, src1, condModifier, saturate, dstType, srcIsA0, qtrCtrl}
 use Rattle.paper.specs.Operation.{Plain}
 use Rattle.paper.specs.Value.{width, IsType, modZ, stored}
-use Rattle.paper.specs.Element.{oneIf, result, made, meets}
+use Rattle.paper.specs.Element.{oneIf, compares, isFloat, meaning, meetsFloats, result, floatResult, resultOf, made, meets}
 use Rattle.paper.specs.Region.{channels}
 use Rattle.paper.specs.Store.{Store}
 use Rattle.paper.specs.Enable.{digit, ofBits, channelOf}
@@ -54,8 +55,15 @@ stored-outcome t is false = by-type (λ size bits. bit (0 % 2 ^ bits) 0 ≡ fals
 -- What cmp stores for a channel has what it finds as its lowest bit.
 makes-outcome : (w predicate : ℕ) (registers : List ℕ) (k : ℕ) → IsType (dstType w) → saturate w ≡ 0
     → bit (channelMakes Plain.cmp w predicate registers k) 0 ≡ meets (condModifier w) (operand w registers src0 k) (operand w registers src1 k)
-unfolding channelMakes made meets result
-makes-outcome w predicate registers k is e = rw e (stored-outcome (dstType w) is _)
+unfolding channelMakes made meets result floatResult resultOf
+makes-outcome w predicate registers k is e =
+    let a = operand w registers src0 k in
+    let b = operand w registers src1 k in
+    rw e (go (isFloat (a .kind)) (meetsFloats (condModifier w) (meaning a) (meaning b)) (compares (condModifier w) (meaning a -ℤ meaning b)))
+  where
+    go : (f x y : Bool) → bit (stored false (dstType w) (cond f (oneIf x) (oneIf y))) 0 ≡ cond f x y
+    go true x y = stored-outcome (dstType w) is x
+    go false x y = stored-outcome (dstType w) is y
 
 -- A number's lowest bit is that of its low bits.
 bit-low : (kind v : ℕ) → IsType kind → bit v 0 ≡ bit (v % 2 ^ width kind) 0

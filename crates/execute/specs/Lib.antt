@@ -7,3 +7,4 @@ pub mod Compared
 pub mod Effects
 pub mod Awake
 pub mod Single
+pub mod Floats

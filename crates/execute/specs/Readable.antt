@@ -14,26 +14,38 @@ use Rattle.paper.specs.Store.{Store}
 use Rattle.paper.specs.Address.{settled}
 use Rattle.paper.specs.Effect.{plainEffect, effect}
 use Rattle.laws.specs.Settled.{settled-none}
-use Rattle.paper.specs.Value.{IsType}
-use Rattle.paper.specs.Region.{channels, dstSize, dstElement}
+use Rattle.paper.specs.Value.{typeF, typeVf, IsType}
+use Rattle.paper.specs.Region.{srcIsVector, channels, dstSize, dstElement}
 use Rattle.paper.specs.Word.{isNull, dstIsA0, srcIsA0}
-use Rattle.paper.specs.Legal.{anyOf, misplaced, unequalHalves, badModifier, quarterServed, predicateServed, conditionServed, controlServed, dstServed, srcServed, usesA0, movesWords, plainServed, operandRuleBroken, bytesIn}
+use Rattle.paper.specs.Legal.{anyOf, misplaced, unequalHalves, badModifier, ownRuleBroken, mixed, vectorTooShort, quarterServed, predicateServed, conditionServed, controlServed, registerType, immediateType, dstServed, srcServed, usesA0, movesWords, dstIsFloat, srcIsFloat, usesFloats, floatsServed, plainServed, operandRuleBroken, bytesIn}
 use Rattle.paper.specs.Enable.{channelOf}
 use Rattle.laws.specs.Truth.{both-true}
-use Rattle.laws.specs.Values.{listed-type}
+use Rattle.laws.specs.Values.{IsWhole, register-type}
+use Rattle.laws.specs.FloatWords.{src-no-float, src-no-vector}
 use Rattle.laws.specs.Sources.{readsTwo, sources-told, one-source, first-source, second-source}
 use Rattle.laws.specs.Regions.{LegalPlain, Named, or-false, none-of, source-inside, destination-inside}
 use Rattle.lanes.specs.Served.{plain-control, plain-channels}
 use Rattle.operands.specs.Sources.{Readable}
+use Rattle.operands.specs.Floats.{FloatsIn}
 
 -- Word w of operation p can be executed: it is legal, and every operand is named directly.
 pub record Acting (p : Plain) (w : ℕ) : Type 0 where
   pub legal : LegalPlain p w
   pub named : Named p w
 
--- Word w, if it is of an operation with operands, can be executed and has no operand in a0: it acts on registers alone.
+-- Operation p of word w can be executed, and its operands are whole numbers.
+pub record Counting (p : Plain) (w : ℕ) : Type 0 where
+  pub acting : Acting p w
+  pub whole : usesFloats p w ≡ false
+
+-- Operation p of word w can be executed, and some of its operands is a float.
+pub record Reckoning (p : Plain) (w : ℕ) : Type 0 where
+  pub acting : Acting p w
+  pub some : usesFloats p w ≡ true
+
+-- Word w, if it is of an operation with operands, can be executed and has no operand that is a float or in a0: it acts on registers alone, and on whole numbers.
 abbrev pub OnRegisters : ℕ → Type 0
-OnRegisters w = (p : Plain) → operation w ≡ plain p → Acting p w × (usesA0 p w ≡ false)
+OnRegisters w = (p : Plain) → operation w ≡ plain p → Counting p w × (usesA0 p w ≡ false)
 
 -- The effect of a word that can be executed is that of its operation as the word stands.
 pub effect-acting : (p : Plain) (w : ℕ) (awake : List Bool) (st : Store) → operation w ≡ plain p → Acting p w → effect w awake st ≡ plainEffect p w awake st
@@ -67,23 +79,39 @@ legal-channels p w l = plain-channels p w (l .legal .served)
 
 -- ---- types
 
-served-destination : (w : ℕ) → dstServed w ≡ true → dstType w ≤ 5
+served-destination : (w : ℕ) → dstServed w ≡ true → registerType (dstType w) ≡ true
 unfolding dstServed
-served-destination w e = leb-true (dstType w) 5 (both-true (eqb (dstFile w) grf || ((isNull w || dstIsA0 w) && eqb (dstAddrMode w) 0)) _ e .1)
+served-destination w e = both-true (eqb (dstFile w) grf || ((isNull w || dstIsA0 w) && eqb (dstAddrMode w) 0)) _ e .1
 
-served-source : (w : ℕ) (x : Source) → srcServed w x ≡ true → srcType x w ≤ 5
-unfolding srcServed
-served-source w x = go (isImmediate x w)
+-- A listed type that is not of floats is one of whole numbers.
+listed-whole : (t : ℕ) → registerType t ≡ true → eqb t typeF ≡ false → IsWhole t
+listed-whole t e f = let h = leb-true t 5 (left (leb t 5) (eqb t typeF) f e) in omega arith
   where
-    go : (b : Bool) → cond b (leb (srcType x w) 3) ((eqb (srcFile x w) grf || (srcIsA0 x w && eqb (srcAddrMode x w) 0)) && leb (srcType x w) 5) ≡ true → srcType x w ≤ 5
-    go true e = let h = leb-true (srcType x w) 3 e in omega arith
-    go false e = leb-true (srcType x w) 5 (both-true (eqb (srcFile x w) grf || (srcIsA0 x w && eqb (srcAddrMode x w) 0)) _ e .1)
+    left : (a b : Bool) → b ≡ false → (a || b) ≡ true → a ≡ true
+    left true b f e = refl
+    left false b f e = sym (sym e ∙ f)
+
+served-source : (w : ℕ) (x : Source) → srcServed w x ≡ true → eqb (srcType x w) typeF ≡ false → srcIsVector x w ≡ false → IsWhole (srcType x w)
+unfolding srcServed
+served-source w x e f v = go (isImmediate x w) e v
+  where
+    low : (a b c : Bool) → (a || (b || c)) ≡ true → b ≡ false → c ≡ false → a ≡ true
+    low true b c e f g = refl
+    low false true c e f g = absurd (true≢false f)
+    low false false c e f g = sym (sym e ∙ g)
+
+    go : (b : Bool)
+        → cond b (immediateType (srcType x w)) ((eqb (srcFile x w) grf || (srcIsA0 x w && eqb (srcAddrMode x w) 0)) && registerType (srcType x w)) ≡ true
+        → (b && eqb (srcType x w) typeVf) ≡ false → IsWhole (srcType x w)
+    go true e v = let h = leb-true (srcType x w) 3 (low (leb (srcType x w) 3) (eqb (srcType x w) typeVf) (eqb (srcType x w) typeF) e v f) in omega arith
+    go false e v = listed-whole (srcType x w) (both-true (eqb (srcFile x w) grf || (srcIsA0 x w && eqb (srcAddrMode x w) 0)) _ e .1) f
 
 -- 7 of the parts of a legal word.
 record Served (p : Plain) (w : ℕ) : Type 0 where
   destination : dstServed w ≡ true
   sources-not : anyOf (λ x. not (srcServed w x)) (sources p) ≡ false
   a0 : (not (usesA0 p w) || movesWords p w) ≡ true
+  floats : (not (usesFloats p w) || floatsServed p w) ≡ true
 
 served-parts : (p : Plain) (w : ℕ) → LegalPlain p w → Served p w
 unfolding plainServed
@@ -91,17 +119,23 @@ served-parts p w l =
     let a = both-true (controlServed (traits p .compares) (traits p .saturates) w) _ (l .served) in
     let b = both-true (dstServed w) _ (a .1) in
     let c = both-true (not (anyOf (λ x. not (srcServed w x)) (sources p))) _ (b .1) in
-    record { destination = b .0; sources-not = not-true (anyOf (λ x. not (srcServed w x)) (sources p)) (c .0); a0 = c .1 }
+    let d = both-true (not (usesA0 p w) || movesWords p w) _ (c .1) in
+    record { destination = b .0; sources-not = not-true (anyOf (λ x. not (srcServed w x)) (sources p)) (c .0); a0 = d .0; floats = d .1 }
 
 -- A legal word's destination has a type,
 pub legal-type : (p : Plain) (w : ℕ) → Acting p w → IsType (dstType w)
-legal-type p w l = listed-type (dstType w) (served-destination w (served-parts p w (l .legal) .destination))
+legal-type p w l = register-type (dstType w) (served-destination w (served-parts p w (l .legal) .destination))
 
--- and so has every source that its operation reads.
-source-type : (p : Plain) (w : ℕ) → LegalPlain p w → (x : Source) → List·Memᴰ x (sources p) → IsType (srcType x w)
+-- which is one of whole numbers where no operand is a float,
+pub legal-whole : (p : Plain) (w : ℕ) → Counting p w → IsWhole (dstType w)
+unfolding usesFloats
+legal-whole p w l = listed-whole (dstType w) (served-destination w (served-parts p w (l .acting .legal) .destination)) (or-false (dstIsFloat w) _ (l .whole) .0)
+
+-- and so is that of every source that its operation reads.
+pub source-type : (p : Plain) (w : ℕ) → Counting p w → (x : Source) → List·Memᴰ x (sources p) → IsWhole (srcType x w)
 source-type p w l x m =
-    listed-type (srcType x w)
-    (served-source w x (not-false (srcServed w x) (none-of (λ y. not (srcServed w y)) (served-parts p w l .sources-not) m)))
+    served-source w x (not-false (srcServed w x) (none-of (λ y. not (srcServed w y)) (served-parts p w (l .acting .legal) .sources-not) m))
+    (src-no-float p w (l .whole) x m) (src-no-vector p w (l .whole) x m)
 
 -- ---- a0
 
@@ -177,12 +211,13 @@ a0-told p w l = ap (λ (b : Bool). dstIsA0 w || b) (go (readsTwo p) refl)
 -- ---- operands
 
 -- Every source that an operation reads can be read if the word is legal,
-pub legal-readable : (p : Plain) (w : ℕ) → Acting p w → (x : Source) → List·Memᴰ x (sources p) → Readable x w
+pub legal-readable : (p : Plain) (w : ℕ) → Counting p w → (x : Source) → List·Memᴰ x (sources p) → Readable x w
 legal-readable p w l x m =
     record {
-      count = legal-count p w l;
-      type = source-type p w (l .legal) x m;
-      inside = λ i. source-inside p w (l .legal .shape) (l .legal .reach) x m i (l .named .source x m);
+      count = legal-count p w (l .acting);
+      type = source-type p w l x m;
+      whole = src-no-vector p w (l .whole) x m;
+      inside = λ i. source-inside p w (l .acting .legal .shape) (l .acting .legal .reach) x m i (l .acting .named .source x m);
     }
 
 -- and its destination can be written.
@@ -199,7 +234,7 @@ legal-factors w l =
     let a = or-false (misplaced Plain.mul w) _ (l .legal .operands) in
     let b = or-false (anyOf (unequalHalves w) (sources Plain.mul)) _ (a .1) in
     let c = or-false (anyOf (badModifier Plain.mul w) (sources Plain.mul)) _ (b .1) in
-    let d = or-false (ltb (srcType src0 w) 2) (ltb (srcType src1 w) 2) (c .1) in
+    let d = or-false (ltb (srcType src0 w) 2) (ltb (srcType src1 w) 2) (or-false (ownRuleBroken Plain.mul w) _ (c .1) .0) in
     (ltb-false (srcType src0 w) 2 (d .0), ltb-false (srcType src1 w) 2 (d .1))
 
 -- What does not serve Saturate has it clear.
@@ -221,3 +256,65 @@ control-saturate compares w e =
 -- So cmp never saturates.
 pub legal-compared : (w : ℕ) → Acting Plain.cmp w → saturate w ≡ 0
 legal-compared w l = control-saturate true w (plain-control Plain.cmp w (l .legal .served))
+
+-- ---- floats
+
+-- Of a conjunction with a true first part that is false, the second part is false.
+other-false : (a b : Bool) → (a && b) ≡ false → a ≡ true → b ≡ false
+other-false true b e h = e
+other-false false b e h = absurd (false≢true h)
+
+module _ (p : Plain) (w : ℕ) (l : Reckoning p w) where
+  -- They are served on the operation, and Saturate is clear.
+  pub floats-served : (traits p .floats ≡ true) × (saturate w ≡ 0)
+  unfolding floatsServed
+  floats-served =
+      let served : floatsServed p w ≡ true = ap (λ (b : Bool). not b || floatsServed p w) (sym (l .some)) ∙ served-parts p w (l .acting .legal) .floats in
+      let a = both-true (traits p .floats) _ served in
+      (a .0, eqb-true (saturate w) 0 (a .1))
+
+  -- No operand is another's: the destination is a float, and so is every source that is read.
+  alike : (not (dstIsFloat w) || anyOf (λ x. not (srcIsFloat w x)) (sources p)) ≡ false
+  unfolding operandRuleBroken mixed
+  alike =
+      let a = or-false (misplaced p w) _ (l .acting .legal .operands) in
+      let b = or-false (anyOf (unequalHalves w) (sources p)) _ (a .1) in
+      let c = or-false (anyOf (badModifier p w) (sources p)) _ (b .1) in
+      let d = or-false (ownRuleBroken p w) _ (c .1) in
+      let e = or-false (mixed p w) _ (d .1) in
+      other-false (usesFloats p w) _ (e .0) (l .some)
+
+  pub float-destination : dstType w ≡ typeF
+  float-destination = eqb-true (dstType w) typeF (not-false (dstIsFloat w) (or-false (not (dstIsFloat w)) _ alike .0))
+
+  pub float-source : (x : Source) → List·Memᴰ x (sources p) → srcIsFloat w x ≡ true
+  float-source x m = not-false (srcIsFloat w x) (none-of (λ y. not (srcIsFloat w y)) (or-false (not (dstIsFloat w)) _ alike .1) m)
+
+  -- None is a0.
+  pub float-registers : usesA0 p w ≡ false
+  unfolding movesWords
+  float-registers = go (usesA0 p w) refl
+    where
+      go : (t : Bool) → usesA0 p w ≡ t → usesA0 p w ≡ false
+      go false e = e
+      go true e =
+          let moves : movesWords p w ≡ true = ap (λ (b : Bool). not b || movesWords p w) (sym e) ∙ served-parts p w (l .acting .legal) .a0 in
+          let words = both-true (eqb (dstType w) 2) _ (both-true (isMov p) _ moves .1) in
+          absurd (omega (arith, eqb-true (dstType w) 2 (words .0), float-destination))
+
+  -- What is read can be read.
+  pub legal-floats : (x : Source) → List·Memᴰ x (sources p) → FloatsIn x w
+  legal-floats x m =
+      record {
+        count = legal-count p w (l .acting);
+        float = float-source x m;
+        inside = λ i. source-inside p w (l .acting .legal .shape) (l .acting .legal .reach) x m i (l .acting .named .source x m);
+      }
+
+-- What has an operand in a0 has no float.
+pub a0-whole : (p : Plain) (w : ℕ) → Acting p w → usesA0 p w ≡ true → usesFloats p w ≡ false
+a0-whole p w l e = go (usesFloats p w) refl
+  where
+    go : (t : Bool) → usesFloats p w ≡ t → usesFloats p w ≡ false
+    go false f = f
+    go true f = absurd (true≢false (sym e ∙ float-registers p w (record { acting = l; some = f })))

@@ -10,14 +10,17 @@ use lib.ListN.{length, getD, replicate, getD-replicate}
 use Rattle.paper.specs.Bits.{bit}
 use Rattle.paper.specs.Word.{src0, src1, condModifier, saturate, dstType, srcType, srcIsA0, qtrCtrl}
 use Rattle.paper.specs.Operation as paper
-use Rattle.paper.specs.Value.{width, modZ, clampTo, stored}
-use Rattle.paper.specs.Element.{Element, meaning, result, made}
-use Rattle.paper.specs.Region.{channels}
+use Rattle.paper.specs.Value.{typeF, width, modZ, clampTo, stored}
+use Rattle.paper.specs.Element.{Element, isFloat, meaning, result, floatResult, resultOf, made}
+use Rattle.paper.specs.Region.{srcKind, channels}
 use Rattle.paper.specs.Store.{Store}
 use Rattle.paper.specs.Enable.{channelOf, holds}
 use Rattle.paper.specs.Effect.{operand, fileIn, sourceAt, channelStores}
 use Rattle.words.specs.Operations.{plainIs}
-use Rattle.laws.specs.Sources.{readsTwo, one-source}
+use Rattle.laws.specs.Sources.{readsTwo, one-source, first-source, second-source}
+use Rattle.laws.specs.Values.{IsWhole}
+use Rattle.laws.specs.FloatWords.{src-no-float, src-no-vector}
+use Rattle.laws.specs.DirectActs.{first-only}
 use Rattle.words.specs.declared.operation.Plain.{Plain}
 use Rattle.words.specs.declared.operation.Plain.the-variants.{Mov}
 use Rattle.element.specs.Biased.{ex, Near, near-mono}
@@ -27,7 +30,7 @@ use Rattle.lanes.specs.Mapped.{Mapped}
 use Rattle.lanes.specs.Masks.{quarterMask}
 use Rattle.lanes.specs.MaskLaws.{predicateOf, bit-quarter, bit-predicate}
 use Rattle.operands.specs.Sources.{OperandRead}
-use Rattle.execute.specs.Readable.{Acting, one-file, legal-factors}
+use Rattle.execute.specs.Readable.{Acting, Counting, source-type, one-file, legal-factors}
 
 -- ---- the second source, where there is one
 
@@ -100,13 +103,13 @@ unfolding stored
 kept-clamped kind v r e = low-bits kind r ∙ ap (λ (z : ℤ). modZ z (2 ^ width kind)) e
 
 -- Operands as near as their types' values are as an operation asks.
-operands-near : (p : Plain) (kind0 kind1 a b : ℕ) → (plainIs p ≡ paper.mul → (2 ≤ kind0) × (2 ≤ kind1)) → Near (width kind0) a → Near (width kind1) b
+operands-near : (p : Plain) (kind0 kind1 a b : ℕ) → IsWhole kind0 → IsWhole kind1 → (plainIs p ≡ paper.mul → (2 ≤ kind0) × (2 ≤ kind1)) → Near (width kind0) a → Near (width kind1) b
     → Operands p a b
-operands-near p kind0 kind1 a b f na nb =
+operands-near p kind0 kind1 a b h0 h1 f na nb =
     record {
       first = near-mono (width-most kind0) na;
       second = near-mono (width-most kind1) nb;
-      factors = λ e. (near-mono (width-short kind0 (f e .0)) na, near-mono (width-short kind1 (f e .1)) nb);
+      factors = λ e. (near-mono (width-short kind0 (f e .0) h0) na, near-mono (width-short kind1 (f e .1) h1) nb);
     }
 
 -- mul's types are not of dwords.
@@ -114,15 +117,34 @@ factors : (p : paper.Plain) (w : ℕ) → Acting p w → p ≡ paper.mul → (2 
 factors p w legal e =
     subst (λ q. (2 ≤ srcType src0 w) × (2 ≤ secondType q w)) (sym e) (legal-factors w (subst (λ q. Acting q w) e legal))
 
+-- The result of whole numbers is that of what they mean.
+whole-result : (p : paper.Plain) (w : ℕ) → Counting p w → (c : ℕ) (holds : Bool) (registers : List ℕ) (k : ℕ) (b : Element)
+    → result p c holds (meaning (operand w registers src0 k)) (meaning b) ≡ resultOf p c holds (operand w registers src0 k) b
+unfolding resultOf operand
+whole-result p w l c holds registers k b =
+    let none : isFloat (srcKind src0 w) ≡ false =
+    ap (λ (t : Bool). eqb (cond t typeF (srcType src0 w)) typeF) (src-no-vector p w (l .whole) src0 (first-source p)) ∙ src-no-float p w (l .whole) src0 (first-source p) in
+    let a : Element = operand w registers src0 k in
+    ap (λ (t : Bool). cond t (floatResult p c (meaning a) (meaning b)) (result p c holds (meaning a) (meaning b))) (sym none)
+
+-- The type of the second numbers is one of whole numbers.
+second-whole : (p : paper.Plain) (w : ℕ) → Counting p w → IsWhole (secondType p w)
+second-whole p w l = go (readsTwo p) refl
+  where
+    go : (t : Bool) → readsTwo p ≡ t → IsWhole (cond t (srcType src1 w) 4)
+    go true e = source-type p w l src1 (second-source p e)
+    go false e = lit< tt
+
 -- ---- all channels
 
 module _ (p : Plain) (w : ℕ) (registers : List ℕ) (n : ℕ) (old first second : List ℕ)
     (a : OperandRead w registers src0 n old first) (b : SecondRead (plainIs p) w registers n second) where
   -- What was read is as the operation asks.
-  pub read-operands : Acting (plainIs p) w → (k : ℕ) → k < n → Operands p (getD first k 0) (getD second k 0)
+  pub read-operands : Counting (plainIs p) w → (k : ℕ) → k < n → Operands p (getD first k 0) (getD second k 0)
   unfolding OperandRead
   read-operands legal k h =
-      operands-near p (srcType src0 w) (secondType (plainIs p) w) _ _ (factors (plainIs p) w legal) (a .done k h .1) (b .near k h)
+      operands-near p (srcType src0 w) (secondType (plainIs p) w) _ _ (source-type (plainIs p) w legal src0 (first-source (plainIs p))) (second-whole (plainIs p) w legal)
+      (factors (plainIs p) w (legal .acting)) (a .done k h .1) (b .near k h)
 
   -- The result is the paper's, whether or not there is a second source.
   result-read : (c : ℕ) (holds : Bool) (k : ℕ) → k < n
@@ -138,13 +160,14 @@ module _ (p : Plain) (w : ℕ) (registers : List ℕ) (n : ℕ) (old first secon
       go false e = result-one (plainIs p) c holds _ _ _ (one-source (plainIs p) e)
 
   -- So is what is made of it.
-  pub results-made : (predicate c kind : ℕ) (saturated : Bool) (combined made : List ℕ)
+  pub results-made : Counting (plainIs p) w → (predicate c kind : ℕ) (saturated : Bool) (combined made : List ℕ)
       → n ≡ channels w → c ≡ condModifier w → kind ≡ dstType w → saturated ≡ eqb (saturate w) 1
       → Combined (plainIs p) c predicate n first second combined → Kept saturated kind n combined made → Makes (plainIs p) w predicate registers made
   unfolding Combined Kept Makes channelMakes made
-  results-made predicate c kind saturated combined made en ec ek es m q k h =
+  results-made legal predicate c kind saturated combined made en ec ek es m q k h =
       let below : k < n = rw en h in
-      rw (← ek, ← es, ← ec) (q .done k below ∙ ap (stored saturated kind) (m .done k below ∙ result-read c (bit predicate k) k below))
+      rw (← ek, ← es, ← ec) (q .done k below ∙ ap (stored saturated kind)
+      (m .done k below ∙ result-read c (bit predicate k) k below ∙ whole-result (plainIs p) w legal c (bit predicate k) registers k (operand w registers src1 k)))
 
 -- ---- mov
 
@@ -153,22 +176,17 @@ abbrev zeros : List ℕ
 zeros = replicate 16 (2 ^ 63)
 
 -- mov makes what its source reads, saturated if asked for, whatever the predicate.
-pub moved-made : (w : ℕ) (file : List ℕ) (n : ℕ) (old first made : List ℕ) → OperandRead w file src0 n old first → n ≡ channels w → n ≤ 16
+pub moved-made : (w : ℕ) → Counting paper.mov w → (file : List ℕ) (n : ℕ) (old first made : List ℕ) → OperandRead w file src0 n old first → n ≡ channels w → n ≤ 16
     → (kind : ℕ) (saturated : Bool) → kind ≡ dstType w → saturated ≡ eqb (saturate w) 1 → Kept saturated kind n first made
     → (predicate : ℕ) → Makes paper.mov w predicate file made
 unfolding Combined result
-moved-made w file n old first made a en most kind saturated ek es kept predicate =
-    results-made Mov w file n old first zeros a (second-none paper.mov w file n zeros refl (zeros-near (2 ^ 63) n refl most)) predicate (condModifier w) kind saturated first made en refl ek es combined kept
+moved-made w legal file n old first made a en most kind saturated ek es kept predicate =
+    results-made Mov w file n old first zeros a (second-none paper.mov w file n zeros refl (zeros-near (2 ^ 63) n refl most)) legal predicate (condModifier w) kind saturated first made en refl ek es combined kept
   where
     combined : Combined paper.mov (condModifier w) predicate n first zeros first
     combined = record { sixteen = read-sixteen w file n old first a; done = λ k h. refl; kept = λ k h. refl }
 
 -- ---- the paper's channels
-
--- What is made of one source does not depend on the second.
-made-one : (p : paper.Plain) (c : ℕ) (h t : Bool) (kind : ℕ) (a b b′ : Element) → readsTwo p ≡ false → made p c h t kind a b ≡ made p c h t kind a b′
-unfolding made
-made-one p c h t kind a b b′ e = ap (stored t kind) (result-one p c h _ _ _ (one-source p e))
 
 -- What the channels make of the file that src0 stands in, by the mask of the predicate as the instruction numbers its channels, is what the paper says that they
 -- store.
@@ -183,4 +201,4 @@ makes-stores p w st acting count k h =
 
     go : (t : Bool) → readsTwo p ≡ t → makes (operand w (fileIn (srcIsA0 src0 w) st) src1 k) ≡ makes (sourceAt w st src1 k)
     go true e = ap (λ (f : Bool). makes (operand w (fileIn f st) src1 k)) (sym (one-file p w acting e))
-    go false e = made-one p _ _ _ _ _ _ _ e
+    go false e = first-only p e _ _ _ _ _ _ _

@@ -20,7 +20,7 @@ use Rattle.words.specs.declared.operation.Plain.{Plain}
 use Rattle.element.specs.Biased.{ex, Near}
 use Rattle.operands.specs.Sources.{OperandRead}
 use Rattle.operands.specs.Single.{alone, none, mapped-alone}
-use Rattle.execute.specs.Readable.{Writable}
+use Rattle.execute.specs.Readable.{Counting, Writable}
 use Rattle.execute.specs.Results.{SecondRead, Combined, Kept, Makes, results-made}
 use Rattle.execute.specs.Compared.{lowestBits, lowest-more}
 use Rattle.execute.specs.Effects.{written}
@@ -32,13 +32,13 @@ zero-near v e (suc k) h = absurd (omega arith)
 
 -- The result of one channel's operands is what the channel makes.
 pub made-alone : (p : Plain) (w : ℕ) (registers : List ℕ) (a b : ℕ) → OperandRead w registers src0 1 none (alone a)
-    → SecondRead (plainIs p) w registers 1 (alone b) → channels w ≡ 1 → (predicate c kind : ℕ) (saturated : Bool) (v r : ℕ)
+    → SecondRead (plainIs p) w registers 1 (alone b) → Counting (plainIs p) w → channels w ≡ 1 → (predicate c kind : ℕ) (saturated : Bool) (v r : ℕ)
     → c ≡ condModifier w → kind ≡ dstType w → saturated ≡ eqb (saturate w) 1
     → ex v ≡ result (plainIs p) c (bit predicate 0) (ex a) (ex b) → r % 2 ^ width kind ≡ stored saturated kind (ex v)
     → Makes (plainIs p) w predicate registers (alone r)
 unfolding Combined Kept
-made-alone p w registers a b ra rb one predicate c kind saturated v r ec ek es computed kept =
-    results-made p w registers 1 none (alone a) (alone b) ra rb predicate c kind saturated (alone v) (alone r) (sym one) ec ek es
+made-alone p w registers a b ra rb legal one predicate c kind saturated v r ec ek es computed kept =
+    results-made p w registers 1 none (alone a) (alone b) ra rb legal predicate c kind saturated (alone v) (alone r) (sym one) ec ek es
     (mapped-alone (λ k x y. ex y ≡ result (plainIs p) c (bit predicate k) (ex x) (ex (getD (alone b) k 0))) a v computed)
     (mapped-alone (λ k x y. y % 2 ^ width kind ≡ stored saturated kind (ex x)) v r kept)
 

@@ -39,7 +39,7 @@ fn lowest_bits(results: &[u64; 16], n: usize) -> u64
 }
 
 // The flags after cmp, by the mask of the lowest bits of its results.
-fn compared(w: Word, flags: Flags, enable: u64, lowest: u64) -> Flags
+pub(crate) fn compared(w: Word, flags: Flags, enable: u64, lowest: u64) -> Flags
     requires { ⌜ (execSize (toWord w) ≤ 4) × (channelOf (toWord w) 0 + channels (toWord w) ≤ 16) × (lowest < 65536) ⌝ }
     ensures { λ r. ⌜ ((results : List ℕ) → lowest ≡ lowestBits results (channels (toWord w))
         → FlagsOf r (toWord w) (storeOf [] flags []) (flagFrom (toWord w) (chosenFlag (toWord w) (storeOf [] flags [])) enable results)) ⌝ }

@@ -17,11 +17,11 @@ ghost use Rattle.words.specs.Words.{toWord};
 ghost use Rattle.words.specs.Operations.{plainIs};
 ghost use Rattle.lanes.specs.Masks.{awakeList};
 ghost use Rattle.execute.specs.Stores.{storeOf};
-ghost use Rattle.execute.specs.Readable.{Acting};
+ghost use Rattle.execute.specs.Readable.{Counting};
 
 // An instruction that is no branch and has no operand in a0, whatever a0 holds: it stays. One channel has a way of its own.
 pub fn execute(p: Plain, w: Word, awake: u64, flags: Flags, registers: &mut [u8]) -> Flags
-    requires { ⌜ Acting (plainIs p) (toWord w) × (usesA0 (plainIs p) (toWord w) ≡ false) ⌝ }
+    requires { ⌜ Counting (plainIs p) (toWord w) × (usesA0 (plainIs p) (toWord w) ≡ false) ⌝ }
     requires { ⌜ (length (now registers) ≡ registerBytes) × (awake < 65536) × (flags .flag0 < 65536) × (flags .flag1 < 65536) ⌝ }
     ensures { λ r. ⌜ ((addresses : List ℕ) → (now (registers .exit) ≡ plainEffect (plainIs p) (toWord w) (awakeList awake) (storeOf (now (registers .entry)) flags addresses) .registers)
         × (addresses ≡ plainEffect (plainIs p) (toWord w) (awakeList awake) (storeOf (now (registers .entry)) flags addresses) .addresses)) ⌝ }

@@ -9,6 +9,7 @@ pub mod each;
 pub mod enable;
 pub mod execute;
 pub mod flags;
+pub mod floats;
 pub mod many;
 pub mod one;
 pub mod operations;

@@ -21,7 +21,7 @@ ghost use Rattle.words.specs.Words.{toWord};
 ghost use Rattle.words.specs.Operations.{plainIs};
 ghost use Rattle.lanes.specs.Masks.{awakeList};
 ghost use Rattle.execute.specs.Stores.{storeOf};
-ghost use Rattle.execute.specs.Readable.{Acting};
+ghost use Rattle.execute.specs.Readable.{Counting};
 
 // An instruction on any number of channels: its sources are read, its results stored where its channels are enabled, its flags answered.
 pub(crate) fn execute_many(
@@ -31,7 +31,7 @@ pub(crate) fn execute_many(
     flags: Flags,
     registers: &mut [u8],
 ) -> Flags
-    requires { ⌜ Acting (plainIs p) (toWord w) × (usesA0 (plainIs p) (toWord w) ≡ false) ⌝ }
+    requires { ⌜ Counting (plainIs p) (toWord w) × (usesA0 (plainIs p) (toWord w) ≡ false) ⌝ }
     requires { ⌜ (length (now registers) ≡ registerBytes) × (awake < 65536) × (flags .flag0 < 65536) × (flags .flag1 < 65536) ⌝ }
     ensures { λ r. ⌜ ((addresses : List ℕ) → now (registers .exit) ≡ plainEffect (plainIs p) (toWord w) (awakeList awake) (storeOf (now (registers .entry)) flags addresses) .registers) ⌝ }
     ensures { λ r. ⌜ ((addresses : List ℕ) → (r .flag0 ≡ plainEffect (plainIs p) (toWord w) (awakeList awake) (storeOf (now (registers .entry)) flags addresses) .flag0)

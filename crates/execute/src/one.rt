@@ -9,8 +9,8 @@ use lanes::flags::Flags;
 use lanes::mask::bit;
 use lanes::mask::quarter_mask;
 use lanes::scatter::store_channel;
-use operands::single::first_number;
-use operands::single::second_number;
+use operands::one::first_number;
+use operands::one::second_number;
 use words::bytes::Word;
 use words::fields::cond_modifier;
 use words::fields::dst_type;
@@ -35,13 +35,13 @@ ghost use Rattle.words.specs.Operations.{plainIs};
 ghost use Rattle.lanes.specs.Masks.{awakeList};
 ghost use Rattle.operands.specs.Single.{alone};
 ghost use Rattle.execute.specs.Stores.{storeOf};
-ghost use Rattle.execute.specs.Readable.{Acting, Writable};
+ghost use Rattle.execute.specs.Readable.{Counting, Writable};
 ghost use Rattle.execute.specs.Results.{SecondRead, Makes};
 ghost use Rattle.execute.specs.Effects.{written};
 
 // The second operand, where the operation reads one; else what stands for 0.
 fn second_of(p: Plain, w: Word, registers: &[u8]) -> u64
-    requires { ⌜ Acting (plainIs p) (toWord w) × (length (now registers) ≡ bytesIn (srcIsA0 src0 (toWord w))) × (usesA0 (plainIs p) (toWord w) ≡ false) ⌝ }
+    requires { ⌜ Counting (plainIs p) (toWord w) × (length (now registers) ≡ bytesIn (srcIsA0 src0 (toWord w))) × (usesA0 (plainIs p) (toWord w) ≡ false) ⌝ }
     ensures { λ r. ⌜ SecondRead (plainIs p) (toWord w) (now (registers .entry)) 1 (alone r) ⌝ }
 {
     if reads_two(p) {
@@ -52,7 +52,7 @@ fn second_of(p: Plain, w: Word, registers: &[u8]) -> u64
 
 // What the channel makes: all sources are read first. The number's low bits, as many as the destination's type has, are the pattern that is stored.
 fn result_of(p: Plain, w: Word, predicate: u64, registers: &[u8]) -> u64
-    requires { ⌜ Acting (plainIs p) (toWord w) × (length (now registers) ≡ bytesIn (srcIsA0 src0 (toWord w))) × (channels (toWord w) ≡ 1) × (usesA0 (plainIs p) (toWord w) ≡ false) ⌝ }
+    requires { ⌜ Counting (plainIs p) (toWord w) × (length (now registers) ≡ bytesIn (srcIsA0 src0 (toWord w))) × (channels (toWord w) ≡ 1) × (usesA0 (plainIs p) (toWord w) ≡ false) ⌝ }
     ensures { λ r. ⌜ Makes (plainIs p) (toWord w) predicate (now (registers .entry)) (alone r) ⌝ }
 {
     let a = first_number(w, registers);
@@ -84,7 +84,7 @@ pub(crate) fn execute_one(
     flags: Flags,
     registers: &mut [u8],
 ) -> Flags
-    requires { ⌜ Acting (plainIs p) (toWord w) × (usesA0 (plainIs p) (toWord w) ≡ false) × (channels (toWord w) ≡ 1) ⌝ }
+    requires { ⌜ Counting (plainIs p) (toWord w) × (usesA0 (plainIs p) (toWord w) ≡ false) × (channels (toWord w) ≡ 1) ⌝ }
     requires { ⌜ (length (now registers) ≡ registerBytes) × (awake < 65536) × (flags .flag0 < 65536) × (flags .flag1 < 65536) ⌝ }
     ensures { λ r. ⌜ ((addresses : List ℕ) → now (registers .exit) ≡ plainEffect (plainIs p) (toWord w) (awakeList awake) (storeOf (now (registers .entry)) flags addresses) .registers) ⌝ }
     ensures { λ r. ⌜ ((addresses : List ℕ) → (r .flag0 ≡ plainEffect (plainIs p) (toWord w) (awakeList awake) (storeOf (now (registers .entry)) flags addresses) .flag0)

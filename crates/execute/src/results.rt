@@ -21,12 +21,12 @@ ghost use Rattle.paper.specs.Region.{channels};
 ghost use Rattle.element.specs.Biased.{Near};
 ghost use Rattle.words.specs.Words.{toWord};
 ghost use Rattle.words.specs.Operations.{plainIs};
-ghost use Rattle.execute.specs.Readable.{Acting};
+ghost use Rattle.execute.specs.Readable.{Counting};
 ghost use Rattle.execute.specs.Results.{SecondRead, Makes};
 
 // The second operands, where the operation reads them; else the zeros that were there.
 fn second(p: Plain, w: Word, n: usize, registers: &[u8], values: &mut [u64; 16])
-    requires { ⌜ Acting (plainIs p) (toWord w) × (n ≡ channels (toWord w)) × (length (now registers) ≡ bytesIn (srcIsA0 src0 (toWord w))) × (length (now values) ≡ 16) × (usesA0 (plainIs p) (toWord w) ≡ false) ⌝ }
+    requires { ⌜ Counting (plainIs p) (toWord w) × (n ≡ channels (toWord w)) × (length (now registers) ≡ bytesIn (srcIsA0 src0 (toWord w))) × (length (now values) ≡ 16) × (usesA0 (plainIs p) (toWord w) ≡ false) ⌝ }
     requires { ⌜ ((k : ℕ) → k < n → Near 8 (getD (now values) k 0)) ⌝ }
     ensures { λ r. ⌜ SecondRead (plainIs p) (toWord w) (now (registers .entry)) n (now (values .exit)) ⌝ }
 {
@@ -39,7 +39,7 @@ fn second(p: Plain, w: Word, n: usize, registers: &[u8], values: &mut [u64; 16])
 // What the channels of an instruction make of the registers, no operand being a0: all sources are read first. The low bits of each number, as many as the destination's type has,
 // are the pattern that its channel stores.
 pub(crate) fn results(p: Plain, w: Word, predicate: u64, registers: &[u8], made: &mut [u64; 16])
-    requires { ⌜ Acting (plainIs p) (toWord w) × (length (now registers) ≡ bytesIn (srcIsA0 src0 (toWord w))) × (length (now made) ≡ 16) × (usesA0 (plainIs p) (toWord w) ≡ false) ⌝ }
+    requires { ⌜ Counting (plainIs p) (toWord w) × (length (now registers) ≡ bytesIn (srcIsA0 src0 (toWord w))) × (length (now made) ≡ 16) × (usesA0 (plainIs p) (toWord w) ≡ false) ⌝ }
     ensures { λ r. ⌜ Makes (plainIs p) (toWord w) predicate (now (registers .entry)) (now (made .exit)) ⌝ }
 {
     let n = channels(w);

@@ -26,7 +26,7 @@ ghost use Rattle.paper.specs.Effect.{fileIn, plainEffect};
 ghost use Rattle.words.specs.Words.{toWord};
 ghost use Rattle.lanes.specs.Masks.{awakeList};
 ghost use Rattle.execute.specs.Stores.{storeOf};
-ghost use Rattle.execute.specs.Readable.{Acting, Writable};
+ghost use Rattle.execute.specs.Readable.{Counting, Writable};
 ghost use Rattle.execute.specs.Results.{Makes};
 ghost use Rattle.execute.specs.Effects.{writtenInto};
 
@@ -42,7 +42,7 @@ pub fn uses_a0(w: Word) -> bool
 
 // What the channels of a mov make: a0 is read, or registers.
 fn moved(w: Word, flags: Flags, registers: &[u8], addresses: &[u8], made: &mut [u64; 16])
-    requires { ⌜ Acting mov (toWord w) × (length (now registers) ≡ registerBytes) × (length (now addresses) ≡ addressBytes) × (length (now made) ≡ 16) ⌝ }
+    requires { ⌜ Counting mov (toWord w) × (length (now registers) ≡ registerBytes) × (length (now addresses) ≡ addressBytes) × (length (now made) ≡ 16) ⌝ }
     ensures { λ r. ⌜ ((predicate : ℕ) → Makes mov (toWord w) predicate (fileIn (srcIsA0 src0 (toWord w)) (storeOf (now (registers .entry)) flags (now (addresses .entry)))) (now (made .exit))) ⌝ }
 {
     let n = channels(w);
@@ -76,7 +76,7 @@ fn write_either(
 
 // mov from registers, a0 or an immediate to registers, a0 or null. It changes no flag.
 pub fn transfer(w: Word, awake: u64, flags: Flags, registers: &mut [u8], addresses: &mut [u8])
-    requires { ⌜ Acting mov (toWord w) × (length (now registers) ≡ registerBytes) × (length (now addresses) ≡ addressBytes) × (awake < 65536) ⌝ }
+    requires { ⌜ Counting mov (toWord w) × (length (now registers) ≡ registerBytes) × (length (now addresses) ≡ addressBytes) × (awake < 65536) ⌝ }
     ensures { λ r. ⌜ (now (registers .exit) ≡ plainEffect mov (toWord w) (awakeList awake) (storeOf (now (registers .entry)) flags (now (addresses .entry))) .registers)
         × (now (addresses .exit) ≡ plainEffect mov (toWord w) (awakeList awake) (storeOf (now (registers .entry)) flags (now (addresses .entry))) .addresses) ⌝ }
     ensures { λ r. ⌜ (flags .flag0 ≡ plainEffect mov (toWord w) (awakeList awake) (storeOf (now (registers .entry)) flags (now (addresses .entry))) .flag0)

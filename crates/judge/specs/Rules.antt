@@ -1,21 +1,22 @@
 -- The rules over an operation's sources, by the first and the second source. Assumes nothing.
-use mathlib.Core.Bool.{Bool, true, false, not, cond, _&&_, _||_}
+use mathlib.Core.Bool.{Bool, true, false, not, cond, _&&_, _||_, true≢false}
 use mathlib.Core.Path.{_≡_, refl, sym, ap, ap₂, _∙_}
 use Prim.Native.Nat.{ℕ}
-use lib.Dec.{eqb}
+use lib.Dec.{eqb, ltb, leb}
 use Rattle.paper.specs.Bits.{bit}
-use Rattle.paper.specs.Word.{Source, src0, src1, execSize, dstType, dstSubregister, dstStride, srcField, srcType, srcSubregister}
-use Rattle.paper.specs.Word.{isNull, dstIsA0, srcIsA0, isImmediate, dstByAddress, srcByAddress}
-use Rattle.paper.specs.Operation.{Plain, Branch, Operation, plain, branch, operation, isMov, traits}
-use Rattle.paper.specs.Region.{srcRegion, dstSize, dstOrigin, dstElement}
-use Rattle.paper.specs.Legal.{controlServed, dstServed, srcServed, usesA0, movesWords, plainServed}
-use Rattle.paper.specs.Legal.{unequalHalves, badModifier, ownRuleBroken, operandRuleBroken}
+use Rattle.paper.specs.Word.{Source, src0, src1, execSize, saturate, dstType, dstSubregister, dstStride, srcField, srcType, srcSubregister}
+use Rattle.paper.specs.Value.{typeF, typeVf}
+use Rattle.paper.specs.Word.{grf, srcFile, srcAddrMode, isNull, dstIsA0, srcIsA0, isImmediate, dstByAddress, srcByAddress}
+use Rattle.paper.specs.Operation.{Plain, Branch, Operation, plain, branch, operation, isMov, traits, sources}
+use Rattle.paper.specs.Region.{srcIsVector, channels, srcRegion, dstSize, dstOrigin, dstElement}
+use Rattle.paper.specs.Legal.{anyOf, controlServed, dstServed, srcServed, usesA0, movesWords, dstIsFloat, srcIsFloat, usesFloats, floatsServed, plainServed}
+use Rattle.paper.specs.Legal.{unequalHalves, badModifier, ownRuleBroken, mixed, vectorTooShort, operandRuleBroken}
 use Rattle.paper.specs.Legal.{someOperand, srcShapeBroken, shapeBroken, unaligned, alignmentBroken}
 use Rattle.paper.specs.Legal.{bytesIn, tooFar, regionTooFar, lastChannel, reachBroken}
 use Rattle.paper.specs.Legal.{reservedSet, branchServed, orElse, later, refusalOf}
 use Rattle.laws.specs.Regions.{dstRegion, destination-element}
 use Rattle.laws.specs.Sources.{readsTwo, two-counted}
-use Rattle.words.specs.Unaided.{Unaided}
+use Rattle.words.specs.Usual.{Whole, Usual}
 use Rattle.table.specs.Entries.{entryOf}
 use Rattle.judge.specs.Sources.{anySource, any-source}
 
@@ -34,24 +35,42 @@ pub moves-words : (p : Plain) (w : ℕ)
 unfolding movesWords
 moves-words p w = ap (λ (b : Bool). isMov p && (eqb (dstType w) 2 && not b)) (any-source p (λ x. not (eqb (srcType x w) 2)))
 
--- 7 of the operands of an operation, and of a0 among them.
-unfoldable pub operandsServed : Plain → ℕ → Bool
-operandsServed p w = dstServed w && (not (anySource p (not (srcServed w src0)) (not (srcServed w src1))) && a0Served p w)
+-- Some operand is a float, by the first source and the second.
+pub uses-floats : (p : Plain) (w : ℕ) → usesFloats p w ≡ (dstIsFloat w || anySource p (srcIsFloat w src0) (srcIsFloat w src1))
+unfolding usesFloats
+uses-floats p w = ap (λ (b : Bool). dstIsFloat w || b) (any-source p (srcIsFloat w))
 
--- Where a0 has no part it is not asked for.
-pub served-unaided : (p : Plain) (w : ℕ) → Unaided w
+-- No operand is a float, or floats are served.
+abbrev pub floatsAllowed : Plain → ℕ → Bool
+floatsAllowed p w = not (usesFloats p w) || floatsServed p w
+
+pub floats-allowed : (p : Plain) (w : ℕ) → usesFloats p w ≡ true → floatsAllowed p w ≡ (traits p .floats && eqb (saturate w) 0)
+unfolding floatsServed
+floats-allowed p w e = rw e
+
+-- 7 of the operands of an operation, and of a0 and of floats among them.
+unfoldable pub operandsServed : Plain → ℕ → Bool
+operandsServed p w =
+    dstServed w && (not (anySource p (not (srcServed w src0)) (not (srcServed w src1))) && (a0Served p w && floatsAllowed p w))
+
+-- What no operand is, none of those that are read is.
+nowhere : (t : Bool) → (false || (false || (t && false))) ≡ false
+nowhere true = refl
+nowhere false = refl
+
+none-float : (p : Plain) (w : ℕ) → Whole w → usesFloats p w ≡ false
+none-float p w u = uses-floats p w ∙ rw (u .destination, u .source src0, u .source src1) (nowhere (readsTwo p))
+
+-- In a word that is as most are neither is asked for.
+pub served-usual : (p : Plain) (w : ℕ) → Usual w
     → operandsServed p w ≡ (dstServed w && not (anySource p (not (srcServed w src0)) (not (srcServed w src1))))
 unfolding operandsServed
-served-unaided p w u =
+served-usual p w u =
     let none : usesA0 p w ≡ false = uses-a0 p w ∙ rw (u .destination, u .source src0, u .source src1) (nowhere (readsTwo p)) in
     ap (λ (b : Bool). dstServed w && b)
-    (ap (λ (b : Bool). not (anySource p (not (srcServed w src0)) (not (srcServed w src1))) && (not b || movesWords p w)) none
+    (ap₂ (λ (a f : Bool). not (anySource p (not (srcServed w src0)) (not (srcServed w src1))) && ((not a || movesWords p w) && (not f || floatsServed p w))) none (none-float p w (u .whole))
     ∙ kept (not (anySource p (not (srcServed w src0)) (not (srcServed w src1)))))
   where
-    nowhere : (t : Bool) → (false || (false || (t && false))) ≡ false
-    nowhere true = refl
-    nowhere false = refl
-
     kept : (b : Bool) → (b && true) ≡ b
     kept true = refl
     kept false = refl
@@ -59,20 +78,62 @@ served-unaided p w u =
 pub plain-served : (p : Plain) (w : ℕ) → plainServed p w ≡ (controlServed (traits p .compares) (traits p .saturates) w && operandsServed p w)
 unfolding plainServed operandsServed
 plain-served p w =
-    ap (λ (b : Bool). controlServed (traits p .compares) (traits p .saturates) w && (dstServed w && (not b && a0Served p w)))
+    ap (λ (b : Bool). controlServed (traits p .compares) (traits p .saturates) w && (dstServed w && (not b && (a0Served p w && floatsAllowed p w))))
     (any-source p (λ x. not (srcServed w x)))
 
 -- 8
-pub operand-rule : (p : Plain) (w : ℕ)
-    → operandRuleBroken p w
-    ≡ ((readsTwo p && isImmediate src0 w)
+
+-- What is asked of every word;
+unfoldable pub wholeRuleBroken : Plain → ℕ → Bool
+wholeRuleBroken p w =
+    (readsTwo p && isImmediate src0 w)
     || (anySource p (unequalHalves w src0) (unequalHalves w src1)
     || (anySource p (badModifier p w src0) (badModifier p w src1)
-    || ownRuleBroken p w)))
-unfolding operandRuleBroken
+    || ownRuleBroken p w))
+
+-- and of floats.
+unfoldable pub floatRuleBroken : Plain → ℕ → Bool
+floatRuleBroken p w = mixed p w || anySource p (vectorTooShort w src0) (vectorTooShort w src1)
+
+pub mixed-rule : (p : Plain) (w : ℕ)
+    → mixed p w ≡ (usesFloats p w && (not (dstIsFloat w) || anySource p (not (srcIsFloat w src0)) (not (srcIsFloat w src1))))
+unfolding mixed
+mixed-rule p w = ap (λ (b : Bool). usesFloats p w && (not (dstIsFloat w) || b)) (any-source p (λ x. not (srcIsFloat w x)))
+
+pub operand-rule : (p : Plain) (w : ℕ) → operandRuleBroken p w ≡ (wholeRuleBroken p w || floatRuleBroken p w)
+unfolding operandRuleBroken wholeRuleBroken floatRuleBroken
 operand-rule p w =
     ap₂ _||_ (ap (λ (b : Bool). b && isImmediate src0 w) (two-counted p))
-    (ap₂ _||_ (any-source p (unequalHalves w)) (ap (λ (b : Bool). b || ownRuleBroken p w) (any-source p (badModifier p w))))
+    (ap₂ _||_ (any-source p (unequalHalves w)) (ap₂ (λ (b c : Bool). b || (ownRuleBroken p w || (mixed p w || c))) (any-source p (badModifier p w)) (any-source p (vectorTooShort w))))
+    ∙ apart (readsTwo p && isImmediate src0 w) (anySource p (unequalHalves w src0) (unequalHalves w src1)) (anySource p (badModifier p w src0) (badModifier p w src1)) (ownRuleBroken p w) (mixed p w || anySource p (vectorTooShort w src0) (vectorTooShort w src1))
+  where
+    apart : (a b c d e : Bool) → (a || (b || (c || (d || e)))) ≡ ((a || (b || (c || d))) || e)
+    apart true b c d e = refl
+    apart false true c d e = refl
+    apart false false true d e = refl
+    apart false false false true e = refl
+    apart false false false false e = refl
+
+-- Where no operand is a float, nothing is asked of floats.
+pub operand-usual : (p : Plain) (w : ℕ) → Usual w → operandRuleBroken p w ≡ wholeRuleBroken p w
+unfolding floatRuleBroken mixed
+operand-usual p w u = operand-rule p w ∙ ap (λ (b : Bool). wholeRuleBroken p w || b) silent ∙ kept (wholeRuleBroken p w)
+  where
+    kept : (b : Bool) → (b || false) ≡ b
+    kept true = refl
+    kept false = refl
+
+    right : (a b : Bool) → (a || b) ≡ false → b ≡ false
+    right true b e = absurd (true≢false e)
+    right false b e = e
+
+    short : (x : Source) → vectorTooShort w x ≡ false
+    short x = ap (λ (b : Bool). b && ltb 4 (channels w)) (right (eqb (srcType x w) 7) (srcIsVector x w) (u .whole .source x))
+
+    silent : floatRuleBroken p w ≡ false
+    silent =
+        ap₂ (λ (a b : Bool). (a && (not (dstIsFloat w) || anyOf (λ x. not (srcIsFloat w x)) (sources p))) || b) (none-float p w (u .whole))
+        (ap₂ (anySource p) (short src0) (short src1) ∙ nowhere (readsTwo p))
 
 -- A rule over the register operands: the destination's test, and each source's.
 abbrev pub operandTest : Plain → ℕ → Bool → Bool → Bool → Bool
@@ -121,12 +182,32 @@ pub reach-rule : (p : Plain) (w : ℕ) → reachBroken p w ≡ operandTest p w (
 unfolding reachBroken
 reach-rule p w = some-operand p w (dstFar w) (λ x. srcFar x w)
 
--- ---- what is told of a0
+-- ---- what is told of a word
 
--- A test that is asked where a0 may have a part, and that fails where it has none, is the test.
-pub asked : (looks t : Bool) → (looks ≡ false → t ≡ false) → (looks && t) ≡ t
+-- A test that is asked of unusual words, and that fails of the others, is the test.
+pub asked : (unusual t : Bool) → (unusual ≡ false → t ≡ false) → (unusual && t) ≡ t
 asked true t f = refl
 asked false t f = sym (f refl)
+
+-- So are the tests of a source's type.
+asked-kind : (unusual imm v f low five named : Bool) → (unusual ≡ false → (f || (imm && v)) ≡ false)
+    → cond imm (low || (unusual && (v || f))) (named && (five || (unusual && f))) ≡ cond imm (low || (v || f)) (named && (five || f))
+asked-kind true imm v f low five named h = refl
+asked-kind false true true true low five named h = absurd (true≢false (h refl))
+asked-kind false true true false low five named h = absurd (true≢false (h refl))
+asked-kind false true false true low five named h = absurd (true≢false (h refl))
+asked-kind false true false false low five named h = refl
+asked-kind false false v true low five named h = absurd (true≢false (h refl))
+asked-kind false false v false low five named h = refl
+
+pub asked-source : (unusual : Bool) (w : ℕ) (x : Source) → (unusual ≡ false → srcIsFloat w x ≡ false)
+    → cond (isImmediate x w) (leb (srcType x w) 3 || (unusual && (eqb (srcType x w) typeVf || eqb (srcType x w) typeF)))
+    ((eqb (srcFile x w) grf || (srcIsA0 x w && eqb (srcAddrMode x w) 0)) && (leb (srcType x w) 5 || (unusual && eqb (srcType x w) typeF)))
+    ≡ srcServed w x
+unfolding srcServed
+asked-source unusual w x h =
+    asked-kind unusual (isImmediate x w) (eqb (srcType x w) typeVf) (eqb (srcType x w) typeF) (leb (srcType x w) 3) (leb (srcType x w) 5)
+    (eqb (srcFile x w) grf || (srcIsA0 x w && eqb (srcAddrMode x w) 0)) h
 
 -- ---- the six in order, by which rule is the first that is broken
 

@@ -2,34 +2,44 @@
 use crate::logic::both;
 use crate::logic::either;
 use crate::logic::negated;
+use crate::served::uses_floats;
 use crate::sources::any_source;
 use words::bytes::Word;
 use words::fields::Source;
+use words::fields::exec_size;
 use words::fields::high_half;
 use words::fields::is_immediate;
 use words::fields::low_half;
 use words::fields::pred_ctrl;
 use words::fields::src_modifier;
 use words::fields::src_type;
+use words::floats::dst_is_float;
+use words::floats::src_is_float;
+use words::floats::src_is_vector;
 use words::operation::Plain;
+use words::region::count_of;
 use words::traits::reads_two;
 use words::traits::takes_modifiers;
 ghost use mathlib.Core.Path.{_≡_};
-ghost use mathlib.Core.Bool.{_&&_};
+ghost use mathlib.Core.Bool.{false, _&&_};
 ghost use Rattle.paper.specs.Word.{src0, src1, isImmediate};
 ghost use Rattle.paper.specs.Operation.{mul, shr, sel};
-ghost use Rattle.paper.specs.Legal.{unequalHalves, badModifier, ownRuleBroken, operandRuleBroken};
+ghost use Rattle.paper.specs.Legal.{unequalHalves, badModifier, ownRuleBroken, mixed, vectorTooShort, operandRuleBroken};
+ghost use Rattle.judge.specs.Rules.{wholeRuleBroken, floatRuleBroken};
 ghost use Rattle.judge.specs.Sources.{anySource};
 ghost use Rattle.words.specs.Operations.{plainIs};
 ghost use Rattle.laws.specs.Sources.{readsTwo};
 ghost use Rattle.words.specs.Words.{toWord, sourceIs};
+ghost use Rattle.words.specs.Usual.{Usual};
 
 // A word immediate's two halves differ.
 pub fn unequal_halves(x: Source, w: Word) -> bool
     ensures { λ r. ⌜ r ≡ unequalHalves (toWord w) (sourceIs x) ⌝ }
 {
+    let kind = src_type(x, w);
+    let word = both(2 <= kind, kind <= 3);
     let differ = negated(low_half(w) == high_half(w));
-    both(is_immediate(x, w), both(2 <= src_type(x, w), differ))
+    both(is_immediate(x, w), both(word, differ))
 }
 
 // A modifier on src0 where none is allowed: on an immediate, and on logic and shifts.
@@ -71,7 +81,8 @@ pub fn takes_dwords(w: Word) -> bool
 pub fn takes_signed(w: Word) -> bool
     ensures { λ r. ⌜ r ≡ ownRuleBroken shr (toWord w) ⌝ }
 {
-    src_type(Source::First, w) % 2 == 1
+    let kind = src_type(Source::First, w);
+    both(kind < 6, kind % 2 == 1)
 }
 
 // There is no predicate to choose by.
@@ -127,13 +138,51 @@ pub fn modifiers_broken(p: Plain, w: Word) -> bool
     any_source(p, bad_first_modifier(p, w), bad_second_modifier(p, w))
 }
 
-// 8: an immediate that is not last, halves that differ, a modifier too many, or an operation's own rule.
-pub fn operand_rule_broken(p: Plain, w: Word) -> bool
-    ensures { λ r. ⌜ r ≡ operandRuleBroken (plainIs p) (toWord w) ⌝ }
+// An immediate that is not last, halves that differ, a modifier too many, or an operation's own rule: what is asked of every word.
+fn whole_rule_broken(p: Plain, w: Word) -> bool
+    ensures { λ r. ⌜ r ≡ wholeRuleBroken (plainIs p) (toWord w) ⌝ }
 {
     let own = own_rule_broken(p, w);
     either(
         is_misplaced(p, w),
         either(halves_broken(p, w), either(modifiers_broken(p, w), own)),
     )
+}
+
+// Some operand is a float and some is none.
+fn is_mixed(p: Plain, w: Word) -> bool
+    ensures { λ r. ⌜ r ≡ mixed (plainIs p) (toWord w) ⌝ }
+{
+    let first = negated(src_is_float(Source::First, w));
+    let second = negated(src_is_float(Source::Second, w));
+    let other = either(negated(dst_is_float(w)), any_source(p, first, second));
+    both(uses_floats(p, w), other)
+}
+
+// Four restricted floats for more than four channels.
+fn vector_too_short(x: Source, w: Word) -> bool
+    ensures { λ r. ⌜ r ≡ vectorTooShort (toWord w) (sourceIs x) ⌝ }
+{
+    both(src_is_vector(x, w), 4 < count_of(exec_size(w)))
+}
+
+// Floats are mixed with whole numbers, or restricted floats are too few.
+fn float_rule_broken(p: Plain, w: Word) -> bool
+    ensures { λ r. ⌜ r ≡ floatRuleBroken (plainIs p) (toWord w) ⌝ }
+{
+    let first = vector_too_short(Source::First, w);
+    let second = vector_too_short(Source::Second, w);
+    either(is_mixed(p, w), any_source(p, first, second))
+}
+
+// 8. Whether the word is unusual is told: where it is not, no operand is a float.
+pub fn operand_rule_broken(unusual: bool, p: Plain, w: Word) -> bool
+    requires { ⌜ (unusual ≡ false → Usual (toWord w)) ⌝ }
+    ensures { λ r. ⌜ r ≡ operandRuleBroken (plainIs p) (toWord w) ⌝ }
+{
+    let whole = whole_rule_broken(p, w);
+    if unusual {
+        return either(whole, float_rule_broken(p, w));
+    }
+    whole
 }

@@ -2,28 +2,28 @@
 use crate::dispatch::operation_here;
 use crate::operands::operand_rule_broken;
 use crate::regions::alignment_broken;
-use crate::regions::alignment_broken_unaided;
+use crate::regions::alignment_broken_usual;
 use crate::regions::reach_broken;
-use crate::regions::reach_broken_unaided;
+use crate::regions::reach_broken_usual;
 use crate::regions::shape_broken;
 use crate::served::branch_served;
 use crate::served::plain_served;
 use crate::served::reserved_set;
 use table::regions::FIELDS;
-use words::addresses::looks_at_a0;
 use words::bytes::Word;
 use words::fields::opcode;
 use words::operation::Branch;
 use words::operation::Operation;
 use words::operation::Plain;
 use words::operation::is_branch;
+use words::unusual::is_unusual;
 ghost use mathlib.Core.Path.{_≡_};
 ghost use Prim.Native.Nat.{_<_};
 ghost use Rattle.paper.specs.Operation.{plain, branch};
 ghost use Rattle.paper.specs.Legal.{later, refusalOf};
 ghost use Rattle.words.specs.Operations.{plainIs, branchIs, operationIs};
 ghost use Rattle.words.specs.Words.{toWord};
-ghost use Rattle.words.specs.Unaided.{Unaided};
+ghost use Rattle.words.specs.Usual.{Usual};
 ghost use Rattle.table.specs.Entries.{regionTable};
 ghost use Rattle.judge.specs.Rules.{placesOf};
 ghost use Rattle.judge.specs.Verdicts.{numberOf};
@@ -52,15 +52,15 @@ fn judge_places(p: Plain, w: Word) -> Broken
     Broken::Nothing
 }
 
-// 10 and 11 of an operation in a word in which a0 has no part.
-fn judge_places_unaided(p: Plain, w: Word) -> Broken
-    requires { ⌜ Unaided (toWord w) ⌝ }
+// 10 and 11 of an operation in a word that is as most are: no part for a0, no float.
+fn judge_places_usual(p: Plain, w: Word) -> Broken
+    requires { ⌜ Usual (toWord w) ⌝ }
     ensures { λ r. ⌜ numberOf r ≡ placesOf (plainIs p) (toWord w) ⌝ }
 {
-    if alignment_broken_unaided(p, w) {
+    if alignment_broken_usual(p, w) {
         return Broken::Alignment;
     }
-    if reach_broken_unaided(p, w) {
+    if reach_broken_usual(p, w) {
         return Broken::Reach;
     }
     Broken::Nothing
@@ -71,20 +71,20 @@ pub(crate) fn judge_plain(regions: &[u8; FIELDS], p: Plain, w: Word) -> Broken
     requires { ⌜ now regions ≡ regionTable ⌝ }
     ensures { λ r. ⌜ numberOf r ≡ later (plain (plainIs p)) (toWord w) ⌝ }
 {
-    let looks = looks_at_a0(w);
-    if !plain_served(looks, p, w) {
+    let unusual = is_unusual(w);
+    if !plain_served(unusual, p, w) {
         return Broken::Field;
     }
-    if operand_rule_broken(p, w) {
+    if operand_rule_broken(unusual, p, w) {
         return Broken::Operand;
     }
     if shape_broken(regions, p, w) {
         return Broken::Shape;
     }
-    if looks {
+    if unusual {
         return judge_places(p, w);
     }
-    judge_places_unaided(p, w)
+    judge_places_usual(p, w)
 }
 
 // 7 of a branch.

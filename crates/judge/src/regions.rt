@@ -36,7 +36,7 @@ ghost use Rattle.paper.specs.Legal.{plainServed, shapeBroken, unaligned, alignm
 ghost use Rattle.words.specs.Operations.{plainIs};
 ghost use Rattle.words.specs.Words.{toWord, sourceIs};
 ghost use Rattle.words.specs.Regions.{regionIs, Small};
-ghost use Rattle.words.specs.Unaided.{Unaided};
+ghost use Rattle.words.specs.Usual.{Usual};
 ghost use Rattle.table.specs.Entries.{regionTable};
 ghost use Rattle.judge.specs.Rules.{operandTest, lookRefuses, dstUnaligned, srcUnaligned, srcFar, dstFar};
 
@@ -81,24 +81,24 @@ pub fn is_unaligned(subregister: u64, size: u64) -> bool
     negated(subregister % size == 0)
 }
 
-// Whether a0 may have a part in the word is told to the tests of single operands: where it has none, nothing is asked for that.
+// Whether the word is unusual is told to the tests of single operands: where it is not, a0 has no part, and nothing is asked for that.
 
 // The destination's is none, and it is named directly.
-fn dst_unaligned(looks: bool, w: Word) -> bool
-    requires { ⌜ (looks ≡ false → Unaided (toWord w)) ⌝ }
+fn dst_unaligned(unusual: bool, w: Word) -> bool
+    requires { ⌜ (unusual ≡ false → Usual (toWord w)) ⌝ }
     ensures { λ r. ⌜ r ≡ dstUnaligned (toWord w) ⌝ }
 {
     let broken = is_unaligned(dst_subregister(w), size_of(dst_type(w)));
-    both(negated(both(looks, dst_by_address(w))), broken)
+    both(negated(both(unusual, dst_by_address(w))), broken)
 }
 
 // A source's is none, and it is named directly.
-fn src_unaligned(looks: bool, x: Source, w: Word) -> bool
-    requires { ⌜ (looks ≡ false → Unaided (toWord w)) ⌝ }
+fn src_unaligned(unusual: bool, x: Source, w: Word) -> bool
+    requires { ⌜ (unusual ≡ false → Usual (toWord w)) ⌝ }
     ensures { λ r. ⌜ r ≡ srcUnaligned (sourceIs x) (toWord w) ⌝ }
 {
     let broken = is_unaligned(src_subregister(x, w), size_of(src_type(x, w)));
-    both(negated(both(looks, src_by_address(x, w))), broken)
+    both(negated(both(unusual, src_by_address(x, w))), broken)
 }
 
 // 10: an operand that is named directly is misaligned.
@@ -110,9 +110,9 @@ pub fn alignment_broken(p: Plain, w: Word) -> bool
     some_operand(p, w, dst_unaligned(true, w), first, second)
 }
 
-// 10 of a word in which a0 has no part.
-pub(crate) fn alignment_broken_unaided(p: Plain, w: Word) -> bool
-    requires { ⌜ Unaided (toWord w) ⌝ }
+// 10 of a word that is as most are.
+pub(crate) fn alignment_broken_usual(p: Plain, w: Word) -> bool
+    requires { ⌜ Usual (toWord w) ⌝ }
     ensures { λ r. ⌜ r ≡ alignmentBroken (plainIs p) (toWord w) ⌝ }
 {
     let first = src_unaligned(false, Source::First, w);
@@ -164,23 +164,23 @@ pub(crate) fn region_too_far(bytes: usize, r: Region, last: usize) -> bool
 }
 
 // A source reaches too far, and is named directly.
-fn src_far(looks: bool, x: Source, w: Word) -> bool
-    requires { ⌜ (looks ≡ false → Unaided (toWord w)) ⌝ }
+fn src_far(unusual: bool, x: Source, w: Word) -> bool
+    requires { ⌜ (unusual ≡ false → Usual (toWord w)) ⌝ }
     ensures { λ r. ⌜ r ≡ srcFar (sourceIs x) (toWord w) ⌝ }
 {
-    let a0 = both(looks, src_is_a0(x, w));
+    let a0 = both(unusual, src_is_a0(x, w));
     let far = region_too_far(bytes_in(a0), src_region(a0, x, w), last_channel(w));
-    both(negated(both(looks, src_by_address(x, w))), far)
+    both(negated(both(unusual, src_by_address(x, w))), far)
 }
 
 // The destination does, and is named directly.
-fn dst_far(looks: bool, w: Word) -> bool
-    requires { ⌜ (looks ≡ false → Unaided (toWord w)) ⌝ }
+fn dst_far(unusual: bool, w: Word) -> bool
+    requires { ⌜ (unusual ≡ false → Usual (toWord w)) ⌝ }
     ensures { λ r. ⌜ r ≡ dstFar (toWord w) ⌝ }
 {
-    let a0 = both(looks, dst_is_a0(w));
+    let a0 = both(unusual, dst_is_a0(w));
     let far = region_too_far(bytes_in(a0), dst_region(a0, w), last_channel(w));
-    both(negated(both(looks, dst_by_address(w))), far)
+    both(negated(both(unusual, dst_by_address(w))), far)
 }
 
 // 11: an operand that is named directly reaches too far.
@@ -192,9 +192,9 @@ pub fn reach_broken(p: Plain, w: Word) -> bool
     some_operand(p, w, dst_far(true, w), first, second)
 }
 
-// 11 of a word in which a0 has no part.
-pub(crate) fn reach_broken_unaided(p: Plain, w: Word) -> bool
-    requires { ⌜ Unaided (toWord w) ⌝ }
+// 11 of a word that is as most are.
+pub(crate) fn reach_broken_usual(p: Plain, w: Word) -> bool
+    requires { ⌜ Usual (toWord w) ⌝ }
     ensures { λ r. ⌜ r ≡ reachBroken (plainIs p) (toWord w) ⌝ }
 {
     let first = src_far(false, Source::First, w);

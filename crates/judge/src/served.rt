@@ -29,20 +29,23 @@ use words::fields::src_addr_mode;
 use words::fields::src_file;
 use words::fields::src_type;
 use words::fields::we_ctrl;
+use words::floats::dst_is_float;
+use words::floats::src_is_float;
 use words::operation::Branch;
 use words::operation::Plain;
 use words::region::count_of;
 use words::traits::compares;
 use words::traits::saturates;
+use words::traits::takes_floats;
 ghost use mathlib.Core.Bool.{false};
 ghost use mathlib.Core.Path.{_≡_};
 ghost use Rattle.paper.specs.Operation.{jmpi, isMov, isBranch, operation};
 ghost use Rattle.paper.specs.Enable.{groupOf};
-ghost use Rattle.paper.specs.Legal.{reservedSet, quarterServed, predicateServed, conditionServed, controlServed, dstServed, srcServed, usesA0, movesWords, plainServed, structured, ownNeeds, branchServed};
+ghost use Rattle.paper.specs.Legal.{reservedSet, quarterServed, predicateServed, conditionServed, controlServed, dstServed, srcServed, usesA0, movesWords, usesFloats, plainServed, structured, ownNeeds, branchServed};
 ghost use Rattle.words.specs.Operations.{plainIs, branchIs};
 ghost use Rattle.words.specs.Words.{toWord, sourceIs};
-ghost use Rattle.words.specs.Unaided.{Unaided};
-ghost use Rattle.judge.specs.Rules.{a0Served, operandsServed};
+ghost use Rattle.words.specs.Usual.{Usual};
+ghost use Rattle.judge.specs.Rules.{a0Served, floatsAllowed, operandsServed};
 
 // 6: bit 7; for all but branches, which are told, 47 or 95:90, or 127:121 outside immediate form.
 pub(crate) fn reserved_set(jumps: bool, w: Word) -> bool
@@ -117,29 +120,33 @@ pub fn control_served(comparing: bool, saturating: bool, w: Word) -> bool
 
 // ---- 7: operands
 
-// Whether a0 may have a part in the word is told to the tests of single operands.
+// Whether the word is unusual is told to the tests of single operands: what few words need is asked of these alone.
 
 // Registers, named directly or by address; or null or a0, named directly; of a listed type.
-fn dst_served(looks: bool, w: Word) -> bool
-    requires { ⌜ (looks ≡ false → Unaided (toWord w)) ⌝ }
+fn dst_served(unusual: bool, w: Word) -> bool
+    requires { ⌜ (unusual ≡ false → Usual (toWord w)) ⌝ }
     ensures { λ r. ⌜ r ≡ dstServed (toWord w) ⌝ }
 {
     let direct = dst_addr_mode(w) == 0;
-    let a0 = both(looks, dst_is_a0(w));
+    let a0 = both(unusual, dst_is_a0(w));
     let named = both(either(is_null(w), a0), direct);
-    both(either(dst_file(w) == 1, named), dst_type(w) <= 5)
+    let float = both(unusual, dst_is_float(w));
+    let listed = either(dst_type(w) <= 5, float);
+    both(either(dst_file(w) == 1, named), listed)
 }
 
-// An immediate of type 0 to 3; or, of type 0 to 5, a register, named directly or by address, or a0, named directly.
-fn src_served(looks: bool, x: Source, w: Word) -> bool
-    requires { ⌜ (looks ≡ false → Unaided (toWord w)) ⌝ }
+// An immediate of a listed type; or, of a listed type, a register, named directly or by address, or a0, named directly.
+fn src_served(unusual: bool, x: Source, w: Word) -> bool
+    requires { ⌜ (unusual ≡ false → Usual (toWord w)) ⌝ }
     ensures { λ r. ⌜ r ≡ srcServed (toWord w) (sourceIs x) ⌝ }
 {
     let kind = src_type(x, w);
-    let a0 = both(looks, src_is_a0(x, w));
+    let a0 = both(unusual, src_is_a0(x, w));
     let named = both(a0, src_addr_mode(x, w) == 0);
-    let register = both(either(src_file(x, w) == 1, named), kind <= 5);
-    chosen(is_immediate(x, w), kind <= 3, register)
+    let listed = either(kind <= 5, both(unusual, kind == 7));
+    let register = both(either(src_file(x, w) == 1, named), listed);
+    let floats = both(unusual, either(kind == 5, kind == 7));
+    chosen(is_immediate(x, w), either(kind <= 3, floats), register)
 }
 
 // Some operand is a0.
@@ -192,19 +199,39 @@ fn a0_served(p: Plain, w: Word) -> bool
     true
 }
 
-// The operands of an operation, and a0 among them.
+// Some operand is a float.
+pub(crate) fn uses_floats(p: Plain, w: Word) -> bool
+    ensures { λ r. ⌜ r ≡ usesFloats (plainIs p) (toWord w) ⌝ }
+{
+    let first = src_is_float(Source::First, w);
+    let second = src_is_float(Source::Second, w);
+    either(dst_is_float(w), any_source(p, first, second))
+}
+
+// No operand is a float, or floats are served on the operation, and Saturate is clear.
+fn floats_allowed(p: Plain, w: Word) -> bool
+    ensures { λ r. ⌜ r ≡ floatsAllowed (plainIs p) (toWord w) ⌝ }
+{
+    if uses_floats(p, w) {
+        return both(takes_floats(p), saturate(w) == 0);
+    }
+    true
+}
+
+// The operands of an operation, a0 and floats among them.
 fn operands_served(p: Plain, w: Word) -> bool
     ensures { λ r. ⌜ r ≡ operandsServed (plainIs p) (toWord w) ⌝ }
 {
     let first = negated(src_served(true, Source::First, w));
     let second = negated(src_served(true, Source::Second, w));
     let sources = negated(any_source(p, first, second));
-    both(dst_served(true, w), both(sources, a0_served(p, w)))
+    let few = both(a0_served(p, w), floats_allowed(p, w));
+    both(dst_served(true, w), both(sources, few))
 }
 
-// The operands of an operation in a word in which a0 has no part.
-fn operands_served_unaided(p: Plain, w: Word) -> bool
-    requires { ⌜ Unaided (toWord w) ⌝ }
+// The operands of an operation in a word that is as most are.
+fn operands_served_usual(p: Plain, w: Word) -> bool
+    requires { ⌜ Usual (toWord w) ⌝ }
     ensures { λ r. ⌜ r ≡ operandsServed (plainIs p) (toWord w) ⌝ }
 {
     let first = negated(src_served(false, Source::First, w));
@@ -213,16 +240,16 @@ fn operands_served_unaided(p: Plain, w: Word) -> bool
     both(dst_served(false, w), sources)
 }
 
-// Every field that an operation with operands is judged by; whether a0 may have a part is told.
-pub(crate) fn plain_served(looks: bool, p: Plain, w: Word) -> bool
-    requires { ⌜ (looks ≡ false → Unaided (toWord w)) ⌝ }
+// Every field that an operation with operands is judged by; whether the word is unusual is told.
+pub(crate) fn plain_served(unusual: bool, p: Plain, w: Word) -> bool
+    requires { ⌜ (unusual ≡ false → Usual (toWord w)) ⌝ }
     ensures { λ r. ⌜ r ≡ plainServed (plainIs p) (toWord w) ⌝ }
 {
     let control = control_served(compares(p), saturates(p), w);
-    if looks {
+    if unusual {
         return both(control, operands_served(p, w));
     }
-    both(control, operands_served_unaided(p, w))
+    both(control, operands_served_usual(p, w))
 }
 
 // ---- 7: branches

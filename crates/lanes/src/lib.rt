@@ -2,6 +2,7 @@
 pub mod flags;
 pub mod load;
 pub mod mask;
+pub mod patterns;
 pub mod scatter;
 pub mod store;
 mod votes;

@@ -31,7 +31,14 @@ fn either(on: bool, v: u64, old: u64) -> u64
 }
 
 // Channel k's value stored where the mask enables it, without a branch: a disabled channel's bytes are stored as they are.
-fn blend_channel(registers: &mut [u8], from: usize, size: usize, enable: u64, k: usize, v: u64)
+pub(crate) fn blend_channel(
+    registers: &mut [u8],
+    from: usize,
+    size: usize,
+    enable: u64,
+    k: usize,
+    v: u64,
+)
     requires { ⌜ Size size × (k < 16) × (from + size ≤ length (now registers)) ⌝ }
     ensures { λ r. ⌜ now (registers .exit) ≡ cond (bit enable k) (putAt (now (registers .entry)) from size v) (now (registers .entry)) ⌝ }
 {
@@ -197,7 +204,7 @@ fn all_on(enable: u64, n: usize) -> bool
 }
 
 // Elements side by side, all of which are enabled.
-fn is_whole(stride: usize, enable: u64, n: usize) -> bool
+pub(crate) fn is_whole(stride: usize, enable: u64, n: usize) -> bool
     requires { ⌜ n ≤ 16 ⌝ }
     ensures { λ r. ⌜ (r ≡ true → (stride ≡ 1) × ((k : ℕ) → k < n → bit enable k ≡ true)) ⌝ }
 {

@@ -11,7 +11,7 @@ use Rattle.paper.specs.Operation.{Plain, Operation, plain, nop, branch, unliste
 use Rattle.paper.specs.Store.{Store}
 use Rattle.paper.specs.Address.{settled, addressBroken, addressStops}
 use Rattle.paper.specs.Effect.{plainEffect, effect}
-use Rattle.paper.specs.Legal.{anyOf, reservedSet, controlServed, dstServed, srcServed, usesA0, movesWords, plainServed, orElse, later, refusalOf}
+use Rattle.paper.specs.Legal.{anyOf, reservedSet, controlServed, dstServed, srcServed, usesA0, movesWords, usesFloats, floatsServed, plainServed, orElse, later, refusalOf}
 use Rattle.paper.specs.Kernel.{Instr, Forms, judgeShort, judgeLong, judgeAt, good, parse}
 use Rattle.paper.specs.Calls.{judgedKernel, accepted}
 use Rattle.paper.specs.Machine.{Channel, State, Ways, wake, isAwake, pass, perform, stepAt}
@@ -49,7 +49,7 @@ only-mov p w legal e =
     let a = both-true (controlServed (traits p .compares) (traits p .saturates) w) _ (legal .served) in
     let b = both-true (dstServed w) _ (a .1) in
     let c = both-true (not (anyOf (λ x. not (srcServed w x)) (sources p))) _ (b .1) in
-    let moves : (not (dstIsA0 w || anyOf (λ x. srcIsA0 x w) (sources p)) || movesWords p w) ≡ true = c .1 in
+    let moves : (not (dstIsA0 w || anyOf (λ x. srcIsA0 x w) (sources p)) || movesWords p w) ≡ true = both-true _ (not (usesFloats p w) || floatsServed p w) (c .1) .0 in
     is-mov p (both-true (isMov p) _ (rw e at moves) .0)
 
 -- ---- any word

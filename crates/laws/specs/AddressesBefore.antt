@@ -12,13 +12,13 @@ use Rattle.paper.specs.Word.{Source, src0, src1, condModifier, saturate, flagCh
 use Rattle.paper.specs.Word.{srcFile, srcType, srcSubregister, srcRegister, srcModifier, srcAddrMode, srcHorzStride, srcWidth, srcVertStride}
 use Rattle.paper.specs.Word.{grf, isNull, isImmediate, immediate}
 use Rattle.paper.specs.Operation.{Plain, Operation, plain, nop, branch, unlisted, operation, traits, sources}
-use Rattle.paper.specs.Value.{width, sizeOf}
+use Rattle.paper.specs.Value.{typeVf, width, sizeOf}
 use Rattle.paper.specs.Element.{Element, made, meets}
-use Rattle.paper.specs.Region.{Region, countOf, strideOf, channels, elementAt, Operand, fixed, direct, dstSize}
+use Rattle.paper.specs.Region.{Region, countOf, strideOf, channels, elementAt, Operand, fixed, vector, direct, srcKind, dstSize}
 use Rattle.paper.specs.Store.{Store}
 use Rattle.paper.specs.Enable.{chosenFlag, holds, channelOf, enabled, flagAfter}
 use Rattle.paper.specs.Effect.{patternAt, scattered, isOn}
-use Rattle.paper.specs.Legal.{anyOf, reservedSet, controlServed, branchServed, operandRuleBroken, someOperand, shapeBroken, unaligned, lastChannel, orElse}
+use Rattle.paper.specs.Legal.{anyOf, reservedSet, controlServed, registerType, immediateType, usesFloats, floatsServed, branchServed, operandRuleBroken, someOperand, shapeBroken, unaligned, lastChannel, orElse}
 use Rattle.paper.specs.Kernel.{Instr, longAndShort, Parsed, bad, good}
 use Rattle.paper.specs.Jump.{fetch}
 use Rattle.paper.specs.Machine.{Channel, State, Ways, wake, isAwake, act, Outcome, runWith, start}
@@ -30,19 +30,19 @@ use Rattle.laws.specs.Otherwise.{Judgement, judgeAtBy, judgedKernelBy, s
 
 -- Registers or null, addressed directly, of a listed type.
 unfoldable pub directDstServed : ℕ → Bool
-directDstServed w = (eqb (dstFile w) grf || isNull w) && (eqb (dstAddrMode w) 0 && leb (dstType w) 5)
+directDstServed w = (eqb (dstFile w) grf || isNull w) && (eqb (dstAddrMode w) 0 && registerType (dstType w))
 
--- An immediate of type 0 to 3; or a register, addressed directly, of type 0 to 5.
+-- An immediate of a listed type; or a register, addressed directly, of a listed type.
 unfoldable pub directSrcServed : ℕ → Source → Bool
 directSrcServed w x =
-    cond (isImmediate x w) (leb (srcType x w) 3)
-    (eqb (srcFile x w) grf && (eqb (srcAddrMode x w) 0 && leb (srcType x w) 5))
+    cond (isImmediate x w) (immediateType (srcType x w))
+    (eqb (srcFile x w) grf && (eqb (srcAddrMode x w) 0 && registerType (srcType x w)))
 
--- Control, destination, and the sources that the operation reads.
+-- Control, destination, and the sources that the operation reads; floats where they are served.
 unfoldable pub directPlainServed : Plain → ℕ → Bool
 directPlainServed p w =
     controlServed (traits p .compares) (traits p .saturates) w
-    && (directDstServed w && not (anyOf (λ x. not (directSrcServed w x)) (sources p)))
+    && (directDstServed w && (not (anyOf (λ x. not (directSrcServed w x)) (sources p)) && (not (usesFloats p w) || floatsServed p w)))
 
 -- ---- regions
 
@@ -57,7 +57,10 @@ directSrcRegion x w =
     }
 
 abbrev pub directOperandOf : Source → ℕ → Operand
-directOperandOf x w = cond (isImmediate x w) (fixed (immediate (width (srcType x w)) w)) (direct (directSrcRegion x w))
+directOperandOf x w =
+    cond (isImmediate x w)
+    (cond (eqb (srcType x w) typeVf) (vector (immediate 32 w)) (fixed (immediate (width (srcType x w)) w)))
+    (direct (directSrcRegion x w))
 
 abbrev pub directDstOrigin : ℕ → ℕ
 directDstOrigin w = dstRegister w * 32 + dstSubregister w
@@ -104,7 +107,7 @@ directRefusal w = orElse (reservedSet w) 6 (directLater (operation w) w)
 unfoldable pub directOperand : ℕ → List ℕ → Source → ℕ → Element
 directOperand w registers x n =
     record {
-      kind = srcType x w;
+      kind = srcKind x w;
       modifier = cond (isImmediate x w) 0 (srcModifier x w);
       pattern = patternAt registers (directOperandOf x w) n;
     }

@@ -11,7 +11,7 @@ use lib.ListN.{length, drop, length-append, length-drop}
 use lib.Seq.{drop-append-seam}
 use borrow.Author.Tests.{ltb-false, eqb-true}
 use Rattle.paper.specs.Bits.{bytesOf, numberAt}
-use Rattle.paper.specs.Limits.{dictionaryBytes, stateLength, budgetLimit}
+use Rattle.paper.specs.Limits.{dictionaryBytes, registerBytes, stateLength, budgetLimit}
 use Rattle.paper.specs.Dictionary.{Dictionary, dictionaryOf, inRange}
 use Rattle.paper.specs.Expand.{isShort, expand}
 use Rattle.paper.specs.Shorten.{shorten}
@@ -26,6 +26,7 @@ use Rattle.paper.specs.Calls.{Decoded, undecoded, decoded, decodeAt, decodedAs,
 use Rattle.paper.specs.Calls.{Changed, unchanged, allSized, onState, stoppedAs, steppedAs, stepCall, ranAs, runCall}
 use Rattle.laws.specs.Runs.{Verdict, ended, spent, astray, verdict-says}
 use Rattle.paper.specs.Listing.{listing, listedAs, listCall, Listing, faulty, listed, readListing, kernelOf, readAs, readCall}
+use Rattle.paper.specs.Placing.{Point, recordBytes, placementOf, pointBytes, orderOf, isOrder, answered, placeKernel, loadedWith, placeCall, placeKernelCall, placeLoadCall}
 use Rattle.laws.specs.StateBytes.{length-stateBytes}
 
 -- ---- calls that write a result into a lent buffer
@@ -133,6 +134,32 @@ read-confined dictionary text out =
     go : (D : Dictionary) (q : Listing) → Confined out (readAs D out q)
     go D (faulty from) = confined-refusal 30 from out
     go D (listed k) = confined-deliver (kernelOf D k) out
+
+-- An order's answer writes no byte past the two patterns, and none at all on refusal.
+pub place-confined : (order : ℕ) (bytes : List ℕ) (at : Point) (out : List ℕ) → Confined out (placeCall order bytes at out)
+unfolding placeCall
+place-confined order bytes at out =
+    confined-cond out (not (eqb (length bytes) recordBytes)) _ _ (confined-refusal 1 0 out)
+    (confined-cond out (not (isOrder order)) _ _ (confined-refusal 7 0 out)
+    (confined-deliver (pointBytes (answered (orderOf order (placementOf bytes)) at)) out))
+
+-- The fixed kernel is written where it has room, and nothing past it.
+pub place-kernel-confined : (out : List ℕ) → Confined out (placeKernelCall out)
+unfolding placeKernelCall
+place-kernel-confined out = confined-deliver placeKernel out
+
+-- A record that is not loaded leaves the registers as they were.
+pub place-load-unchanged : (bytes registers : List ℕ) → (numberOf (placeLoadCall bytes registers .answer) ≡ 0 → ⊥)
+    → placeLoadCall bytes registers .output ≡ registers
+unfolding placeLoadCall
+place-load-unchanged bytes registers = pick (eqb (length bytes) recordBytes && eqb (length registers) registerBytes)
+  where
+    loaded : Bool → Written
+    loaded b = cond b (record { answer = verdict 0 0; output = loadedWith bytes registers }) (kept (refusal 1 0) registers)
+
+    pick : (b : Bool) → (numberOf (loaded b .answer) ≡ 0 → ⊥) → loaded b .output ≡ registers
+    pick true n = absurd (n refl)
+    pick false n = refl
 
 -- ---- decode
 

@@ -8,10 +8,10 @@ use Rattle.paper.specs.Word.{Source, src0, src1, condModifier, saturate, flagCh
 use Rattle.paper.specs.Word.{srcType, srcModifier, immediate}
 use Rattle.paper.specs.Word.{a0, isNull, isImmediate, srcByAddress}
 use Rattle.paper.specs.Operation.{Plain, operation, traits, sources}
-use Rattle.paper.specs.Value.{width}
-use Rattle.paper.specs.Element.{Element, made, meets, result}
+use Rattle.paper.specs.Value.{typeVf, width}
+use Rattle.paper.specs.Element.{Element, made, meets, result, floatResult, resultOf}
 use Rattle.paper.specs.Store.{Store}
-use Rattle.paper.specs.Region.{channels, fixed, direct, dstSize}
+use Rattle.paper.specs.Region.{channels, fixed, vector, direct, srcKind, dstSize}
 use Rattle.paper.specs.Enable.{chosenFlag, holds, channelOf, enabled, flagAfter}
 use Rattle.paper.specs.Address.{outside, srcAddress, settled, someOutside, addressBroken}
 use Rattle.paper.specs.Effect.{patternAt, operand, fileIn, sourceAt, channelStores, scattered, isOn, writtenTo, registersAfter, finds, comparedFlag, plainEffect}
@@ -25,8 +25,8 @@ use Rattle.laws.specs.SettledLegal.{any-same}
 use Rattle.laws.specs.DirectWords.{newOperand, none-any, no-address, no-a0, src-no-address, src-no-a0, region, element}
 
 -- An operation that reads one source makes the same of every second.
-first-only : (p : Plain) → readsTwo p ≡ false → (c : ℕ) (h s : Bool) (kind : ℕ) (a b d : Element) → made p c h s kind a b ≡ made p c h s kind a d
-unfolding made result
+pub first-only : (p : Plain) → readsTwo p ≡ false → (c : ℕ) (h s : Bool) (kind : ℕ) (a b d : Element) → made p c h s kind a b ≡ made p c h s kind a d
+unfolding made resultOf floatResult result
 first-only Plain.mov e c h s kind a b d = refl
 first-only Plain.not e c h s kind a b d = refl
 first-only Plain.sel e c h s kind a b d = absurd (false≢true (sym e))
@@ -46,11 +46,12 @@ module _ (p : Plain) (w : ℕ) (old : newOperand p w ≡ false) where
   reads : (st : Store) (x : Source) → List·Memᴰ x (sources p) → (n : ℕ) → directOperand w (st .registers) x n ≡ sourceAt w st x n
   unfolding directOperand operand
   reads st x m n = λ i. record {
-    kind = srcType x w;
+    kind = srcKind x w;
     modifier = cond (isImmediate x w) 0 (srcModifier x w);
     pattern =
         patternAt (fileIn (sym (src-no-a0 p w old x m) i) st)
-        (cond (isImmediate x w) (fixed (immediate (width (srcType x w)) w)) (direct (region p w old x m i))) n;
+        (cond (isImmediate x w) (cond (eqb (srcType x w) typeVf) (vector (immediate 32 w)) (fixed (immediate (width (srcType x w)) w)))
+        (direct (region p w old x m i))) n;
   }
 
   -- what a source holds that is not read changes nothing.

@@ -15,7 +15,7 @@ use Rattle.paper.specs.Word.{srcFile, srcType, srcSubregister, srcRegister, src
 use Rattle.paper.specs.Word.{grf, arf, a0, isNull, dstIsA0, srcIsA0, isImmediate, dstByAddress, srcByAddress}
 use Rattle.paper.specs.Operation.{Plain, plain, traits, sources}
 use Rattle.paper.specs.Region.{strideOf, elementAt, registerAt, srcRegion, dstOrigin, dstSize, dstElement}
-use Rattle.paper.specs.Legal.{anyOf, controlServed, dstServed, srcServed, usesA0, plainServed, operandRuleBroken, someOperand, shapeBroken, unaligned, alignmentBroken, bytesIn, tooFar, regionTooFar, lastChannel, reachBroken, orElse, later}
+use Rattle.paper.specs.Legal.{anyOf, controlServed, registerType, immediateType, dstServed, srcServed, usesA0, usesFloats, floatsServed, plainServed, operandRuleBroken, someOperand, shapeBroken, unaligned, alignmentBroken, bytesIn, tooFar, regionTooFar, lastChannel, reachBroken, orElse, later}
 use Rattle.laws.specs.Regions.{or-false, none-of}
 use Rattle.laws.specs.SettledLegal.{any-same}
 use Rattle.laws.specs.Truth.{both-true}
@@ -76,7 +76,7 @@ module _ (p : Plain) (w : ℕ) (old : newOperand p w ≡ false) where
   -- 7 of the destination,
   dst-served : directDstServed w ≡ dstServed w
   unfolding directDstServed dstServed
-  dst-served = rw (no-a0, mode-zero w 63 no-address) (go (eqb (dstFile w) grf) (isNull w) (leb (dstType w) 5))
+  dst-served = rw (no-a0, mode-zero w 63 no-address) (go (eqb (dstFile w) grf) (isNull w) (registerType (dstType w)))
     where
       go : (a b c : Bool) → ((a || b) && (true && c)) ≡ ((a || ((b || false) && true)) && c)
       go true b c = refl
@@ -89,12 +89,12 @@ module _ (p : Plain) (w : ℕ) (old : newOperand p w ≡ false) where
   src-served x m = rw (src-no-a0 x m) (go (isImmediate x w) (src-no-address x m))
     where
       go : (t : Bool) → (not t && eqb (srcAddrMode x w) 1) ≡ false
-          → cond t (leb (srcType x w) 3) (eqb (srcFile x w) grf && (eqb (srcAddrMode x w) 0 && leb (srcType x w) 5))
-          ≡ cond t (leb (srcType x w) 3) ((eqb (srcFile x w) grf || (false && eqb (srcAddrMode x w) 0)) && leb (srcType x w) 5)
+          → cond t (immediateType (srcType x w)) (eqb (srcFile x w) grf && (eqb (srcAddrMode x w) 0 && registerType (srcType x w)))
+          ≡ cond t (immediateType (srcType x w)) ((eqb (srcFile x w) grf || (false && eqb (srcAddrMode x w) 0)) && registerType (srcType x w))
       go true e = refl
       go false e = rw (src-mode-zero x w e) (same (eqb (srcFile x w) grf))
         where
-          same : (a : Bool) → (a && (true && leb (srcType x w) 5)) ≡ ((a || false) && leb (srcType x w) 5)
+          same : (a : Bool) → (a && (true && registerType (srcType x w))) ≡ ((a || false) && registerType (srcType x w))
           same true = refl
           same false = refl
 
@@ -108,13 +108,6 @@ module _ (p : Plain) (w : ℕ) (old : newOperand p w ≡ false) where
   unfolding directPlainServed plainServed
   plain-served =
       rw (dst-served, any-same (λ x. not (directSrcServed w x)) (λ x. not (srcServed w x)) (sources p) (λ x m. ap not (src-served x m)), no-use)
-      (go (controlServed (traits p .compares) (traits p .saturates) w) (dstServed w) (anyOf (λ x. not (srcServed w x)) (sources p)))
-    where
-      go : (a b c : Bool) → (a && (b && not c)) ≡ (a && (b && (not c && true)))
-      go false b c = refl
-      go true false c = refl
-      go true true false = refl
-      go true true true = refl
 
   -- A rule over the operands that says the same of each says the same of all.
   operands-same : (dst dst′ : Bool) (src src′ : Source → Bool) → dst ≡ dst′ → ((x : Source) → List·Memᴰ x (sources p) → src x ≡ src′ x)
@@ -178,8 +171,8 @@ new-destination w e = go (dstByAddress w) refl e
     last true b = refl
     last false b = refl
 
-    go : (t : Bool) → dstByAddress w ≡ t → (t || dstIsA0 w) ≡ true → ((eqb (dstFile w) grf || isNull w) && (eqb (dstAddrMode w) 0 && leb (dstType w) 5)) ≡ false
-    go true h f = rw (mode-one (dstAddrMode w) h) (last (eqb (dstFile w) grf || isNull w) (leb (dstType w) 5))
+    go : (t : Bool) → dstByAddress w ≡ t → (t || dstIsA0 w) ≡ true → ((eqb (dstFile w) grf || isNull w) && (eqb (dstAddrMode w) 0 && registerType (dstType w))) ≡ false
+    go true h f = rw (mode-one (dstAddrMode w) h) (last (eqb (dstFile w) grf || isNull w) (registerType (dstType w)))
     go false h f =
         let b = both-true (eqb (dstFile w) arf) (eqb (dstRegister w) a0) f in
         rw (eqb-true (dstFile w) arf (b .0), eqb-true (dstRegister w) a0 (b .1))
@@ -194,17 +187,17 @@ new-source w x e = go (srcByAddress x w) refl e
     middle false b = refl
 
     by : (t : Bool) → (not t && eqb (srcAddrMode x w) 1) ≡ true
-        → cond t (leb (srcType x w) 3) (eqb (srcFile x w) grf && (eqb (srcAddrMode x w) 0 && leb (srcType x w) 5)) ≡ false
+        → cond t (immediateType (srcType x w)) (eqb (srcFile x w) grf && (eqb (srcAddrMode x w) 0 && registerType (srcType x w))) ≡ false
     by true h = absurd (false≢true h)
-    by false h = rw (mode-one (srcAddrMode x w) h) (middle (eqb (srcFile x w) grf) (leb (srcType x w) 5))
+    by false h = rw (mode-one (srcAddrMode x w) h) (middle (eqb (srcFile x w) grf) (registerType (srcType x w)))
 
     go : (t : Bool) → srcByAddress x w ≡ t → (t || srcIsA0 x w) ≡ true
-        → cond (isImmediate x w) (leb (srcType x w) 3) (eqb (srcFile x w) grf && (eqb (srcAddrMode x w) 0 && leb (srcType x w) 5)) ≡ false
+        → cond (isImmediate x w) (immediateType (srcType x w)) (eqb (srcFile x w) grf && (eqb (srcAddrMode x w) 0 && registerType (srcType x w))) ≡ false
     go true h f = by (isImmediate x w) h
     go false h f = rw (eqb-true (srcFile x w) arf (both-true (eqb (srcFile x w) arf) _ f .0))
 
 -- Where one source of a list passes a test, and each that passes it passes another, one passes the other.
-any-more : (f g : Source → Bool) → ((x : Source) → f x ≡ true → g x ≡ true) → (xs : List Source) → anyOf f xs ≡ true → anyOf g xs ≡ true
+pub any-more : (f g : Source → Bool) → ((x : Source) → f x ≡ true → g x ≡ true) → (xs : List Source) → anyOf f xs ≡ true → anyOf g xs ≡ true
 any-more f g h [] e = absurd (false≢true e)
 any-more f g h (x ∷ xs) e = go (f x) refl (any-more f g h xs) e
   where
@@ -221,19 +214,22 @@ pub new-was-seven : (p : Plain) (w : ℕ) → newOperand p w ≡ true → direct
 unfolding directLater directPlainServed
 new-was-seven p w e = go (dstByAddress w || dstIsA0 w) refl e
   where
-    seven : (a b c : Bool) → (b ≡ false) ⊎ (c ≡ true) → (n : ℕ) → orElse (not (a && (b && not c))) 7 n ≡ 7
-    seven false b c h n = refl
-    seven true b c (inl h) n = rw h
-    seven true true c (inr h) n = rw h
-    seven true false c (inr h) n = refl
+    seven : (a b c d : Bool) → (b ≡ false) ⊎ (c ≡ true) → (n : ℕ) → orElse (not (a && (b && (not c && d)))) 7 n ≡ 7
+    seven false b c d h n = refl
+    seven true b c d (inl h) n = rw h
+    seven true true c d (inr h) n = rw h
+    seven true false c d (inr h) n = refl
+
+    floating : Bool
+    floating = not (usesFloats p w) || floatsServed p w
 
     later-ones : ℕ
     later-ones =
         orElse (operandRuleBroken p w) 8 (orElse (shapeBroken p w) 9 (orElse (directAlignmentBroken p w) 10 (orElse (directReachBroken p w) 11 0)))
 
     go : (t : Bool) → (dstByAddress w || dstIsA0 w) ≡ t → (t || anyOf (λ x. srcByAddress x w || srcIsA0 x w) (sources p)) ≡ true
-        → orElse (not (controlServed (traits p .compares) (traits p .saturates) w && (directDstServed w && not (anyOf (λ x. not (directSrcServed w x)) (sources p))))) 7 later-ones ≡ 7
-    go true h f = seven (controlServed (traits p .compares) (traits p .saturates) w) (directDstServed w) (anyOf (λ x. not (directSrcServed w x)) (sources p)) (inl (new-destination w h)) later-ones
+        → orElse (not (controlServed (traits p .compares) (traits p .saturates) w && (directDstServed w && (not (anyOf (λ x. not (directSrcServed w x)) (sources p)) && floating)))) 7 later-ones ≡ 7
+    go true h f = seven (controlServed (traits p .compares) (traits p .saturates) w) (directDstServed w) (anyOf (λ x. not (directSrcServed w x)) (sources p)) floating (inl (new-destination w h)) later-ones
     go false h f =
-        seven (controlServed (traits p .compares) (traits p .saturates) w) (directDstServed w) (anyOf (λ x. not (directSrcServed w x)) (sources p))
+        seven (controlServed (traits p .compares) (traits p .saturates) w) (directDstServed w) (anyOf (λ x. not (directSrcServed w x)) (sources p)) floating
         (inr (any-more (λ x. srcByAddress x w || srcIsA0 x w) (λ x. not (directSrcServed w x)) (λ x q. ap not (new-source w x q)) (sources p) f)) later-ones

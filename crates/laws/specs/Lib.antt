@@ -57,3 +57,17 @@ pub mod DirectActs
 pub mod Addresses
 pub mod AddressWrites
 pub mod AddressesStay
+pub mod Tables
+pub mod Nan
+pub mod FloatSigns
+pub mod FloatResults
+pub mod FloatFormula
+pub mod FloatsBefore
+pub mod FloatWords
+pub mod FloatActs
+pub mod Floats
+pub mod PlacedWords
+pub mod PlacedStep
+pub mod PlacedAnswers
+pub mod PlacedRun
+pub mod PlacedTiles

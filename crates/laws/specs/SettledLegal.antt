@@ -3,7 +3,7 @@ use mathlib.Core.Bool.{Bool, true, false, not, cond, _&&_, _||_, true≢false, f
 use mathlib.Core.List.{List, [], _∷_, List·Memᴰ, List·Memᴰ·head, List·Memᴰ·tail, List·Memᴰ·not-nil}
 use mathlib.Core.Path.{_≡_, refl, ap, ap₂, sym, _∙_, subst}
 use Prim.Native.Nat.{ℕ, _+_}
-use lib.Dec.{eqb, leb}
+use lib.Dec.{eqb, ltb, leb}
 use lib.ListN.{length}
 use borrow.Author.Tests.{eqb-true, not-true, not-false}
 use Rattle.paper.specs.Bits.{bits}
@@ -11,7 +11,10 @@ use Rattle.paper.specs.Word.{Source, src0, src1, shiftOf}
 use Rattle.paper.specs.Word.{dstFile, dstType, dstRegister, dstAddrMode, srcFile, srcType, srcRegister, srcAddrMode, srcField}
 use Rattle.paper.specs.Word.{grf, arf, isNull, dstIsA0, srcIsA0, isImmediate, immediateForm, dstByAddress, srcByAddress}
 use Rattle.paper.specs.Operation.{Plain, isMov, traits, sources}
-use Rattle.paper.specs.Legal.{anyOf, reservedSet, controlServed, dstServed, srcServed, usesA0, movesWords, plainServed}
+use Rattle.paper.specs.Value.{typeF, typeVf}
+use Rattle.paper.specs.Region.{countOf, srcIsVector}
+use Rattle.paper.specs.Legal.{anyOf, reservedSet, controlServed, registerType, immediateType, dstServed, srcServed, usesA0, movesWords}
+use Rattle.paper.specs.Legal.{dstIsFloat, srcIsFloat, usesFloats, floatsServed, plainServed, mixed, vectorTooShort}
 use Rattle.paper.specs.Legal.{misplaced, unequalHalves, badModifier, ownRuleBroken, operandRuleBroken, shapeRefused, srcShapeBroken, shapeBroken}
 use Rattle.paper.specs.Legal.{alignmentBroken, reachBroken}
 use Rattle.paper.specs.Address.{settled, someOutside, addressBroken}
@@ -53,13 +56,13 @@ module _ (addresses : List ℕ) (p : Plain) (w : ℕ) (legal : LegalPlain p w) w
 
   -- 7 of the parts.
   parts : (controlServed (traits p .compares) (traits p .saturates) w ≡ true)
-      × (dstServed w ≡ true) × (not (anyOf (λ x. not (srcServed w x)) (sources p)) ≡ true) × ((not (usesA0 p w) || movesWords p w) ≡ true)
+      × (dstServed w ≡ true) × (not (anyOf (λ x. not (srcServed w x)) (sources p)) ≡ true)
   unfolding plainServed
   parts =
       let a = both-true (controlServed (traits p .compares) (traits p .saturates) w) _ (legal .served) in
       let b = both-true (dstServed w) _ (a .1) in
       let c = both-true (not (anyOf (λ x. not (srcServed w x)) (sources p))) _ (b .1) in
-      (a .0, b .0, c .0, c .1)
+      (a .0, b .0, c .0)
 
   -- Each source that is read is served.
   source-served : (x : Source) → List·Memᴰ x (sources p) → srcServed w x ≡ true
@@ -78,9 +81,9 @@ module _ (addresses : List ℕ) (p : Plain) (w : ℕ) (legal : LegalPlain p w) w
       none true f = false≢true f
       none false f = false≢true f
 
-      go : (t : Bool) → eqb (dstFile w) grf ≡ t → ((t || ((isNull w || dstIsA0 w) && eqb (dstAddrMode w) 0)) && leb (dstType w) 5) ≡ true → eqb (dstFile w) grf ≡ true
+      go : (t : Bool) → eqb (dstFile w) grf ≡ t → ((t || ((isNull w || dstIsA0 w) && eqb (dstAddrMode w) 0)) && registerType (dstType w)) ≡ true → eqb (dstFile w) grf ≡ true
       go true f h = f
-      go false f h = absurd (none (isNull w || dstIsA0 w) (rw mode at (both-true ((isNull w || dstIsA0 w) && eqb (dstAddrMode w) 0) (leb (dstType w) 5) h .0)))
+      go false f h = absurd (none (isNull w || dstIsA0 w) (rw mode at (both-true ((isNull w || dstIsA0 w) && eqb (dstAddrMode w) 0) (registerType (dstType w)) h .0)))
 
   src-file : (x : Source) → List·Memᴰ x (sources p) → srcByAddress x w ≡ true → eqb (srcFile x w) grf ≡ true
   unfolding srcServed
@@ -90,7 +93,7 @@ module _ (addresses : List ℕ) (p : Plain) (w : ℕ) (legal : LegalPlain p w) w
       by = both-true (not (isImmediate x w)) (eqb (srcAddrMode x w) 1) e
 
       served : Bool → Type 0
-      served t = cond t (leb (srcType x w) 3) ((eqb (srcFile x w) grf || (srcIsA0 x w && eqb (srcAddrMode x w) 0)) && leb (srcType x w) 5) ≡ true
+      served t = cond t (immediateType (srcType x w)) ((eqb (srcFile x w) grf || (srcIsA0 x w && eqb (srcAddrMode x w) 0)) && registerType (srcType x w)) ≡ true
 
       mode : eqb (srcAddrMode x w) 0 ≡ false
       mode = rw (eqb-true (srcAddrMode x w) 1 (by .1))
@@ -99,9 +102,9 @@ module _ (addresses : List ℕ) (p : Plain) (w : ℕ) (legal : LegalPlain p w) w
       none true f = false≢true f
       none false f = false≢true f
 
-      go : (t : Bool) → eqb (srcFile x w) grf ≡ t → ((t || (srcIsA0 x w && eqb (srcAddrMode x w) 0)) && leb (srcType x w) 5) ≡ true → eqb (srcFile x w) grf ≡ true
+      go : (t : Bool) → eqb (srcFile x w) grf ≡ t → ((t || (srcIsA0 x w && eqb (srcAddrMode x w) 0)) && registerType (srcType x w)) ≡ true → eqb (srcFile x w) grf ≡ true
       go true f h = f
-      go false f h = absurd (none (srcIsA0 x w) (rw mode at (both-true (srcIsA0 x w && eqb (srcAddrMode x w) 0) (leb (srcType x w) 5) h .0)))
+      go false f h = absurd (none (srcIsA0 x w) (rw mode at (both-true (srcIsA0 x w && eqb (srcAddrMode x w) 0) (registerType (srcType x w)) h .0)))
 
   -- No operand is in two files.
   two-files : (f : ℕ) → eqb f grf ≡ true → eqb f grf ≡ false → ⊥
@@ -216,20 +219,20 @@ module _ (addresses : List ℕ) (p : Plain) (w : ℕ) (legal : LegalPlain p w) w
   dst-same : dstServed v ≡ dstServed w
   unfolding dstServed
   dst-same =
-      ap₂ (λ (f t : ℕ). (eqb f grf || ((isNull v || dstIsA0 v) && eqb (dstAddrMode v) 0)) && leb t 5) (stays 32 2 refl refl refl) (stays 34 3 refl refl refl)
-      ∙ ap₂ (λ (a b : Bool). (eqb (dstFile w) grf || ((a || b) && eqb (dstAddrMode v) 0)) && leb (dstType w) 5) null-same dst-a0-same
+      ap₂ (λ (f t : ℕ). (eqb f grf || ((isNull v || dstIsA0 v) && eqb (dstAddrMode v) 0)) && registerType t) (stays 32 2 refl refl refl) (stays 34 3 refl refl refl)
+      ∙ ap₂ (λ (a b : Bool). (eqb (dstFile w) grf || ((a || b) && eqb (dstAddrMode v) 0)) && registerType (dstType w)) null-same dst-a0-same
       ∙ go (eqb (dstFile w) grf) refl
     where
       go : (t : Bool) → eqb (dstFile w) grf ≡ t
-          → ((t || ((isNull w || dstIsA0 w) && eqb (dstAddrMode v) 0)) && leb (dstType w) 5) ≡ ((t || ((isNull w || dstIsA0 w) && eqb (dstAddrMode w) 0)) && leb (dstType w) 5)
+          → ((t || ((isNull w || dstIsA0 w) && eqb (dstAddrMode v) 0)) && registerType (dstType w)) ≡ ((t || ((isNull w || dstIsA0 w) && eqb (dstAddrMode w) 0)) && registerType (dstType w))
       go true e = refl
-      go false e = ap (λ (m : ℕ). ((isNull w || dstIsA0 w) && eqb m 0) && leb (dstType w) 5) (dst-own (dst-still e) 63 1 refl refl)
+      go false e = ap (λ (m : ℕ). ((isNull w || dstIsA0 w) && eqb m 0) && registerType (dstType w)) (dst-own (dst-still e) 63 1 refl refl)
 
   src-same : (x : Source) → List·Memᴰ x (sources p) → srcServed v x ≡ srcServed w x
   unfolding srcServed
   src-same x m =
-      ap₂ (λ (f t : ℕ). cond (eqb f 3) (leb t 3) ((eqb f grf || (srcIsA0 x v && eqb (srcAddrMode x v) 0)) && leb t 5)) (file-same x) (type-same x)
-      ∙ ap (λ (b : Bool). cond (isImmediate x w) (leb (srcType x w) 3) ((eqb (srcFile x w) grf || (b && eqb (srcAddrMode x v) 0)) && leb (srcType x w) 5)) (src-a0-same x m)
+      ap₂ (λ (f t : ℕ). cond (eqb f 3) (immediateType t) ((eqb f grf || (srcIsA0 x v && eqb (srcAddrMode x v) 0)) && registerType t)) (file-same x) (type-same x)
+      ∙ ap (λ (b : Bool). cond (isImmediate x w) (immediateType (srcType x w)) ((eqb (srcFile x w) grf || (b && eqb (srcAddrMode x v) 0)) && registerType (srcType x w))) (src-a0-same x m)
       ∙ go (eqb (srcFile x w) grf) refl
     where
       mode : (x : Source) → srcByAddress x w ≡ false → srcAddrMode x v ≡ srcAddrMode x w
@@ -237,7 +240,7 @@ module _ (addresses : List ℕ) (p : Plain) (w : ℕ) (legal : LegalPlain p w) w
       mode src1 d = src-own src1 d 111 1 refl refl
 
       served : Bool → ℕ → Bool
-      served t a = cond (isImmediate x w) (leb (srcType x w) 3) ((t || (srcIsA0 x w && eqb a 0)) && leb (srcType x w) 5)
+      served t a = cond (isImmediate x w) (immediateType (srcType x w)) ((t || (srcIsA0 x w && eqb a 0)) && registerType (srcType x w))
 
       go : (t : Bool) → eqb (srcFile x w) grf ≡ t → served t (srcAddrMode x v) ≡ served t (srcAddrMode x w)
       go true e = refl
@@ -253,28 +256,45 @@ module _ (addresses : List ℕ) (p : Plain) (w : ℕ) (legal : LegalPlain p w) w
       ap₂ (λ (t : ℕ) (b : Bool). isMov p && (eqb t 2 && not b)) (stays 34 3 refl refl refl)
       (any-same (λ x. not (eqb (srcType x v) 2)) (λ x. not (eqb (srcType x w) 2)) (sources p) (λ x m. ap (λ (t : ℕ). not (eqb t 2)) (type-same x)))
 
+  vector-same : (x : Source) → srcIsVector x v ≡ srcIsVector x w
+  vector-same x = ap₂ (λ (b : Bool) (t : ℕ). b && eqb t typeVf) (immediate-same x) (type-same x)
+
+  float-same : (x : Source) → srcIsFloat v x ≡ srcIsFloat w x
+  float-same x = ap₂ (λ (t : ℕ) (b : Bool). eqb t typeF || b) (type-same x) (vector-same x)
+
+  dst-float-same : dstIsFloat v ≡ dstIsFloat w
+  dst-float-same = ap (λ (t : ℕ). eqb t typeF) (stays 34 3 refl refl refl)
+
+  pub floats-same : usesFloats p v ≡ usesFloats p w
+  unfolding usesFloats
+  floats-same = ap₂ _||_ dst-float-same (any-same (srcIsFloat v) (srcIsFloat w) (sources p) (λ x m. float-same x))
+
+  floats-served-same : floatsServed p v ≡ floatsServed p w
+  unfolding floatsServed
+  floats-served-same = ap (λ (s : ℕ). traits p .floats && eqb s 0) (stays 31 1 refl refl refl)
+
   served-same : plainServed p v ≡ plainServed p w
   unfolding plainServed
   served-same =
       ap₂ _&&_ (control-same (traits p .compares) (traits p .saturates))
       (ap₂ _&&_ dst-same
       (ap₂ _&&_ (ap not (any-same (λ x. not (srcServed v x)) (λ x. not (srcServed w x)) (sources p) (λ x m. ap not (src-same x m))))
-      (ap₂ (λ (a b : Bool). not a || b) uses-same moves-same)))
+      (ap₂ _&&_ (ap₂ (λ (a b : Bool). not a || b) uses-same moves-same) (ap₂ (λ (a b : Bool). not a || b) floats-same floats-served-same))))
 
   -- No immediate is misplaced.
   placed : misplaced p w ≡ false
   unfolding operandRuleBroken
   placed = go (misplaced p w) (legal .operands)
     where
-      go : (t : Bool) → (t || (anyOf (unequalHalves w) (sources p) || (anyOf (badModifier p w) (sources p) || ownRuleBroken p w))) ≡ false → t ≡ false
+      go : (t : Bool) → (t || (anyOf (unequalHalves w) (sources p) || (anyOf (badModifier p w) (sources p) || (ownRuleBroken p w || (mixed p w || anyOf (vectorTooShort w) (sources p)))))) ≡ false → t ≡ false
       go true e = absurd (true≢false e)
       go false e = refl
 
   -- An immediate keeps its halves: no source by address has its bits, since an immediate stands as last source.
   halves-same : (x : Source) → List·Memᴰ x (sources p) → unequalHalves v x ≡ unequalHalves w x
   halves-same x m =
-      ap₂ (λ (b : Bool) (t : ℕ). b && (leb 2 t && not (eqb (bits v 96 16) (bits v 112 16)))) (immediate-same x) (type-same x)
-      ∙ ap (λ (h : ℕ). isImmediate x w && (leb 2 (srcType x w) && not (eqb (bits v 96 16) h))) (stays 112 16 refl refl refl)
+      ap₂ (λ (b : Bool) (t : ℕ). b && ((leb 2 t && leb t 3) && not (eqb (bits v 96 16) (bits v 112 16)))) (immediate-same x) (type-same x)
+      ∙ ap (λ (h : ℕ). isImmediate x w && ((leb 2 (srcType x w) && leb (srcType x w) 3) && not (eqb (bits v 96 16) h))) (stays 112 16 refl refl refl)
       ∙ go (isImmediate x w) refl
     where
       last : (y : Source) → List·Memᴰ y (sources p) → srcByAddress y w ≡ true → isImmediate x w ≡ true → spares (64 + shiftOf y) 96 16 ≡ true
@@ -289,10 +309,11 @@ module _ (addresses : List ℕ) (p : Plain) (w : ℕ) (legal : LegalPlain p w) w
           apart src0 m i = false≢true (sym (last-only p w n placed) ∙ i)
 
       go : (t : Bool) → isImmediate x w ≡ t
-          → (t && (leb 2 (srcType x w) && not (eqb (bits v 96 16) (bits w 112 16)))) ≡ (t && (leb 2 (srcType x w) && not (eqb (bits w 96 16) (bits w 112 16))))
+          → (t && ((leb 2 (srcType x w) && leb (srcType x w) 3) && not (eqb (bits v 96 16) (bits w 112 16))))
+          ≡ (t && ((leb 2 (srcType x w) && leb (srcType x w) 3) && not (eqb (bits w 96 16) (bits w 112 16))))
       go false i = refl
       go true i =
-          ap (λ (h : ℕ). leb 2 (srcType x w) && not (eqb h (bits w 112 16)))
+          ap (λ (h : ℕ). (leb 2 (srcType x w) && leb (srcType x w) 3) && not (eqb h (bits w 112 16)))
           (settled-field addresses p w 96 16 (λ _. refl) (λ y n e. last y n e i))
 
   modifier-same : (x : Source) → badModifier p v x ≡ badModifier p w x
@@ -314,13 +335,23 @@ module _ (addresses : List ℕ) (p : Plain) (w : ℕ) (legal : LegalPlain p w) w
   own-same Plain.add = refl
   own-same Plain.avg = refl
 
+  mixed-same : mixed p v ≡ mixed p w
+  unfolding mixed
+  mixed-same =
+      ap₂ _&&_ floats-same
+      (ap₂ _||_ (ap not dst-float-same)
+      (any-same (λ x. not (srcIsFloat v x)) (λ x. not (srcIsFloat w x)) (sources p) (λ x m. ap not (float-same x))))
+
   operands-same : operandRuleBroken p v ≡ operandRuleBroken p w
   unfolding operandRuleBroken
   operands-same =
       ap₂ _||_ (ap (λ (b : Bool). eqb (length (sources p)) 2 && b) (immediate-same src0))
       (ap₂ _||_ (any-same (unequalHalves v) (unequalHalves w) (sources p) halves-same)
       (ap₂ _||_ (any-same (badModifier p v) (badModifier p w) (sources p) (λ x m. modifier-same x))
-      (own-same p)))
+      (ap₂ _||_ (own-same p)
+      (ap₂ _||_ mixed-same
+      (any-same (vectorTooShort v) (vectorTooShort w) (sources p)
+      (λ x m. ap₂ (λ (b : Bool) (s : ℕ). b && ltb 4 (countOf s)) (vector-same x) (stays 21 3 refl refl refl)))))))
 
   -- 9 reads no AddrMode.
   inner : (x : Source) (u j m q : ℕ) → j + m + q ≡ 12 → bits (srcField x u) j m ≡ bits u (77 + shiftOf x + j) m

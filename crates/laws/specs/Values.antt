@@ -1,31 +1,33 @@
 -- Laws of types and values: quotient and remainder belong together, a stored pattern fits its type and gives back the value that it means, a
 -- clamped value lies in its type's range. Assumes nothing.
 use mathlib.Core.Path.{_≡_, refl, sym, _∙_, ap, ap₂, subst}
-use mathlib.Core.Bool.{Bool, true, false, not, cond, _&&_}
+use mathlib.Core.Bool.{Bool, true, false, not, cond, _&&_, _||_}
 use Prim.Native.Nat.{ℕ, zero, suc, _+_, _*_, _-_, _/_, _%_, _^_, _<_, _≤_}
 use native.Mathlib.Nat.{mod-lt, mod-eq-of-lt, one-mul, div-add-mod'}
 use native.Mathlib.Omega.{arith}
-use lib.Dec.{T, ltb, leb, lit<, lit≤, le→leb}
+use lib.Dec.{T, eqb, ltb, leb, lit<, lit≤, le→leb}
 use lib.IntN.{ℤ, pos, negsuc, negℤ, subℕ, _+ℤ_, _*ℤ_}
 use lib.Signed.{ltZ, _≤ℤ_, leZ-yes, ltZ-no, ≤ℤ-refl}
 use lib.Pow.{pow-pos}
-use borrow.Author.Tests.{lt-ltb, le-ltb}
-use Rattle.paper.specs.Value.{width, sizeOf, IsType, isSigned, value, least, greatest, modZ, floorZ, clampTo, stored}
+use borrow.Author.Tests.{leb-true, eqb-true, lt-ltb, le-ltb, ne-eqb}
+use Rattle.paper.specs.Value.{typeF, width, sizeOf, IsType, isSigned, value, least, greatest, modZ, floorZ, clampTo, stored}
 use Rattle.paper.specs.Operation.{Plain}
-use Rattle.paper.specs.Element.{Element, meaning, result, made}
+use Rattle.paper.specs.Legal.{registerType}
+use Rattle.paper.specs.Element.{Element, resultOf, made}
 use Rattle.laws.specs.Differences.{neg-of, is-neg, is-pos, sub-add, sub-mod}
 
 -- ---- types
 
 -- What holds of four bytes and 32 bits, of two and 16, of one and 8, and of none, holds of every code.
 pub by-code : (P : ℕ → ℕ → Type 0) → P 4 32 → P 2 16 → P 1 8 → P 0 0 → (t : ℕ) → P (sizeOf t) (width t)
-by-code P dword word byte none t = pick (ltb t 2) (ltb t 4) (ltb t 6)
+by-code P dword word byte none t = pick (ltb t 2) (ltb t 4) (ltb t 6) (eqb t typeF)
   where
-    pick : (p q r : Bool) → P (cond p 4 (cond q 2 (cond r 1 0))) (8 * cond p 4 (cond q 2 (cond r 1 0)))
-    pick true q r = dword
-    pick false true r = word
-    pick false false true = byte
-    pick false false false = none
+    pick : (p q r s : Bool) → P (cond p 4 (cond q 2 (cond r 1 (cond s 4 0)))) (8 * cond p 4 (cond q 2 (cond r 1 (cond s 4 0))))
+    pick true q r s = dword
+    pick false true r s = word
+    pick false false true s = byte
+    pick false false false true = dword
+    pick false false false false = none
 
 -- What holds of four, of two and of one holds of every type.
 pub by-type : (P : ℕ → ℕ → Type 0) → P 4 32 → P 2 16 → P 1 8 → (t : ℕ) → IsType t → P (sizeOf t) (width t)
@@ -40,13 +42,31 @@ listed-type t h = rw (lt-ltb t 6 (omega arith)) (pick (ltb t 2) (ltb t 4))
     pick false true = lit< tt
     pick false false = lit< tt
 
--- A type from 4 on has one byte.
-pub byte-type : (t : ℕ) → 4 ≤ t → IsType t → sizeOf t ≡ 1
-byte-type t h is = rw (le-ltb t 2 (omega arith), le-ltb t 4 h) (pick (ltb t 6) (rw (le-ltb t 2 (omega arith), le-ltb t 4 h) at is))
+-- Those are the types of whole numbers.
+abbrev pub IsWhole : ℕ → Type 0
+IsWhole t = t < 6
+
+pub whole-type : (t : ℕ) → IsWhole t → IsType t
+whole-type t h = listed-type t (omega arith)
+
+-- A type from 4 on that is no float has one byte.
+pub byte-type : (t : ℕ) → 4 ≤ t → t < typeF → IsType t → sizeOf t ≡ 1
+byte-type t h g is = rw (le-ltb t 2 (omega arith), le-ltb t 4 h) (pick (ltb t 6) refl (rw (le-ltb t 2 (omega arith), le-ltb t 4 h) at is))
   where
-    pick : (r : Bool) → 0 < cond r 1 0 → _≡_ {A = ℕ} (cond r 1 0) 1
-    pick true h = refl
-    pick false h = absurd (omega arith)
+    no-float : eqb t typeF ≡ false
+    no-float = ne-eqb t typeF (λ e. omega arith)
+
+    pick : (r : Bool) → ltb t 6 ≡ r → 0 < cond r 1 (cond (eqb t typeF) 4 0) → _≡_ {A = ℕ} (cond r 1 (cond (eqb t typeF) 4 0)) 1
+    pick true e h = refl
+    pick false e h = let none : 0 < cond (eqb t typeF) 4 0 = h in let z : 0 < 0 = rw no-float at none in absurd (omega arith)
+
+-- Every code listed for registers is a type's.
+pub register-type : (t : ℕ) → registerType t ≡ true → IsType t
+register-type t h = go (leb t 5) refl h
+  where
+    go : (r : Bool) → leb t 5 ≡ r → (r || eqb t typeF) ≡ true → IsType t
+    go true e q = listed-type t (leb-true t 5 e)
+    go false e q = rw (eqb-true t typeF q) (lit< tt)
 
 -- A type has four bytes at most.
 pub size-most : (t : ℕ) → sizeOf t ≤ 4
@@ -84,7 +104,7 @@ stored-fits s t v = mod-less (cond s (clampTo t v) v) (2 ^ width t) (pow-pos (wi
 -- So has what an operation stores.
 pub made-fits : (p : Plain) (c : ℕ) (holds saturated : Bool) (t : ℕ) (a b : Element) → made p c holds saturated t a b < 2 ^ width t
 unfolding made
-made-fits p c holds saturated t a b = stored-fits saturated t (result p c holds (meaning a) (meaning b))
+made-fits p c holds saturated t a b = stored-fits saturated t (resultOf p c holds a b)
 
 -- A pattern's value is stored as that pattern: patterns and values are one to one, at every type.
 pub stored-value : (t n : ℕ) → n < 2 ^ width t → stored false t (value t n) ≡ n
@@ -96,6 +116,19 @@ stored-value t n h = go (isSigned t && leb (2 ^ (width t - 1)) n)
         ap (λ (m : ℕ). modZ (subℕ n m) (2 ^ width t)) (sym (one-mul (2 ^ width t)))
         ∙ sub-mod n 1 (2 ^ width t) (pow-pos (width t)) ∙ mod-eq-of-lt h
     go false = mod-eq-of-lt h
+
+-- ---- floats: a pattern is read and stored as an unsigned dword (code 0) is
+
+pub float-size : sizeOf typeF ≡ sizeOf 0
+float-size = refl
+
+pub float-value : (n : ℕ) → value typeF n ≡ value 0 n
+unfolding value
+float-value n = refl
+
+pub float-stored : (s : Bool) (v : ℤ) → stored s typeF v ≡ stored s 0 v
+unfolding stored clampTo least greatest
+float-stored s v = refl
 
 -- ---- clamping
 

@@ -13,8 +13,8 @@ use Rattle.paper.specs.Region.{channels, dstElement, dstSize}
 use Rattle.paper.specs.Store.{Store}
 use Rattle.paper.specs.Enable.{chosenFlag, predicate, holds, channelOf, unmasked, enabled, flagAfter}
 use Rattle.paper.specs.Effect.{sourceAt, channelStores, scattered, registersAfter, addressesAfter, finds, comparedFlag, withFlag, plainEffect, effect}
-use Rattle.paper.specs.Legal.{anyOf, reservedSet, quarterServed, conditionServed, dstServed, srcServed, usesA0, movesWords, ownNeeds}
-use Rattle.paper.specs.Legal.{misplaced, unequalHalves, badModifier, ownRuleBroken, shapeBroken, alignmentBroken, reachBroken, orElse}
+use Rattle.paper.specs.Legal.{anyOf, reservedSet, quarterServed, conditionServed, dstServed, srcServed, usesA0, movesWords, usesFloats, floatsServed, ownNeeds}
+use Rattle.paper.specs.Legal.{misplaced, unequalHalves, badModifier, ownRuleBroken, mixed, vectorTooShort, shapeBroken, alignmentBroken, reachBroken, orElse}
 use Rattle.paper.specs.Address.{settled}
 use Rattle.paper.specs.Machine.{Channel, State, Ways, isAwake, wake, park, each, someone, fork, act, pass, perform, stepAt}
 use Rattle.laws.specs.Settled.{holds-settled}
@@ -40,7 +40,10 @@ ownRuleBrokenBefore p w = cond (traits p .masks) (ownRuleBroken p w) (not (eqb (
 unfoldable pub plainServedBefore : Plain → ℕ → Bool
 plainServedBefore p w =
     controlServedBefore (traits p .compares) (traits p .saturates) w
-    && (dstServed w && (not (anyOf (λ x. not (srcServed w x)) (sources p)) && (not (usesA0 p w) || movesWords p w)))
+    && (dstServed w
+    && (not (anyOf (λ x. not (srcServed w x)) (sources p))
+    && ((not (usesA0 p w) || movesWords p w)
+    && (not (usesFloats p w) || floatsServed p w))))
 
 unfoldable pub branchServedBefore : Branch → ℕ → Bool
 branchServedBefore b w = controlServedBefore false false w && ownNeeds b w
@@ -50,7 +53,9 @@ operandRuleBrokenBefore p w =
     misplaced p w
     || (anyOf (unequalHalves w) (sources p)
     || (anyOf (badModifier p w) (sources p)
-    || ownRuleBrokenBefore p w))
+    || (ownRuleBrokenBefore p w
+    || (mixed p w
+    || anyOf (vectorTooShort w) (sources p)))))
 
 unfoldable pub laterBefore : Operation → ℕ → ℕ
 laterBefore (plain p) w =

@@ -5,11 +5,13 @@ use crate::posts::rouse;
 use crate::ways::Ways;
 use execute::enable::voted;
 use execute::execute::execute;
+use execute::floats::reckon;
 use execute::transfer::transfer;
 use lanes::flags::Flags;
 use words::bytes::Word;
 use words::fields::opcode;
 use words::operation::Operation;
+use words::operation::Plain;
 ghost use mathlib.Core.List.{List};
 ghost use mathlib.Core.Path.{_≡_};
 ghost use Prim.Native.Nat.{ℕ, _<_};
@@ -18,9 +20,9 @@ ghost use Rattle.paper.specs.Limits.{addressBytes, registerBytes};
 ghost use Rattle.paper.specs.Operation.{mov, plain, operation};
 ghost use Rattle.paper.specs.Machine.{Channel, State, perform, stepAt};
 ghost use Rattle.words.specs.Words.{toWord};
-ghost use Rattle.words.specs.Operations.{operationIs};
+ghost use Rattle.words.specs.Operations.{operationIs, plainIs};
 ghost use Rattle.execute.specs.Stores.{storeOf};
-ghost use Rattle.execute.specs.Readable.{Acting, OnRegisters};
+ghost use Rattle.execute.specs.Readable.{Counting, Reckoning, OnRegisters};
 ghost use Rattle.machine.specs.Branches.{waysIs, Within};
 ghost use Rattle.machine.specs.Posts.{Posted};
 ghost use Rattle.machine.specs.Steps.{Shows, Sound};
@@ -79,7 +81,7 @@ fn perform(
     }
 }
 
-// One step where an accepted word stands whose operands are named directly, none of them a0; it first wakes the channels that wait there. a0 stays.
+// One step where an accepted word stands whose operands are named directly, none of them a0 or a float; it first wakes the channels that wait there. a0 stays.
 pub fn step_at(w: Word, ways: Ways, s: Stand, registers: &mut [u8], here: &mut [u16]) -> Stand
     requires { ⌜ OnRegisters (toWord w) × (length (now registers) ≡ registerBytes) × Within (length (now here)) (waysIs ways) ⌝ }
     requires { ⌜ Sound (now here) s × (s .place < length (now here)) ⌝ }
@@ -109,7 +111,7 @@ pub fn move_at(
     addresses: &mut [u8],
     here: &mut [u16],
 ) -> Stand
-    requires { ⌜ (operation (toWord w) ≡ plain mov) × Acting mov (toWord w) × (length (now registers) ≡ registerBytes) × (length (now addresses) ≡ addressBytes) ⌝ }
+    requires { ⌜ (operation (toWord w) ≡ plain mov) × Counting mov (toWord w) × (length (now registers) ≡ registerBytes) × (length (now addresses) ≡ addressBytes) ⌝ }
     requires { ⌜ Sound (now here) s × (s .place < length (now here)) ⌝ }
     ensures { λ r. ⌜ ((t : State) → Shows (now (registers .entry)) (now (addresses .entry)) (now (here .entry)) s t
         → Shows (now (registers .exit)) (now (addresses .exit)) (now (here .exit)) r (stepAt (toWord w) (s .place) (waysIs ways) t)) ⌝ }
@@ -120,6 +122,31 @@ pub fn move_at(
     transfer(w, woken, flags, registers, addresses);
     Stand {
         flags: flags,
+        awake: woken,
+        place: ways.next,
+    }
+}
+
+// One step where an operation on floats stands. a0 stays.
+pub fn float_at(
+    p: Plain,
+    w: Word,
+    ways: Ways,
+    s: Stand,
+    registers: &mut [u8],
+    here: &mut [u16],
+) -> Stand
+    requires { ⌜ (operation (toWord w) ≡ plain (plainIs p)) × Reckoning (plainIs p) (toWord w) × (length (now registers) ≡ registerBytes) ⌝ }
+    requires { ⌜ Sound (now here) s × (s .place < length (now here)) ⌝ }
+    ensures { λ r. ⌜ ((addresses : List ℕ) (t : State) → Shows (now (registers .entry)) addresses (now (here .entry)) s t
+        → Shows (now (registers .exit)) addresses (now (here .exit)) r (stepAt (toWord w) (s .place) (waysIs ways) t)) ⌝ }
+    ensures { λ r. ⌜ (r .flags .flag0 < 65536) × (r .flags .flag1 < 65536) × (length (now (here .exit)) ≡ length (now (here .entry))) ⌝ }
+{
+    let flags = s.flags;
+    let woken = rouse(s.awake, s.place, here);
+    let after = reckon(p, w, woken, flags, registers);
+    Stand {
+        flags: after,
         awake: woken,
         place: ways.next,
     }

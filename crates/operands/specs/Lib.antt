@@ -3,3 +3,4 @@ pub mod Reads
 pub mod Shapes
 pub mod Sources
 pub mod Single
+pub mod Floats

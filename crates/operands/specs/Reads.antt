@@ -1,17 +1,15 @@
 -- Elements of the registers read as numbers. Assumes nothing.
 use mathlib.Core.Path.{_≡_, refl, ap, _∙_, subst}
-use mathlib.Core.Bool.{Bool, true, false, cond}
 use mathlib.Core.List.{List}
 use Prim.Native.Nat.{ℕ, zero, suc, _+_, _*_, _^_, _≤_, _<_}
 use native.Mathlib.Omega.{arith}
 use native.Mathlib.Nat.{pow-suc}
-use lib.Dec.{ltb, lit<}
+use lib.Dec.{lit<}
 use lib.ListN.{getD}
-use borrow.Author.Tests.{ltb-true, ltb-false, le-ltb}
 use Rattle.paper.specs.Bits.{number, numberAt}
 use Rattle.paper.specs.Value.{width, sizeOf, value}
 use Rattle.laws.specs.Bytes.{numberAt-suc}
-use Rattle.laws.specs.Values.{size-patterns}
+use Rattle.laws.specs.Values.{IsWhole, size-patterns}
 use Rattle.element.specs.Biased.{ex, Near}
 use Rattle.lanes.specs.Mapped.{Mapped}
 
@@ -41,16 +39,9 @@ element-less registers bytes kind from = rw (← (size-patterns kind)) (number-l
 
 -- ---- by type
 
-no-size : (kind : ℕ) → 6 ≤ kind → sizeOf kind ≡ 0
-no-size kind h = rw (le-ltb kind 2 (omega arith), le-ltb kind 4 (omega arith), le-ltb kind 6 h)
-
--- The code that is left of those that are types.
-pub last-type : (kind size : ℕ) → size ≡ sizeOf kind → 0 < size → ((((Unit {0} × (kind ≡ 0 → ⊥)) × (kind ≡ 1 → ⊥)) × (kind ≡ 2 → ⊥)) × (kind ≡ 3 → ⊥)) × (kind ≡ 4 → ⊥) → kind ≡ 5
-last-type kind size e h others = go (ltb kind 6) refl
-  where
-    go : (b : Bool) → ltb kind 6 ≡ b → kind ≡ 5
-    go true t = let l = ltb-true kind 6 t in omega (arith, others .0 .0 .0 .0 .1, others .0 .0 .0 .1, others .0 .0 .1, others .0 .1, others .1)
-    go false f = let l = ltb-false kind 6 f in absurd (omega (arith, e, no-size kind l))
+-- The code that is left of those of whole numbers.
+pub last-type : (kind : ℕ) → IsWhole kind → ((((Unit {0} × (kind ≡ 0 → ⊥)) × (kind ≡ 1 → ⊥)) × (kind ≡ 2 → ⊥)) × (kind ≡ 3 → ⊥)) × (kind ≡ 4 → ⊥) → kind ≡ 5
+last-type kind h others = omega (arith, h, others .0 .0 .0 .0 .1, others .0 .0 .0 .1, others .0 .0 .1, others .0 .1, others .1)
 
 module _ (kind size this : ℕ) (e : size ≡ sizeOf kind) (told : kind ≡ this) where
   same-size : size ≡ sizeOf this

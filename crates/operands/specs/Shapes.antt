@@ -15,6 +15,10 @@ use Rattle.operands.specs.Reads.{Reads, ElementRead, ElementsRead}
 abbrev pub regionFrom : ℕ → ℕ → ℕ → ℕ → ℕ → declared.Region
 regionFrom origin vert code horz size = record { origin = origin; vert = vert; code = code; horz = horz; size = size }
 
+-- A region of elements of four bytes.
+pub of-four : (r : declared.Region) → r .size ≡ 4 → regionFrom (r .origin) (r .vert) (r .code) (r .horz) 4 ≡ r
+of-four r e = ap (λ (size : ℕ). regionFrom (r .origin) (r .vert) (r .code) (r .horz) size) (sym e)
+
 -- Where HorzStride is 1 and VertStride is the width, the elements lie side by side.
 pub beside-at : (r : Region) (k : ℕ) → r .horz ≡ 1 → r .vert ≡ r .wide → r .origin + k * r .size ≡ elementAt r k
 unfolding elementAt

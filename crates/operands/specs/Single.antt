@@ -43,17 +43,17 @@ element-first r = rw (zero-div (r .wide), zero-mod (r .wide)) (omega arith)
 
 module _ (w : ℕ) (registers : List ℕ) (x : Source) where
   -- An immediate.
-  pub alone-fixed : (kind pattern v : ℕ) → isImmediate x w ≡ true → kind ≡ srcType x w → pattern ≡ immediate (width (srcType x w)) w
+  pub alone-fixed : Readable x w → (kind pattern v : ℕ) → isImmediate x w ≡ true → kind ≡ srcType x w → pattern ≡ immediate (width (srcType x w)) w
       → Reads kind pattern v → OperandRead w registers x 1 none (alone v)
-  alone-fixed kind pattern v e ek ep r = operand-fixed w registers x 1 none (alone v) kind pattern v e ek ep r (mapped-alone _ 0 v refl)
+  alone-fixed is kind pattern v e ek ep r = operand-fixed w registers x 1 none (alone v) is kind pattern v e ek ep r (mapped-alone _ 0 v refl)
 
   -- An element, modified.
-  pub alone-direct : (kind modifier : ℕ) (r : Region) (element v : ℕ) → isImmediate x w ≡ false → kind ≡ srcType x w → modifier ≡ srcModifier x w
+  pub alone-direct : Readable x w → (kind modifier : ℕ) (r : Region) (element v : ℕ) → isImmediate x w ≡ false → kind ≡ srcType x w → modifier ≡ srcModifier x w
       → r ≡ srcRegion x w → ElementRead registers (r .origin) kind (r .size) element
       → (ex v ≡ modified modifier (ex element)) × Keeps element v → OperandRead w registers x 1 none (alone v)
   unfolding ElementsRead
-  alone-direct kind modifier r element v e ek em er m p =
-      operand-direct w registers x 1 none (alone v) kind modifier r (alone element) e ek em er
+  alone-direct is kind modifier r element v e ek em er m p =
+      operand-direct w registers x 1 none (alone v) is kind modifier r (alone element) e ek em er
       (mapped-alone _ 0 element (subst (λ (at : ℕ). ElementRead registers at kind (r .size) element) (sym (element-first r)) m)) (mapped-alone _ element v p)
 
 -- An element is no greater than a dword holds.

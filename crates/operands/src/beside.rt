@@ -7,12 +7,13 @@ ghost use Prim.Native.Nat.{ℕ, _+_, _*_, _≤_, _<_};
 ghost use lib.ListN.{length, getD};
 ghost use Rattle.paper.specs.Bits.{numberAt};
 ghost use Rattle.paper.specs.Value.{sizeOf};
+ghost use Rattle.laws.specs.Values.{IsWhole};
 ghost use Rattle.lanes.specs.Mapped.{Mapped};
 ghost use Rattle.operands.specs.Reads.{Reads, ElementsRead};
 
 // The n first elements from byte `from` on, as numbers.
 fn line(registers: &[u8], from: usize, kind: u64, size: usize, n: usize, values: &mut [u64; 16])
-    requires { ⌜ (size ≡ sizeOf kind) × (n ≤ 16) × (length (now values) ≡ 16) × (0 < size) ⌝ }
+    requires { ⌜ (size ≡ sizeOf kind) × (n ≤ 16) × (length (now values) ≡ 16) × IsWhole kind ⌝ }
     requires { ⌜ ((k : ℕ) → k < n → from + k * size + size ≤ length (now registers)) ⌝ }
     ensures { λ r. ⌜ ElementsRead (now (registers .entry)) (λ k. from + k * size) kind size n (now (values .entry)) (now (values .exit)) ⌝ }
 {
@@ -116,7 +117,7 @@ pub(crate) fn beside(
     n: usize,
     values: &mut [u64; 16],
 )
-    requires { ⌜ (size ≡ sizeOf kind) × (n ≤ 16) × (length (now values) ≡ 16) × (0 < size) ⌝ }
+    requires { ⌜ (size ≡ sizeOf kind) × (n ≤ 16) × (length (now values) ≡ 16) × IsWhole kind ⌝ }
     requires { ⌜ ((k : ℕ) → k < n → from + k * size + size ≤ length (now registers)) ⌝ }
     ensures { λ r. ⌜ ElementsRead (now (registers .entry)) (λ k. from + k * size) kind size n (now (values .entry)) (now (values .exit)) ⌝ }
 {

@@ -24,12 +24,13 @@ pub fn operand_by_element(w: Word, n: usize, file: &[u8], values: &mut [u64; 16]
     ensures { λ r. ⌜ OperandRead (toWord w) (now (file .entry)) src0 n (now (values .entry)) (now (values .exit)) ⌝ }
 {
     let kind = src_type(Source::First, w);
-    let o = operand_of(src_is_a0(Source::First, w), Source::First, w);
+    let o = operand_of(false, src_is_a0(Source::First, w), Source::First, w);
     match o {
         Operand::Fixed(pattern) => {
             let number = load(kind, pattern);
             spread(number, n, values);
         }
+        Operand::Vector(_) => {}
         Operand::Direct(r) => {
             lines(file, r, kind, r.size, n, values);
             modify_all(src_modifier(Source::First, w), n, values);

@@ -9,13 +9,14 @@ ghost use mathlib.Core.Bool.{true};
 ghost use Prim.Native.Nat.{ℕ, _+_, _^_, _≤_, _<_};
 ghost use lib.ListN.{length};
 ghost use Rattle.paper.specs.Value.{sizeOf};
+ghost use Rattle.laws.specs.Values.{IsWhole};
 ghost use Rattle.paper.specs.Region.{elementAt};
 ghost use Rattle.words.specs.Regions.{regionIs, Small};
 ghost use Rattle.operands.specs.Reads.{ElementsRead};
 ghost use Rattle.operands.specs.Shapes.{regionFrom};
 
 // The elements lie side by side: HorzStride is 1, and VertStride is the width.
-fn is_beside(r: Region) -> bool
+pub(crate) fn is_beside(r: Region) -> bool
     requires { ⌜ Small r ⌝ }
     ensures { λ b. ⌜ (b ≡ true → (r .horz ≡ 1) × (r .vert ≡ 2 ^ r .code)) ⌝ }
 {
@@ -26,7 +27,7 @@ fn is_beside(r: Region) -> bool
 }
 
 // All channels read one element: both strides are 0.
-fn is_single(r: Region) -> bool
+pub(crate) fn is_single(r: Region) -> bool
     ensures { λ b. ⌜ (b ≡ true → (r .horz ≡ 0) × (r .vert ≡ 0)) ⌝ }
 {
     if r.horz == 0 {
@@ -47,7 +48,7 @@ pub(crate) fn gather(
     registers: &[u8],
     values: &mut [u64; 16],
 )
-    requires { ⌜ Small (regionFrom origin vert code horz size) × (size ≡ sizeOf kind) × (0 < n) × (n ≤ 16) × (length (now values) ≡ 16) × (0 < size) ⌝ }
+    requires { ⌜ Small (regionFrom origin vert code horz size) × (size ≡ sizeOf kind) × (0 < n) × (n ≤ 16) × (length (now values) ≡ 16) × IsWhole kind ⌝ }
     requires { ⌜ ((k : ℕ) → k < n → elementAt (regionIs (regionFrom origin vert code horz size)) k + size ≤ length (now registers)) ⌝ }
     ensures { λ u. ⌜ ElementsRead (now (registers .entry)) (elementAt (regionIs (regionFrom origin vert code horz size))) kind size n (now (values .entry)) (now (values .exit)) ⌝ }
 {

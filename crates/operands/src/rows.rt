@@ -6,6 +6,7 @@ ghost use mathlib.Core.Path.{_≡_};
 ghost use Prim.Native.Nat.{ℕ, _+_, _≤_, _<_};
 ghost use lib.ListN.{length};
 ghost use Rattle.paper.specs.Value.{sizeOf};
+ghost use Rattle.laws.specs.Values.{IsWhole};
 ghost use Rattle.paper.specs.Region.{elementAt};
 ghost use Rattle.words.specs.Regions.{regionIs, Small};
 ghost use Rattle.operands.specs.Reads.{ElementsRead};
@@ -19,7 +20,7 @@ pub(crate) fn lines(
     n: usize,
     values: &mut [u64; 16],
 )
-    requires { ⌜ Small r × (r .size ≡ size) × (size ≡ sizeOf kind) × (n ≤ 16) × (length (now values) ≡ 16) × (0 < size) ⌝ }
+    requires { ⌜ Small r × (r .size ≡ size) × (size ≡ sizeOf kind) × (n ≤ 16) × (length (now values) ≡ 16) × IsWhole kind ⌝ }
     requires { ⌜ ((k : ℕ) → k < n → elementAt (regionIs r) k + size ≤ length (now registers)) ⌝ }
     ensures { λ u. ⌜ ElementsRead (now (registers .entry)) (elementAt (regionIs r)) kind size n (now (values .entry)) (now (values .exit)) ⌝ }
 {
@@ -33,7 +34,7 @@ pub(crate) fn lines(
 
 // The same, with a loop of its own for each size.
 pub(crate) fn rows(registers: &[u8], r: Region, kind: u64, n: usize, values: &mut [u64; 16])
-    requires { ⌜ Small r × (r .size ≡ sizeOf kind) × (n ≤ 16) × (length (now values) ≡ 16) × (0 < r .size) ⌝ }
+    requires { ⌜ Small r × (r .size ≡ sizeOf kind) × (n ≤ 16) × (length (now values) ≡ 16) × IsWhole kind ⌝ }
     requires { ⌜ ((k : ℕ) → k < n → elementAt (regionIs r) k + r .size ≤ length (now registers)) ⌝ }
     ensures { λ u. ⌜ ElementsRead (now (registers .entry)) (elementAt (regionIs r)) kind (r .size) n (now (values .entry)) (now (values .exit)) ⌝ }
 {

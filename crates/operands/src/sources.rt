@@ -24,12 +24,13 @@ pub fn first_operand(w: Word, n: usize, registers: &[u8], values: &mut [u64; 16]
     ensures { λ r. ⌜ OperandRead (toWord w) (now (registers .entry)) src0 n (now (values .entry)) (now (values .exit)) ⌝ }
 {
     let kind = src_type(Source::First, w);
-    let o = operand_of(false, Source::First, w);
+    let o = operand_of(false, false, Source::First, w);
     match o {
         Operand::Fixed(pattern) => {
             let number = load(kind, pattern);
             spread(number, n, values);
         }
+        Operand::Vector(_) => {}
         Operand::Direct(r) => {
             gather(
                 r.origin,
@@ -53,12 +54,13 @@ pub fn second_operand(w: Word, n: usize, registers: &[u8], values: &mut [u64; 16
     ensures { λ r. ⌜ OperandRead (toWord w) (now (registers .entry)) src1 n (now (values .entry)) (now (values .exit)) ⌝ }
 {
     let kind = src_type(Source::Second, w);
-    let o = operand_of(false, Source::Second, w);
+    let o = operand_of(false, false, Source::Second, w);
     match o {
         Operand::Fixed(pattern) => {
             let number = load(kind, pattern);
             spread(number, n, values);
         }
+        Operand::Vector(_) => {}
         Operand::Direct(r) => {
             gather(
                 r.origin,

@@ -5,24 +5,27 @@ use mathlib.Core.List.{List}
 use Prim.Native.Nat.{ℕ, zero, suc, _+_, _*_, _-_}
 use lib.Dec.{eqb}
 use Rattle.paper.specs.Bits.{numberAt, putAt}
-use Rattle.paper.specs.Word.{Source, src0, src1, condModifier, saturate, dstType, srcType, srcModifier, flagChoice, isNull, dstIsA0, srcIsA0, isImmediate}
+use Rattle.paper.specs.Word.{Source, src0, src1, condModifier, saturate, dstType, srcModifier, flagChoice, isNull, dstIsA0, srcIsA0, isImmediate}
 use Rattle.paper.specs.Operation.{Plain, Operation, plain, nop, branch, unlisted, operation, traits}
 use Rattle.paper.specs.Element.{Element, made, meets}
-use Rattle.paper.specs.Region.{channels, elementAt, Operand, fixed, direct, operandOf, dstSize, dstElement}
+use Rattle.paper.specs.Restricted.{vectorFloat}
+use Rattle.paper.specs.Region.{channels, elementAt, Operand, fixed, vector, direct, srcKind, operandOf, dstSize, dstElement}
 use Rattle.paper.specs.Store.{Store}
 use Rattle.paper.specs.Address.{settled}
 use Rattle.paper.specs.Enable.{chosenFlag, holds, channelOf, enabled, flagAfter}
 
--- The pattern that channel n of an operand reads: an immediate, the same for all channels, or its element of the bytes of its file.
+-- The pattern that channel n of an operand reads: an immediate, the same for all channels, its own of four restricted floats, or its element of the bytes of
+-- its file.
 unfoldable pub patternAt : List ℕ → Operand → ℕ → ℕ
 patternAt bytes (fixed pattern) n = pattern
+patternAt bytes (vector immediate) n = vectorFloat immediate n
 patternAt bytes (direct r) n = numberAt bytes (elementAt r n) (r .size)
 
 -- What channel n of source x reads of the bytes of its file. An immediate has no modifier.
 unfoldable pub operand : ℕ → List ℕ → Source → ℕ → Element
 operand w bytes x n =
     record {
-      kind = srcType x w;
+      kind = srcKind x w;
       modifier = cond (isImmediate x w) 0 (srcModifier x w);
       pattern = patternAt bytes (operandOf x w) n;
     }

@@ -5,7 +5,8 @@ use lib.Dec.{eqb}
 use lib.IntN.{ℤ, pos, negsuc, natAbs, _+ℤ_, _-ℤ_, _*ℤ_}
 use lib.Signed.{ltZ}
 use lib.Bits.{bitAnd, bitOr, bitXor}
-use Rattle.paper.specs.Value.{value, modified, modZ, floorZ, stored}
+use Rattle.paper.specs.Value.{typeF, value, modified, modZ, floorZ, stored}
+use Rattle.paper.specs.Single.{sum, product, comparesFloats, signModified}
 use Rattle.paper.specs.Operation.{Plain}
 
 -- (a + b + 1) / 2, rounded down.
@@ -59,6 +60,32 @@ result Plain.add c p a b = a +ℤ b
 result Plain.mul c p a b = a *ℤ b
 result Plain.avg c p a b = average a b
 
+-- ---- floats, by their patterns (02 §8)
+
+abbrev pub isFloat : ℕ → Bool
+isFloat kind = eqb kind typeF
+
+-- What condition code c says of two floats themselves.
+abbrev pub meetsFloats : ℕ → ℤ → ℤ → Bool
+meetsFloats c a b = comparesFloats c (natAbs a) (natAbs b)
+
+-- The result of an operation on floats. mov copies bits, cmp gives the whole number 1 or 0; no operation but these four is served (7), and nobody acts by the
+-- others.
+unfoldable pub floatResult : Plain → ℕ → ℤ → ℤ → ℤ
+floatResult Plain.mov c a b = a
+floatResult Plain.add c a b = pos (sum (natAbs a) (natAbs b))
+floatResult Plain.mul c a b = pos (product (natAbs a) (natAbs b))
+floatResult Plain.cmp c a b = oneIf (meetsFloats c a b)
+floatResult Plain.sel c a b = a
+floatResult Plain.not c a b = a
+floatResult Plain.and c a b = a
+floatResult Plain.or c a b = a
+floatResult Plain.xor c a b = a
+floatResult Plain.shr c a b = a
+floatResult Plain.shl c a b = a
+floatResult Plain.asr c a b = a
+floatResult Plain.avg c a b = a
+
 -- ---- patterns in, a pattern out
 
 -- What an operation takes from a source: a pattern, its type, and the modifier under which it is read.
@@ -67,14 +94,24 @@ pub record Element : Type 0 where
   pub modifier : ℕ
   pub pattern : ℕ
 
--- The whole number that it stands for.
+-- The whole number that it stands for. A float's is its pattern, and a modifier acts on the sign bit.
 abbrev pub meaning : Element → ℤ
-meaning a = modified (a .modifier) (value (a .kind) (a .pattern))
+meaning a =
+    cond (isFloat (a .kind)) (pos (signModified (a .modifier) (a .pattern)))
+    (modified (a .modifier) (value (a .kind) (a .pattern)))
+
+-- The result of an operation on elements a and b. Where one operand is a float all are (8).
+unfoldable pub resultOf : Plain → ℕ → Bool → Element → Element → ℤ
+resultOf p c holds a b =
+    cond (isFloat (a .kind)) (floatResult p c (meaning a) (meaning b))
+    (result p c holds (meaning a) (meaning b))
 
 -- The pattern of type `kind` that an operation stores for its sources' elements a and b.
 unfoldable pub made : Plain → ℕ → Bool → Bool → ℕ → Element → Element → ℕ
-made p c holds saturated kind a b = stored saturated kind (result p c holds (meaning a) (meaning b))
+made p c holds saturated kind a b = stored saturated kind (resultOf p c holds a b)
 
--- What cmp finds for them: src0 − src1 compared with 0.
+-- What cmp finds for them: src0 − src1 compared with 0; the two floats themselves.
 unfoldable pub meets : ℕ → Element → Element → Bool
-meets c a b = compares c (meaning a -ℤ meaning b)
+meets c a b =
+    cond (isFloat (a .kind)) (meetsFloats c (meaning a) (meaning b))
+    (compares c (meaning a -ℤ meaning b))

@@ -11,9 +11,9 @@ use Rattle.paper.specs.Word.{dstFile, dstType, dstSubregister, dstRegist
 use Rattle.paper.specs.Word.{srcFile, srcType, srcSubregister, srcModifier, srcAddrMode, srcField}
 use Rattle.paper.specs.Word.{grf, isNull, dstIsA0, srcIsA0, isImmediate, immediateForm, dstByAddress, srcByAddress}
 use Rattle.paper.specs.Operation.{Plain, Branch, jmpi, if, else, endif, while, break, cont, Operation, plain, nop, branch, unlisted, operation, isBranch, isMov, traits, sources}
-use Rattle.paper.specs.Value.{isSigned}
+use Rattle.paper.specs.Value.{typeF, typeVf, isSigned}
 use Rattle.paper.specs.Enable.{groupOf}
-use Rattle.paper.specs.Region.{Region, countOf, strideOf, channels, elementAt, srcRegion, dstOrigin, dstSize, dstElement}
+use Rattle.paper.specs.Region.{Region, countOf, strideOf, channels, elementAt, srcIsVector, srcRegion, dstOrigin, dstSize, dstElement}
 
 -- Some source of the list passes the test.
 abbrev pub anyOf : (Source → Bool) → List Source → Bool
@@ -54,15 +54,22 @@ controlServed compares saturates w =
     && (conditionServed compares (condModifier w)
     && (eqb (saturate w) 0 || saturates))))))
 
+-- The types listed: in registers 0 to 5, and f; as immediates 0 to 3, vf and f.
+abbrev pub registerType : ℕ → Bool
+registerType t = leb t 5 || eqb t typeF
+
+abbrev pub immediateType : ℕ → Bool
+immediateType t = leb t 3 || (eqb t typeVf || eqb t typeF)
+
 -- Registers, named directly or by address; or null or a0, named directly; of a listed type.
 unfoldable pub dstServed : ℕ → Bool
-dstServed w = (eqb (dstFile w) grf || ((isNull w || dstIsA0 w) && eqb (dstAddrMode w) 0)) && leb (dstType w) 5
+dstServed w = (eqb (dstFile w) grf || ((isNull w || dstIsA0 w) && eqb (dstAddrMode w) 0)) && registerType (dstType w)
 
--- An immediate of type 0 to 3; or, of type 0 to 5, a register, named directly or by address, or a0, named directly.
+-- An immediate of a listed type; or, of a listed type, a register, named directly or by address, or a0, named directly.
 unfoldable pub srcServed : ℕ → Source → Bool
 srcServed w x =
-    cond (isImmediate x w) (leb (srcType x w) 3)
-    ((eqb (srcFile x w) grf || (srcIsA0 x w && eqb (srcAddrMode x w) 0)) && leb (srcType x w) 5)
+    cond (isImmediate x w) (immediateType (srcType x w))
+    ((eqb (srcFile x w) grf || (srcIsA0 x w && eqb (srcAddrMode x w) 0)) && registerType (srcType x w))
 
 -- Some operand of an operation is a0.
 unfoldable pub usesA0 : Plain → ℕ → Bool
@@ -72,11 +79,30 @@ usesA0 p w = dstIsA0 w || anyOf (λ x. srcIsA0 x w) (sources p)
 unfoldable pub movesWords : Plain → ℕ → Bool
 movesWords p w = isMov p && (eqb (dstType w) 2 && not (anyOf (λ x. not (eqb (srcType x w) 2)) (sources p)))
 
--- Every field of an operation with operands is served: control, destination, and the sources that it reads; a0 only where words are moved.
+-- An operand is of type f; vf counts as f. A null destination goes by its type.
+abbrev pub dstIsFloat : ℕ → Bool
+dstIsFloat w = eqb (dstType w) typeF
+
+abbrev pub srcIsFloat : ℕ → Source → Bool
+srcIsFloat w x = eqb (srcType x w) typeF || srcIsVector x w
+
+-- Some operand of an operation is a float.
+unfoldable pub usesFloats : Plain → ℕ → Bool
+usesFloats p w = dstIsFloat w || anyOf (srcIsFloat w) (sources p)
+
+-- Floats are served on mov, add, mul and cmp, without Saturate.
+unfoldable pub floatsServed : Plain → ℕ → Bool
+floatsServed p w = traits p .floats && eqb (saturate w) 0
+
+-- Every field of an operation with operands is served: control, destination, and the sources that it reads; a0 only where words are moved, floats only where
+-- they are served.
 unfoldable pub plainServed : Plain → ℕ → Bool
 plainServed p w =
     controlServed (traits p .compares) (traits p .saturates) w
-    && (dstServed w && (not (anyOf (λ x. not (srcServed w x)) (sources p)) && (not (usesA0 p w) || movesWords p w)))
+    && (dstServed w
+    && (not (anyOf (λ x. not (srcServed w x)) (sources p))
+    && ((not (usesA0 p w) || movesWords p w)
+    && (not (usesFloats p w) || floatsServed p w))))
 
 -- if, else, endif, while, break and cont need size 16, quarter 0, WECtrl 0.
 abbrev pub structured : ℕ → Bool
@@ -104,7 +130,7 @@ misplaced p w = eqb (length (sources p)) 2 && isImmediate src0 w
 
 -- A word immediate's two halves differ (000, 5.3.5).
 abbrev pub unequalHalves : ℕ → Source → Bool
-unequalHalves w x = isImmediate x w && (leb 2 (srcType x w) && not (eqb (bits w 96 16) (bits w 112 16)))
+unequalHalves w x = isImmediate x w && ((leb 2 (srcType x w) && leb (srcType x w) 3) && not (eqb (bits w 96 16) (bits w 112 16)))
 
 -- A modifier where none is allowed: on a src0 immediate, and on the register sources of logic and shifts. A src1 immediate has no modifier.
 abbrev pub badModifier : Plain → ℕ → Source → Bool
@@ -127,12 +153,22 @@ ownRuleBroken Plain.cmp w = false
 ownRuleBroken Plain.add w = false
 ownRuleBroken Plain.avg w = false
 
+-- Some operand is a float and some is none.
+unfoldable pub mixed : Plain → ℕ → Bool
+mixed p w = usesFloats p w && (not (dstIsFloat w) || anyOf (λ x. not (srcIsFloat w x)) (sources p))
+
+-- Four restricted floats for more than four channels.
+abbrev pub vectorTooShort : ℕ → Source → Bool
+vectorTooShort w x = srcIsVector x w && ltb 4 (channels w)
+
 unfoldable pub operandRuleBroken : Plain → ℕ → Bool
 operandRuleBroken p w =
     misplaced p w
     || (anyOf (unequalHalves w) (sources p)
     || (anyOf (badModifier p w) (sources p)
-    || ownRuleBroken p w))
+    || (ownRuleBroken p w
+    || (mixed p w
+    || anyOf (vectorTooShort w) (sources p)))))
 
 -- ---- 9, 10, 11: over the register operands; immediates and a null destination are passed over, never the other operands. 10 and 11 judge what is named
 -- directly; an address is judged while running

@@ -8,6 +8,8 @@ pub mod Expand
 pub mod Operation
 pub mod Shorten
 pub mod Value
+pub mod Single
+pub mod Restricted
 pub mod Element
 pub mod Region
 pub mod Store
@@ -28,6 +30,7 @@ pub mod Text
 pub mod Log
 pub mod Listing
 pub mod Assembler
+pub mod Placing
 pub mod Sheet
 pub mod SheetMore
 pub mod SheetRefusals
@@ -38,3 +41,4 @@ pub mod SheetParts
 pub mod SheetLogs
 pub mod SheetAddresses
 pub mod SheetListings
+pub mod SheetFloats

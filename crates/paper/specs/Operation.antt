@@ -75,12 +75,13 @@ isMov mul = false
 isMov avg = false
 
 -- What the rules ask of an operation: the sources that it reads (what it does not read is carried, not judged), whether Saturate is served on
--- it, whether its sources may have modifiers, whether it is cmp, which has a condition code and sets flags, and whether its predicate masks its channels: sel's
+-- it, whether its sources may have modifiers, whether floats are served on it, whether it is cmp, which has a condition code and sets flags, and whether its predicate masks its channels: sel's
 -- chooses a source, and masks nothing.
 pub record Traits : Type 0 where
   pub sources : List Source
   pub saturates : Bool
   pub modifiers : Bool
+  pub floats : Bool
   pub compares : Bool
   pub masks : Bool
 
@@ -91,19 +92,19 @@ abbrev two : List Source
 two = src0 ∷ src1 ∷ []
 
 abbrev pub traits : Plain → Traits
-traits mov = record { sources = one; saturates = true; modifiers = true; compares = false; masks = true }
-traits sel = record { sources = two; saturates = true; modifiers = true; compares = false; masks = false }
-traits not = record { sources = one; saturates = false; modifiers = false; compares = false; masks = true }
-traits and = record { sources = two; saturates = false; modifiers = false; compares = false; masks = true }
-traits or = record { sources = two; saturates = false; modifiers = false; compares = false; masks = true }
-traits xor = record { sources = two; saturates = false; modifiers = false; compares = false; masks = true }
-traits shr = record { sources = two; saturates = false; modifiers = false; compares = false; masks = true }
-traits shl = record { sources = two; saturates = false; modifiers = false; compares = false; masks = true }
-traits asr = record { sources = two; saturates = false; modifiers = false; compares = false; masks = true }
-traits cmp = record { sources = two; saturates = false; modifiers = true; compares = true; masks = true }
-traits add = record { sources = two; saturates = true; modifiers = true; compares = false; masks = true }
-traits mul = record { sources = two; saturates = true; modifiers = true; compares = false; masks = true }
-traits avg = record { sources = two; saturates = true; modifiers = true; compares = false; masks = true }
+traits mov = record { sources = one; saturates = true; modifiers = true; floats = true; compares = false; masks = true }
+traits sel = record { sources = two; saturates = true; modifiers = true; floats = false; compares = false; masks = false }
+traits not = record { sources = one; saturates = false; modifiers = false; floats = false; compares = false; masks = true }
+traits and = record { sources = two; saturates = false; modifiers = false; floats = false; compares = false; masks = true }
+traits or = record { sources = two; saturates = false; modifiers = false; floats = false; compares = false; masks = true }
+traits xor = record { sources = two; saturates = false; modifiers = false; floats = false; compares = false; masks = true }
+traits shr = record { sources = two; saturates = false; modifiers = false; floats = false; compares = false; masks = true }
+traits shl = record { sources = two; saturates = false; modifiers = false; floats = false; compares = false; masks = true }
+traits asr = record { sources = two; saturates = false; modifiers = false; floats = false; compares = false; masks = true }
+traits cmp = record { sources = two; saturates = false; modifiers = true; floats = true; compares = true; masks = true }
+traits add = record { sources = two; saturates = true; modifiers = true; floats = true; compares = false; masks = true }
+traits mul = record { sources = two; saturates = true; modifiers = true; floats = true; compares = false; masks = true }
+traits avg = record { sources = two; saturates = true; modifiers = true; floats = false; compares = false; masks = true }
 
 abbrev pub sources : Plain → List Source
 sources p = traits p .sources

@@ -1,9 +1,10 @@
 -- Regions: at which byte each channel's element starts (the paper, "Operations"; source document 001). Assumes nothing.
-use mathlib.Core.Bool.{Bool, cond}
+use mathlib.Core.Bool.{Bool, cond, _&&_}
 use Prim.Native.Nat.{ℕ, _+_, _*_, _/_, _%_, _^_}
+use lib.Dec.{eqb}
 use Rattle.paper.specs.Word.{Source, execSize, dstType, dstSubregister, dstRegister, dstStride, dstIsA0}
 use Rattle.paper.specs.Word.{srcType, srcSubregister, srcRegister, srcHorzStride, srcWidth, srcVertStride, srcIsA0, isImmediate, immediate}
-use Rattle.paper.specs.Value.{width, sizeOf}
+use Rattle.paper.specs.Value.{typeF, typeVf, width, sizeOf}
 
 -- ExecSize and Width codes 0 to 4 mean 1 to 16.
 abbrev pub countOf : ℕ → ℕ
@@ -49,14 +50,26 @@ srcRegion x w =
 
 -- ---- operands
 
--- What a source names: an immediate's pattern, or a region of the file that it stands in.
+-- What a source names: an immediate's pattern, an immediate of four restricted floats, or a region of the file that it stands in.
 pub data Operand : Type 0 where
   fixed : ℕ → Operand
+  vector : ℕ → Operand
   direct : Region → Operand
 
--- An immediate is as many of the low bits as its type has.
+-- Source x is an immediate of type vf.
+abbrev pub srcIsVector : Source → ℕ → Bool
+srcIsVector x w = isImmediate x w && eqb (srcType x w) typeVf
+
+-- The type of the elements that source x gives: of vf, f.
+abbrev pub srcKind : Source → ℕ → ℕ
+srcKind x w = cond (srcIsVector x w) typeF (srcType x w)
+
+-- An immediate is as many of the low bits as its type has; of vf, all 32.
 abbrev pub operandOf : Source → ℕ → Operand
-operandOf x w = cond (isImmediate x w) (fixed (immediate (width (srcType x w)) w)) (direct (srcRegion x w))
+operandOf x w =
+    cond (isImmediate x w)
+    (cond (eqb (srcType x w) typeVf) (vector (immediate 32 w)) (fixed (immediate (width (srcType x w)) w)))
+    (direct (srcRegion x w))
 
 -- ---- the destination
 

@@ -8,9 +8,9 @@ use Rattle.paper.specs.Expand.{expandLow, expandHigh, expand}
 use Rattle.paper.specs.Operation.{operationOf}
 use Rattle.paper.specs.Shorten.{firstFrom, indexOf, shortWord, shortenImmediate, shortenRegister, shortenHalves, shorten}
 use Rattle.paper.specs.Value.{value, least, greatest, modZ, floorZ, modified, clampTo, stored}
-use Rattle.paper.specs.Element.{compares, result, made, meets}
+use Rattle.paper.specs.Element.{compares, result, resultOf, made, meets}
 use Rattle.paper.specs.Region.{elementAt}
-use Rattle.paper.specs.Legal.{reservedSet, controlServed, dstServed, srcServed, usesA0, movesWords, plainServed, branchServed, operandRuleBroken, hangs, shapeRefused, shapeBroken, alignmentBroken, tooFar, reachBroken, later, refusalOf}
+use Rattle.paper.specs.Legal.{reservedSet, controlServed, dstServed, srcServed, usesA0, movesWords, usesFloats, floatsServed, plainServed, branchServed, mixed, operandRuleBroken, hangs, shapeRefused, shapeBroken, alignmentBroken, tooFar, reachBroken, later, refusalOf}
 use Rattle.paper.specs.Address.{dstDirect, srcDirect, settled, someOutside, addressBroken, addressStops}
 use Rattle.paper.specs.Enable.{groupOf, anyBit, allBits, vote, predicate, holds, enabled, ofBits, flagBit, flagAfter}
 use Rattle.paper.specs.Effect.{patternAt, operand, channelStores, scattered, registersAfter, addressesAfter, finds, comparedFlag, plainEffect, effect}
@@ -30,7 +30,7 @@ use Rattle.paper.specs.Sheet.{Row, _gives_, shown, written, whole, count
 
 -- All rows of a list hold: what is computed is what is said. To open this definition is to open all that a row computes with.
 unfoldable pub Hold : List Row → Type 0
-unfolding number numberAt bytesOf putAt immediateForm dictionaryOf tableWidth fitBelow expandLow expandHigh expand operationOf firstFrom indexOf shortWord shortenImmediate shortenRegister shortenHalves shorten value least greatest modZ floorZ modified clampTo stored compares result elementAt dstDirect srcDirect settled someOutside addressBroken addressStops reservedSet controlServed dstServed srcServed usesA0 movesWords plainServed branchServed operandRuleBroken hangs shapeRefused shapeBroken alignmentBroken tooFar reachBroken later refusalOf groupOf anyBit allBits vote predicate holds enabled ofBits flagBit flagAfter made meets patternAt operand channelStores scattered registersAfter addressesAfter finds comparedFlag plainEffect effect judgeShort judgeLong judgeAt walk parse fetch endFrom lands firstAstray withJumps forward wake park each someone onward act perform stepOn runWith startFrom channelIn oneOfThree channelsIn stateOf allThree waitsLand stateLegal maskOf placesOf stateBytes index startOf aimed layFrom relay deliver judgedKernel accepted checkCall forwardCall packCall unpackCall oneWord shortenCall expandCall decodeAt decodeCall decodePart startCall stepCall runCall dwords to from0 from1 immediate0 immediate1 op structuredTo jmpiTo leaveTo nopWord long copies numbers zeros blankDictionary dictionaryA clear ramp begin _gives_ shown written whole count room longA shortA storedW rowsCDEF rowsG kernelI loads rowsLoad stores rowsStore rowsOperation says rowsCompare one r4 masks sevens against ranOver stateIs secondBytes secondWord movWith addWith rowsForm rowsWord movBy rowsShape predicates rowsVote votesAt branchVotes selVotes rowsVoteRefused aims rowsAim rowsLeaveRefused
+unfolding number numberAt bytesOf putAt immediateForm dictionaryOf tableWidth fitBelow expandLow expandHigh expand operationOf firstFrom indexOf shortWord shortenImmediate shortenRegister shortenHalves shorten value least greatest modZ floorZ modified clampTo stored compares result elementAt dstDirect srcDirect settled someOutside addressBroken addressStops reservedSet controlServed dstServed srcServed usesA0 movesWords plainServed branchServed operandRuleBroken hangs shapeRefused shapeBroken alignmentBroken tooFar reachBroken later refusalOf groupOf anyBit allBits vote predicate holds enabled ofBits flagBit flagAfter made meets patternAt operand channelStores scattered registersAfter addressesAfter finds comparedFlag plainEffect effect judgeShort judgeLong judgeAt walk parse fetch endFrom lands firstAstray withJumps forward wake park each someone onward act perform stepOn runWith startFrom channelIn oneOfThree channelsIn stateOf allThree waitsLand stateLegal maskOf placesOf stateBytes index startOf aimed layFrom relay deliver judgedKernel accepted checkCall forwardCall packCall unpackCall oneWord shortenCall expandCall decodeAt decodeCall decodePart startCall stepCall runCall dwords to from0 from1 immediate0 immediate1 op structuredTo jmpiTo leaveTo nopWord long copies numbers zeros blankDictionary dictionaryA clear ramp begin _gives_ shown written whole count room longA shortA storedW rowsCDEF rowsG kernelI loads rowsLoad stores rowsStore rowsOperation says rowsCompare one r4 masks sevens against ranOver stateIs secondBytes secondWord movWith addWith rowsForm rowsWord movBy rowsShape predicates rowsVote votesAt branchVotes selVotes rowsVoteRefused aims rowsAim rowsLeaveRefused resultOf usesFloats floatsServed mixed
 Hold rows = map (λ r. r .got) rows ≡ map (λ r. r .want) rows
 
 pub rowsCDEF-hold : Hold rowsCDEF

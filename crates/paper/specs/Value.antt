@@ -6,11 +6,19 @@ use lib.Dec.{leb, ltb, eqb}
 use lib.IntN.{ℤ, pos, negsuc, negℤ, natAbs, subℕ}
 use lib.Signed.{ltZ}
 
--- ---- types: ud 0, d 1, uw 2, w 3, ub 4, b 5
+-- ---- types: ud 0, d 1, uw 2, w 3, ub 4, b 5, f 7
 
--- A type's bytes: the element size. Codes 6 and 7 are no type's, and have none.
+-- Single floats. The whole number that one stands for is its pattern.
+abbrev pub typeF : ℕ
+typeF = 7
+
+-- Four restricted floats: the code of an immediate only, among registers it is b's.
+abbrev pub typeVf : ℕ
+typeVf = 5
+
+-- A type's bytes: the element size. Code 6 is no type's, and has none.
 abbrev pub sizeOf : ℕ → ℕ
-sizeOf t = cond (ltb t 2) 4 (cond (ltb t 4) 2 (cond (ltb t 6) 1 0))
+sizeOf t = cond (ltb t 2) 4 (cond (ltb t 4) 2 (cond (ltb t 6) 1 (cond (eqb t typeF) 4 0)))
 
 -- Its bits.
 abbrev pub width : ℕ → ℕ
@@ -20,8 +28,9 @@ width t = 8 * sizeOf t
 abbrev pub IsType : ℕ → Type 0
 IsType t = 0 < sizeOf t
 
+-- It has negative whole numbers. A pattern is none: a float's sign is a bit of it.
 abbrev pub isSigned : ℕ → Bool
-isSigned t = eqb (t % 2) 1
+isSigned t = ltb t 6 && eqb (t % 2) 1
 
 -- The whole number that pattern n of type t means.
 unfoldable pub value : ℕ → ℕ → ℤ

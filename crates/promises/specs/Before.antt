@@ -16,6 +16,7 @@ use Rattle.laws.specs.LeavingBefore.{formerJudge, formerStep}
 use Rattle.laws.specs.Leaving.{Leaves, wordAt}
 use Rattle.laws.specs.AddressesBefore.{directJudge, directStartCall, directStepCall, directRunCall}
 use Rattle.laws.specs.AddressesStay.{formerBytes, andAddresses}
+use Rattle.laws.specs.FloatsBefore.{wholeRefusal, wholeStep}
 use Rattle.laws.specs.Longer.{bytesBefore, instructionsBefore, Settled, sizedWithin, acceptedWithin, checkWithin, packWithin, unpackWithin, decodeWithin, stepWithin, runWithin}
 use Rattle.contracts.specs.Contracts.{Wrote, Left, CheckPromise, PackPromise, UnpackPromise, DecodePromise, StartPromise, StepPromise, RunPromise}
 
@@ -44,8 +45,9 @@ pub record AsDirect (dictionary kernel : List ℕ) : Type 0 where
       → RunPromise dictionary kernel budget registers state r registers′ state′
       → Left (andAddresses (addressesIn state) (directRunCall dictionary kernel budget registers (formerBytes state))) r registers′ state′
 
--- 02 §2, §7 and §9 only add. `refusalBefore` and `stepAtBefore` are the rules before groups of channels could vote (VotesBefore of `laws`), `formerJudge` and
--- `formerStep` those before break and cont were listed (LeavingBefore of `laws`), `directJudge` and its like those before there were a0 and addresses.
+-- 02 §2, §7, §8 and §9 only add. `refusalBefore` and `stepAtBefore` are the rules before groups of channels could vote (VotesBefore of `laws`), `formerJudge` and
+-- `formerStep` those before break and cont were listed (LeavingBefore of `laws`), `directJudge` and its like those before there were a0 and addresses, `wholeRefusal` and `wholeStep` those before
+-- there were floats (FloatsBefore of `laws`).
 pub record PassedBefore : Type 0 where
   -- A kernel that check accepted without votes is accepted, and is checked, unpacked, stepped and run as it was.
   pub votes : (dictionary kernel : List ℕ) (n : ℕ) → checkCallBy (judgeAtBy refusalBefore) dictionary kernel ≡ verdict 0 n
@@ -70,6 +72,12 @@ pub record PassedBefore : Type 0 where
   pub addressesStart : (mask flag0 flag1 : ℕ) (state : List ℕ) → length state ≡ stateLength
       → (r : ℕ) (state′ : List ℕ) → StartPromise mask flag0 flag1 state r state′
       → (let former = directStartCall mask flag0 flag1 (formerBytes state) in (r ≡ asNumber (former .answer)) × (state′ ≡ former .output ++ replicate addressBytes 0))
+  -- Without floats: a kernel that check accepted is accepted, and is checked, unpacked, stepped and run as it was.
+  pub floats : (dictionary kernel : List ℕ) (n : ℕ) → checkCallBy (judgeAtBy wholeRefusal) dictionary kernel ≡ verdict 0 n
+      → AsBy (judgeAtBy wholeRefusal) wholeStep dictionary kernel
+  -- One that pack accepted is packed to the same bytes.
+  pub floatsPacked : (dictionary kernel out : List ℕ) (n : ℕ) → packCallBy (judgeAtBy wholeRefusal) dictionary kernel out .answer ≡ verdict 0 n
+      → (r : ℕ) (out′ : List ℕ) → PackPromise dictionary kernel out r out′ → Wrote (packCallBy (judgeAtBy wholeRefusal) dictionary kernel out) r out′
 
 -- ==== longer kernels: what passed under lower limits is answered as it was
 

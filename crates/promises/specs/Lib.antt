@@ -3,6 +3,7 @@
 -- Before states what passed before a request; PassedHolds proves it, of longer kernels LongerHolds.
 -- Finishing states when a kernel must finish, and what a step may change; FinishingHolds proves it, of a step ChangesHold.
 -- Listings states what holds of a kernel's listing and of what is read, and ListingsHold proves it.
+-- Placements states where tiles go, by an order and by the fixed kernel, and PlacementsHold proves it.
 pub mod Promises
 pub mod Before
 pub mod Results
@@ -25,3 +26,5 @@ pub mod FinishingHolds
 pub mod LogsHold
 pub mod Listings
 pub mod ListingsHold
+pub mod Placements
+pub mod PlacementsHold

@@ -7,7 +7,6 @@ use Prim.Native.Nat.{ℕ, _*_, _≤_}
 use native.Mathlib.Omega.{arith}
 use lib.Dec.{eqb, ltb}
 use lib.ListN.{length, take, drop}
-use lib.Seq.{take-at}
 use lib.Pow.{areBytes}
 use borrow.Author.Tests.{eqb-true, not-false, eq-eqb}
 use Rattle.paper.specs.Limits.{dictionaryBytes, kernelBytes, instructionLimit}
@@ -26,18 +25,10 @@ use Rattle.answers.specs.Listings.{listing-most}
 use Rattle.contracts.specs.Contracts.{numberIn, offsetIn, countIn, CheckPromise, ListPromise, ReadPromise}
 use Rattle.promises.specs.Promises.{result, Alike}
 use Rattle.promises.specs.Listings.{ReadBack, Listings}
-use Rattle.promises.specs.Results.{near-no-zero, check-accepts, accepted-checks, wrote, deliver-fits, deliver-room}
+use Rattle.promises.specs.Results.{near-no-zero, check-accepts, accepted-checks, wrote, result-is, deliver-fits, deliver-room}
 use Rattle.promises.specs.OutcomesHold.{answers}
 use Rattle.promises.specs.PackingHolds.{items-bytes}
 use Rattle.promises.specs.AlikeHolds.{program-alike}
-
--- ---- a result that was written
-
--- The first bytes of what a call left, where it wrote a result and counted its bytes.
-result-is : (bytes out : List ℕ) (w : Written) → w ≡ wrote bytes out → (r : ℕ) (out′ : List ℕ) → countIn r ≡ countOf (w .answer) → out′ ≡ w .output → result r out′ ≡ bytes
-result-is bytes out w e r out′ c d =
-    let count : countIn r ≡ length bytes = c ∙ ap (λ (x : Written). countOf (x .answer)) e in
-    ap (take (countIn r)) (d ∙ ap (λ (x : Written). x .output) e) ∙ take-at bytes (drop (length bytes) out) (countIn r) (sym count)
 
 -- A result is never answered with 30.
 deliver-thirty : (bytes out : List ℕ) → numberOf (deliver bytes out .answer) ≡ 30 → ⊥

@@ -7,14 +7,16 @@ use Prim.Native.Nat.{ℕ, _*_}
 use native.Mathlib.Omega.{arith}
 use lib.ListN.{length, take, drop}
 use Rattle.paper.specs.Calls.{Answer, asNumber, Written, checkCall, forwardCall, packCall, unpackCall, pairCall, shortenCall, expandCall, decodeCall, decodePart, startCall, stepCall, runCall, numberOf}
-use Rattle.laws.specs.Calls.{Confined, pack-confined, unpack-confined, shorten-confined, expand-confined, start-confined, decode-refused, step-unchanged, run-unchanged, list-confined, read-confined}
+use Rattle.laws.specs.Calls.{Confined, pack-confined, unpack-confined, shorten-confined, expand-confined, start-confined, decode-refused, step-unchanged, run-unchanged, list-confined, read-confined, place-confined, place-kernel-confined, place-load-unchanged}
 use Rattle.paper.specs.Log.{entry, logAppendCall, logReadCall, logRunsCall, logRunCall}
 use Rattle.paper.specs.Listing.{listCall, readCall}
+use Rattle.paper.specs.Placing.{Point, placeCall, placeKernelCall, placeLoadCall}
 use Rattle.log.specs.Appends.{append-confined, run-confined}
 use Rattle.answers.specs.Logs.{log-append-fine, log-read-fine, log-runs-fine, log-run-fine}
 use Rattle.answers.specs.Listings.{list-fine, read-fine}
+use Rattle.answers.specs.Placings.{place-fine, place-kernel-fine, place-load-fine}
 use Rattle.contracts.specs.Contracts.{numberIn, offsetIn, countIn, Wrote}
-use Rattle.answers.specs.Numbers.{checkNumbers, forwardNumbers, packNumbers, unpackNumbers, pairNumbers, shortenNumbers, expandNumbers, decodeNumbers, startNumbers, stepNumbers, runNumbers, logReadNumbers, logAppendNumbers, listNumbers, readNumbers}
+use Rattle.answers.specs.Numbers.{checkNumbers, forwardNumbers, packNumbers, unpackNumbers, pairNumbers, shortenNumbers, expandNumbers, decodeNumbers, startNumbers, stepNumbers, runNumbers, logReadNumbers, logAppendNumbers, listNumbers, readNumbers, placeNumbers, placeKernelNumbers, placeLoadNumbers}
 use Rattle.contracts.specs.OneOutcomeHolds.{one-outcome}
 use Rattle.promises.specs.Promises.{Told, Answers, Kept, Refusals, Demand1}
 use Rattle.answers.specs.Small.{number-back, offset-back, count-back}
@@ -58,6 +60,10 @@ answers =
           told logAppendNumbers (logRunCall log count answer state .answer) r (log-run-fine log count answer state) (p .0);
       list = λ dictionary kernel out r out′ p. told listNumbers (listCall dictionary kernel out .answer) r (list-fine dictionary kernel out) (p .0);
       read = λ dictionary text out r out′ p. told readNumbers (readCall dictionary text out .answer) r (read-fine dictionary text out) (p .0);
+      place = λ order six x y out r out′ p.
+          told placeNumbers (placeCall order six (record { x = x; y = y }) out .answer) r (place-fine order six (record { x = x; y = y }) out) (p .0);
+      placeKernel = λ out r out′ p. told placeKernelNumbers (placeKernelCall out .answer) r (place-kernel-fine out) (p .0);
+      placeLoad = λ six registers r registers′ p. told placeLoadNumbers (placeLoadCall six registers .answer) r (place-load-fine six registers) (p .0);
     }
 
 -- ---- a refusal changes nothing
@@ -104,6 +110,13 @@ refusals =
           kept listNumbers (listCall dictionary kernel out) out r out′ (list-fine dictionary kernel out) (list-confined dictionary kernel out);
       read = λ dictionary text out r out′.
           kept readNumbers (readCall dictionary text out) out r out′ (read-fine dictionary text out) (read-confined dictionary text out);
+      place = λ order six x y out r out′.
+          let at : Point = record { x = x; y = y } in
+          kept placeNumbers (placeCall order six at out) out r out′ (place-fine order six at out) (place-confined order six at out);
+      placeKernel = λ out r out′. kept placeKernelNumbers (placeKernelCall out) out r out′ (place-kernel-fine out) (place-kernel-confined out);
+      placeLoad = λ six registers r registers′ p n.
+          let t = answers .placeLoad six registers r registers′ p in
+          p .1 ∙ place-load-unchanged six registers (λ e. n (t .number ∙ e));
     }
 
 -- ---- the demand

@@ -19,6 +19,8 @@ use Rattle.laws.specs.Leaving.{leaving-stays, leaving-packs}
 use Rattle.laws.specs.AddressesBefore.{directRefusal, directStep, directJudge}
 use Rattle.laws.specs.Addresses.{addresses-add}
 use Rattle.laws.specs.AddressesStay.{start-stays, step-stays, run-stays}
+use Rattle.laws.specs.FloatsBefore.{wholeRefusal, wholeStep}
+use Rattle.laws.specs.Floats.{floats-add}
 use Rattle.promises.specs.Before.{AsBy, AsDirect, PassedBefore}
 
 -- No refusal is a verdict.
@@ -90,4 +92,6 @@ passed-before =
       addresses = direct-kept;
       addressesPacked = pack-kept directRefusal directStep addresses-add;
       addressesStart = λ mask flag0 flag1 state long r state′ p. subst (λ (c : Written). Wrote c r state′) (start-stays mask flag0 flag1 state long) p;
+      floats = accepted-kept wholeRefusal wholeStep floats-add;
+      floatsPacked = pack-kept wholeRefusal wholeStep floats-add;
     }

@@ -1,7 +1,7 @@
 -- The promises of the exported calls, for all that can be lent to them. Read this file first, and after it what it names: the contracts (Contracts and OneOutcome
 -- of the crate `contracts`) and the lists of numbers (Numbers of `answers`). It states them and proves none: `demand-1` of OutcomesHold, `demand-2` of
 -- PackingHolds, `demand-3` of RunningHolds, `pairs` of PairsHold and `logs` of LogsHold are the theorems. Finishing goes on from here, with when a kernel must finish
--- and what a step may change, Listings with listings, and Before with what passed before a request. A hypothesis such as `PackPromise dictionary kernel out r out′` says: spokeshaver_pack, lent
+-- and what a step may change, Listings with listings, Placements with where tiles go, and Before with what passed before a request. A hypothesis such as `PackPromise dictionary kernel out r out′` says: spokeshaver_pack, lent
 -- these, answered r and left out′ in its output; that is the contract of the call, proved with its code. `numberIn`, `offsetIn` and `countIn` take an answer
 -- apart as the header's macros do. Demands 2 and 3 ask besides that what is lent is bytes (`areBytes`) and 16-bit numbers, as the types in C say.
 use mathlib.Core.Bool.{Bool, true}
@@ -22,14 +22,15 @@ use Rattle.paper.specs.Packing.{index}
 use Rattle.paper.specs.Calls.{Answer, accepted, checkCall, forwardCall, packCall, unpackCall, pairCall, loadPart, shortenCall, expandCall, decodeCall, decodePart, startCall, stepCall, runCall, numberOf, offsetOf, countOf}
 use Rattle.paper.specs.Log.{Entry, entry, entryLegal, recordText, logText, allLegal, Beginning, logSized, logReadCall, logRunsCall, logPart, logAppendCall, logRunCall, awakeAmong, awakeCount, entryOf}
 use Rattle.paper.specs.Listing.{listCall, readCall}
+use Rattle.paper.specs.Placing.{placeCall, placeKernelCall, placeLoadCall}
 use Rattle.paper.specs.Program.{program}
 use Rattle.laws.specs.Names.{renameC}
 use Rattle.laws.specs.Items.{Item, allBytes, instrsFrom}
 use Rattle.laws.specs.Packing.{AllShortest}
 use Rattle.contracts.specs.Contracts.{numberIn, offsetIn, countIn, CheckPromise, ForwardPromise, PackPromise, UnpackPromise, PairPromise, ShortenPromise, ExpandPromise, DecodePromise, StartPromise, StepPromise, RunPromise}
-use Rattle.contracts.specs.Contracts.{LogAppendPromise, LogReadPromise, LogRunsPromise, LogRunPromise, ListPromise, ReadPromise}
+use Rattle.contracts.specs.Contracts.{LogAppendPromise, LogReadPromise, LogRunsPromise, LogRunPromise, ListPromise, ReadPromise, PlacePromise, PlaceKernelPromise, PlaceLoadPromise}
 use Rattle.contracts.specs.OneOutcome.{OneOutcome}
-use Rattle.answers.specs.Numbers.{checkNumbers, forwardNumbers, packNumbers, unpackNumbers, pairNumbers, shortenNumbers, expandNumbers, decodeNumbers, startNumbers, stepNumbers, runNumbers, logReadNumbers, logAppendNumbers, listNumbers, readNumbers}
+use Rattle.answers.specs.Numbers.{checkNumbers, forwardNumbers, packNumbers, unpackNumbers, pairNumbers, shortenNumbers, expandNumbers, decodeNumbers, startNumbers, stepNumbers, runNumbers, logReadNumbers, logAppendNumbers, listNumbers, readNumbers, placeNumbers, placeKernelNumbers, placeLoadNumbers}
 
 -- ==== demand 1: one outcome, from the paper's list, and a refusal changes nothing
 
@@ -71,6 +72,11 @@ pub record Answers : Type 0 where
       → Told listNumbers (listCall dictionary kernel out .answer) r
   pub read : (dictionary text out : List ℕ) (r : ℕ) (out′ : List ℕ) → ReadPromise dictionary text out r out′
       → Told readNumbers (readCall dictionary text out .answer) r
+  pub place : (order : ℕ) (six : List ℕ) (x y : ℕ) (out : List ℕ) (r : ℕ) (out′ : List ℕ) → PlacePromise order six x y out r out′
+      → Told placeNumbers (placeCall order six (record { x = x; y = y }) out .answer) r
+  pub placeKernel : (out : List ℕ) (r : ℕ) (out′ : List ℕ) → PlaceKernelPromise out r out′ → Told placeKernelNumbers (placeKernelCall out .answer) r
+  pub placeLoad : (six registers : List ℕ) (r : ℕ) (registers′ : List ℕ) → PlaceLoadPromise six registers r registers′
+      → Told placeLoadNumbers (placeLoadCall six registers .answer) r
 
 -- What a call leaves of the output that it was lent: all of it unless the answer's number is 0; what lies past the count's bytes, and the length, always.
 pub record Kept (out : List ℕ) (r : ℕ) (out′ : List ℕ) : Type 0 where
@@ -97,6 +103,9 @@ pub record Refusals : Type 0 where
   pub logRun : (log : List ℕ) (count answer : ℕ) (state : List ℕ) (r : ℕ) (log′ : List ℕ) → LogRunPromise log count answer state r log′ → Kept log r log′
   pub list : (dictionary kernel out : List ℕ) (r : ℕ) (out′ : List ℕ) → ListPromise dictionary kernel out r out′ → Kept out r out′
   pub read : (dictionary text out : List ℕ) (r : ℕ) (out′ : List ℕ) → ReadPromise dictionary text out r out′ → Kept out r out′
+  pub place : (order : ℕ) (six : List ℕ) (x y : ℕ) (out : List ℕ) (r : ℕ) (out′ : List ℕ) → PlacePromise order six x y out r out′ → Kept out r out′
+  pub placeKernel : (out : List ℕ) (r : ℕ) (out′ : List ℕ) → PlaceKernelPromise out r out′ → Kept out r out′
+  pub placeLoad : (six registers : List ℕ) (r : ℕ) (registers′ : List ℕ) → PlaceLoadPromise six registers r registers′ → (numberIn r ≡ 0 → ⊥) → registers′ ≡ registers
 
 -- A part of the kernel beside an answer of decode: the bytes from the place on, as many as the answer counts; empty exactly where the answer refuses.
 pub record Part (kernel : List ℕ) (place r : ℕ) (bytes : List ℕ) : Type 0 where

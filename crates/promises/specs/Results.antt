@@ -2,11 +2,12 @@
 use mathlib.Core.Bool.{Bool, true, false, not, cond}
 use mathlib.Core.List.{List, [], _++_}
 use mathlib.Core.Logic.{_⊎_, inl, inr}
-use mathlib.Core.Path.{_≡_, refl, ap, _∙_}
+use mathlib.Core.Path.{_≡_, refl, sym, ap, _∙_}
 use Prim.Native.Nat.{ℕ, _+_, _*_, _<_, _≤_}
 use native.Mathlib.Omega.{arith}
 use lib.Dec.{eqb, ltb, leb}
 use lib.ListN.{length, take, drop, length-take, length-drop}
+use lib.Seq.{take-at}
 use borrow.Author.Tests.{eqb-true, ltb-true, leb-false}
 use Rattle.paper.specs.Limits.{stateLength, kernelBytes, instructionLimit}
 use Rattle.paper.specs.Dictionary.{Dictionary, dictionaryOf, inRange}
@@ -19,6 +20,7 @@ use Rattle.paper.specs.Calls.{refusal, verdict, Written, kept, deliver, accepte
 use Rattle.paper.specs.Calls.{Answer, sized, Decoded, undecoded, decoded, partOf, decodePart, judgedAs, decodeAt, decodedAs, decodeCall}
 use Rattle.laws.specs.Names.{longForm}
 use Rattle.laws.specs.Judged.{Passed, asLong, asShort, judge-passed}
+use Rattle.contracts.specs.Contracts.{countIn}
 use Rattle.answers.specs.Judging.{Modest, modest-above, judged-modest}
 use Rattle.answers.specs.Kernels.{KernelNo, Near, near-number, accepted-near}
 
@@ -57,6 +59,13 @@ check-accepts dictionary kernel = go (accepted longAndShort dictionary kernel) (
 -- A result as it is written: its length is the count, and the rest of the buffer stays.
 abbrev pub wrote : List ℕ → List ℕ → Written
 wrote result out = record { answer = verdict 0 (length result); output = result ++ drop (length result) out }
+
+-- The first bytes of what a call left, where it wrote a result and counted its bytes, are the result.
+pub result-is : (bytes out : List ℕ) (w : Written) → w ≡ wrote bytes out → (r : ℕ) (out′ : List ℕ) → countIn r ≡ countOf (w .answer) → out′ ≡ w .output
+    → take (countIn r) out′ ≡ bytes
+result-is bytes out w e r out′ c d =
+    let count : countIn r ≡ length bytes = c ∙ ap (λ (x : Written). countOf (x .answer)) e in
+    ap (take (countIn r)) (d ∙ ap (λ (x : Written). x .output) e) ∙ take-at bytes (drop (length bytes) out) (countIn r) (sym count)
 
 -- What an answer of 0 says of a result.
 pub deliver-fits : (result out : List ℕ) → numberOf (deliver result out .answer) ≡ 0 → deliver result out ≡ wrote result out

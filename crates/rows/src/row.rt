@@ -73,6 +73,12 @@ pub const PART: u64 = 0x70617274_3;
 
 pub const LOADS: u64 = 0x6C6F616473_2;
 
+pub const PLACE: u64 = 0x706C616365_3;
+
+pub const FIXED: u64 = 0x6669786564_0;
+
+pub const RECORD: u64 = 0x7265636F7264_0;
+
 pub const LOGREAD: u64 = 0x6C6F6772656164_1;
 
 pub const LOGRUNS: u64 = 0x6C6F6772756E73_1;

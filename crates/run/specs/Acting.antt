@@ -3,42 +3,59 @@ use mathlib.Core.Bool.{Bool, true, false, _||_, false≢true}
 use mathlib.Core.List.{List, map}
 use mathlib.Core.Path.{_≡_, refl, sym, ap, ap₂, _∙_, subst}
 use Prim.Native.Nat.{ℕ}
-use Rattle.paper.specs.Word.{src0, dstIsA0, srcIsA0}
+use borrow.Author.Tests.{eq-eqb}
+use Rattle.paper.specs.Word.{src0, dstType, dstIsA0, srcIsA0}
 use Rattle.paper.specs.Operation.{Plain, mov, Operation, plain, nop, branch, unlisted, operation}
 use Rattle.paper.specs.Store.{Store}
-use Rattle.paper.specs.Legal.{usesA0, refusalOf}
+use Rattle.paper.specs.Value.{typeF}
+use Rattle.paper.specs.Legal.{usesA0, dstIsFloat, usesFloats, refusalOf}
 use Rattle.paper.specs.Address.{settled, addressBroken, addressStops}
 use Rattle.paper.specs.Effect.{plainEffect, effect}
 use Rattle.paper.specs.Machine.{Channel, State, Ways, isAwake, wake, pass, perform, stepAt}
-use Rattle.laws.specs.Regions.{LegalPlain, Named, legal-plain}
+use Rattle.laws.specs.Regions.{LegalPlain, Named, legal-plain, or-false}
 use Rattle.laws.specs.Settled.{settled-named, settled-none, operation-settled}
 use Rattle.laws.specs.SettledLegal.{settled-legal}
 use Rattle.words.specs.declared.bytes.Word.{Word}
+use Rattle.words.specs.declared.operation.Plain as words
+use Rattle.words.specs.Operations.{plainIs}
 use Rattle.words.specs.Words.{toWord}
-use Rattle.words.specs.Unaided.{Unaided, unaided-named}
-use Rattle.execute.specs.Readable.{Acting, OnRegisters, effect-acting, a0-told, a0-moves}
+use Rattle.words.specs.Usual.{Usual, usual-named}
+use Rattle.execute.specs.Readable.{Acting, Counting, Reckoning, OnRegisters, effect-acting, a0-told, a0-moves, a0-whole, float-destination}
 use Rattle.address.specs.Settling.{Says, unaddressed}
 use Rattle.address.specs.declared.settle.Settled.{Settled}
 use Rattle.address.specs.declared.settle.Settled.the-variants as settle
 use Rattle.run.specs.declared.acting.Act.{Act}
-use Rattle.run.specs.declared.acting.Act.the-variants.{Steps, Moves, Broken}
+use Rattle.run.specs.declared.acting.Act.the-variants.{Steps, Moves, Reckons, Broken}
 
 -- Word v acts as w does, a0 being as it stands.
 abbrev pub SameStep : List ℕ → ℕ → ℕ → Type 0
 SameStep addresses w v = (here : ℕ) (ways : Ways) (t : State) → t .store .addresses ≡ addresses → stepAt v here ways t ≡ stepAt w here ways t
 
--- With a0 as it stands, no address of w is broken, and word v, which acts on registers alone or is a mov of a0, acts as w does; or an address is.
+-- With a0 as it stands, no address of w is broken, and word v, which acts on registers alone or is a mov of a0 or an operation on floats, acts as w does; or an
+-- address is.
 abbrev pub ActsFor : Act → List ℕ → ℕ → Type 0
 ActsFor (Steps v) addresses w = (addressStops addresses w ≡ false) × OnRegisters (toWord v) × SameStep addresses w (toWord v)
 ActsFor (Moves v) addresses w =
-    (addressStops addresses w ≡ false) × ((operation (toWord v) ≡ plain mov) × Acting mov (toWord v)) × SameStep addresses w (toWord v)
+    (addressStops addresses w ≡ false) × ((operation (toWord v) ≡ plain mov) × Counting mov (toWord v)) × SameStep addresses w (toWord v)
+ActsFor (Reckons q v) addresses w =
+    (addressStops addresses w ≡ false) × ((operation (toWord v) ≡ plain (plainIs q)) × Reckoning (plainIs q) (toWord v)) × SameStep addresses w (toWord v)
 ActsFor Broken addresses w = addressStops addresses w ≡ true
 
--- A settled word steps, or moves where an operand is a0.
-abbrev pub TellsOf : Act → Settled → Type 0
-TellsOf (Steps v) s = (s ≡ settle.Acts v) × ((dstIsA0 (toWord v) || srcIsA0 src0 (toWord v)) ≡ false)
-TellsOf (Moves v) s = (s ≡ settle.Acts v) × ((dstIsA0 (toWord v) || srcIsA0 src0 (toWord v)) ≡ true)
-TellsOf Broken s = s ≡ settle.Broken
+-- A settled word of operation p steps, or moves where an operand is a0, or works on floats where its destination is one.
+abbrev pub TellsOf : words.Plain → Act → Settled → Type 0
+TellsOf p (Steps v) s = (s ≡ settle.Acts v) × ((dstIsA0 (toWord v) || srcIsA0 src0 (toWord v)) ≡ false) × (dstIsFloat (toWord v) ≡ false)
+TellsOf p (Moves v) s = (s ≡ settle.Acts v) × ((dstIsA0 (toWord v) || srcIsA0 src0 (toWord v)) ≡ true)
+TellsOf p (Reckons q v) s = (s ≡ settle.Acts v) × (q ≡ p) × (dstIsFloat (toWord v) ≡ true)
+TellsOf p Broken s = s ≡ settle.Broken
+
+-- Whether an operand is a float is told by the destination.
+floats-told : (p : Plain) (w : ℕ) → Acting p w → usesFloats p w ≡ dstIsFloat w
+unfolding usesFloats
+floats-told p w l = go (usesFloats p w) refl
+  where
+    go : (t : Bool) → usesFloats p w ≡ t → usesFloats p w ≡ dstIsFloat w
+    go true e = e ∙ sym (eq-eqb (dstType w) typeF (float-destination p w (record { acting = l; some = e })))
+    go false e = e ∙ sym (or-false (dstIsFloat w) _ e .0)
 
 plain-same : (p q : Plain) → plain p ≡ plain q → p ≡ q
 plain-same p q e = cc
@@ -79,29 +96,39 @@ module _ (addresses : List ℕ) (w : ℕ) where
           ∙ (λ i. record { store = effects (map isAwake cs) (t .store) a i; channels = cs; place = ways .next })
           ∙ sym (passes w o here ways t)
 
-      -- Without a0 as an operand it acts on registers alone,
-      pub acts-steps : (dstIsA0 v || srcIsA0 src0 v) ≡ false → (addressStops addresses w ≡ false) × OnRegisters v × SameStep addresses w v
-      acts-steps none =
-          let alone : Acting p v × (usesA0 p v ≡ false) = (acting, a0-told p v acting ∙ none) in
-          (stops-told (plain p) o ∙ b, λ q f. subst (λ (r : Plain). Acting r v × (usesA0 r v ≡ false)) (plain-same p q (sym is ∙ f)) alone, steps)
+      -- Without a0 and floats as operands it acts on registers alone,
+      pub acts-steps : (dstIsA0 v || srcIsA0 src0 v) ≡ false → dstIsFloat v ≡ false → (addressStops addresses w ≡ false) × OnRegisters v × SameStep addresses w v
+      acts-steps none whole =
+          let alone : Counting p v × (usesA0 p v ≡ false) = (record { acting = acting; whole = floats-told p v acting ∙ whole }, a0-told p v acting ∙ none) in
+          (stops-told (plain p) o ∙ b, λ q f. subst (λ (r : Plain). Counting r v × (usesA0 r v ≡ false)) (plain-same p q (sym is ∙ f)) alone, steps)
 
-      -- and with it the operation is mov.
-      pub acts-moves : (dstIsA0 v || srcIsA0 src0 v) ≡ true → (addressStops addresses w ≡ false) × ((operation v ≡ plain mov) × Acting mov v) × SameStep addresses w v
+      -- with a0 the operation is mov,
+      pub acts-moves : (dstIsA0 v || srcIsA0 src0 v) ≡ true → (addressStops addresses w ≡ false) × ((operation v ≡ plain mov) × Counting mov v) × SameStep addresses w v
       acts-moves some =
-          let moves : p ≡ mov = a0-moves p v acting (a0-told p v acting ∙ some) in
-          (stops-told (plain p) o ∙ b, (is ∙ ap plain moves, subst (λ (r : Plain). Acting r v) moves acting), steps)
+          let uses : usesA0 p v ≡ true = a0-told p v acting ∙ some in
+          let moves : p ≡ mov = a0-moves p v acting uses in
+          let counting : Counting p v = record { acting = acting; whole = a0-whole p v acting uses } in
+          (stops-told (plain p) o ∙ b, (is ∙ ap plain moves, subst (λ (r : Plain). Counting r v) moves counting), steps)
+
+      -- and with floats it works on them.
+      pub acts-reckons : dstIsFloat v ≡ true → (addressStops addresses w ≡ false) × ((operation v ≡ plain p) × Reckoning p v) × SameStep addresses w v
+      acts-reckons some = (stops-told (plain p) o ∙ b, (is, record { acting = acting; some = floats-told p v acting ∙ some }), steps)
 
 -- What is told of a settled word holds of the word.
-pub acts-said : (addresses : List ℕ) (w : ℕ) (p : Plain) → operation w ≡ plain p → refusalOf w ≡ 0
-    → (s : Settled) → Says s (addressBroken p addresses w) (settled p addresses w) → (r : Act) → TellsOf r s → ActsFor r addresses w
-acts-said addresses w p o legal s says (Steps v) (e, none) =
-    let (b, same) = subst (λ (x : Settled). Says x (addressBroken p addresses w) (settled p addresses w)) e says in
-    acts-steps addresses w p o legal (toWord v) b same none
+pub acts-said : (addresses : List ℕ) (w : ℕ) (p : words.Plain) → operation w ≡ plain (plainIs p) → refusalOf w ≡ 0
+    → (s : Settled) → Says s (addressBroken (plainIs p) addresses w) (settled (plainIs p) addresses w) → (r : Act) → TellsOf p r s → ActsFor r addresses w
+acts-said addresses w p o legal s says (Steps v) (e, none, whole) =
+    let (b, same) = subst (λ (x : Settled). Says x (addressBroken (plainIs p) addresses w) (settled (plainIs p) addresses w)) e says in
+    acts-steps addresses w (plainIs p) o legal (toWord v) b same none whole
 acts-said addresses w p o legal s says (Moves v) (e, some) =
-    let (b, same) = subst (λ (x : Settled). Says x (addressBroken p addresses w) (settled p addresses w)) e says in
-    acts-moves addresses w p o legal (toWord v) b same some
+    let (b, same) = subst (λ (x : Settled). Says x (addressBroken (plainIs p) addresses w) (settled (plainIs p) addresses w)) e says in
+    acts-moves addresses w (plainIs p) o legal (toWord v) b same some
+acts-said addresses w p o legal s says (Reckons q v) (e, f, some) =
+    let (b, same) = subst (λ (x : Settled). Says x (addressBroken (plainIs p) addresses w) (settled (plainIs p) addresses w)) e says in
+    subst (λ (x : words.Plain). (addressStops addresses w ≡ false) × ((operation (toWord v) ≡ plain (plainIs x)) × Reckoning (plainIs x) (toWord v)) × SameStep addresses w (toWord v)) (sym f)
+    (acts-reckons addresses w (plainIs p) o legal (toWord v) b same some)
 acts-said addresses w p o legal s says Broken e =
-    settles-broken addresses w p o legal (subst (λ (x : Settled). Says x (addressBroken p addresses w) (settled p addresses w)) e says)
+    settles-broken addresses w (plainIs p) o legal (subst (λ (x : Settled). Says x (addressBroken (plainIs p) addresses w) (settled (plainIs p) addresses w)) e says)
 
 -- The operation has operands.
 abbrev pub hasOperands : Operation → Bool
@@ -122,19 +149,20 @@ acts-other addresses w o e h =
     go (branch b) e h = stops-told addresses w (branch b) e
     go unlisted e h = stops-told addresses w unlisted e
 
--- A legal word in which a0 has no part acts as it stands, whatever its operation.
-pub acts-unaided : (addresses : List ℕ) (w : ℕ) → refusalOf w ≡ 0 → Unaided w
+-- A legal word that is as most are acts as it stands, whatever its operation.
+pub acts-usual : (addresses : List ℕ) (w : ℕ) → refusalOf w ≡ 0 → Usual w
     → (addressStops addresses w ≡ false) × OnRegisters w × SameStep addresses w w
-acts-unaided addresses w legal unaided = (go (operation w) refl, alone, λ here ways t a. refl)
+acts-usual addresses w legal usual = (go (operation w) refl, alone, λ here ways t a. refl)
   where
     acting : (p : Plain) → operation w ≡ plain p → Acting p w
-    acting p o = record { legal = legal-plain p w o legal; named = unaided-named p w unaided }
+    acting p o = record { legal = legal-plain p w o legal; named = usual-named p w usual }
 
     alone : OnRegisters w
-    alone p o = (acting p o, a0-told p w (acting p o) ∙ ap₂ _||_ (unaided .destination) (unaided .source src0))
+    alone p o =
+        (record { acting = acting p o; whole = floats-told p w (acting p o) ∙ usual .whole .destination }, a0-told p w (acting p o) ∙ ap₂ _||_ (usual .destination) (usual .source src0))
 
     go : (o : Operation) → operation w ≡ o → addressStops addresses w ≡ false
-    go (plain p) o = stops-told addresses w (plain p) o ∙ unaddressed p addresses w (legal-plain p w o legal) (unaided-named p w unaided)
+    go (plain p) o = stops-told addresses w (plain p) o ∙ unaddressed p addresses w (legal-plain p w o legal) (usual-named p w usual)
     go nop o = stops-told addresses w nop o
     go (branch b) o = stops-told addresses w (branch b) o
     go unlisted o = stops-told addresses w unlisted o

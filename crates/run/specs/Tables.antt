@@ -12,7 +12,7 @@ use borrow.Author.Tests.{eqb-true, eqb-false}
 use Rattle.paper.specs.Kernel.{Instr}
 use Rattle.paper.specs.Jump.{fetch, endOf}
 use Rattle.paper.specs.Machine.{State, Ways, waysOf}
-use Rattle.words.specs.Unaided.{Unaided}
+use Rattle.words.specs.Usual.{Usual}
 use Rattle.machine.specs.declared.step.Stand.{Stand}
 use Rattle.run.specs.Running.{Running, Steps, running-before, running-place, running-instr, running-fetched, running-steps}
 
@@ -20,28 +20,28 @@ use Rattle.run.specs.Running.{Running, Steps, running-before, running-pl
 abbrev pub waysFrom : ℕ → Ways
 waysFrom code = record { next = code % 65536; jump = code / 65536 % 65536; wait = code / 4294967296 % 65536 }
 
--- Its highest bit says whether a0 may have a part.
-abbrev pub looksFrom : ℕ → Bool
-looksFrom code = not (eqb (code / 9223372036854775808) 0)
+-- Its highest bit says whether the word is unusual.
+abbrev pub unusualFrom : ℕ → Bool
+unusualFrom code = not (eqb (code / 9223372036854775808) 0)
 
 -- What the number means, by that bit.
-told-from : (ways : Ways) (code high : ℕ) (looks : Bool) → ways .next < 65536 → ways .jump < 65536 → ways .wait < 65536 → cond looks 1 0 ≡ high
-    → code ≡ ways .next + ways .jump * 65536 + ways .wait * 4294967296 + high * 9223372036854775808 → (waysFrom code ≡ ways) × (looksFrom code ≡ looks)
-told-from ways code high looks n j w h e =
+told-from : (ways : Ways) (code high : ℕ) (unusual : Bool) → ways .next < 65536 → ways .jump < 65536 → ways .wait < 65536 → cond unusual 1 0 ≡ high
+    → code ≡ ways .next + ways .jump * 65536 + ways .wait * 4294967296 + high * 9223372036854775808 → (waysFrom code ≡ ways) × (unusualFrom code ≡ unusual)
+told-from ways code high unusual n j w h e =
     let a : code % 65536 ≡ ways .next = omega arith in
     let q : code / 65536 ≡ ways .jump + ways .wait * 65536 + high * 140737488355328 = omega arith in
     let b : code / 65536 % 65536 ≡ ways .jump = rw q (omega arith) in
     let t : code / 4294967296 ≡ ways .wait + high * 2147483648 = omega arith in
     let c : code / 4294967296 % 65536 ≡ ways .wait = rw t (omega arith) in
     let f : code / 9223372036854775808 ≡ high = omega arith in
-    ((λ i. record { next = a i; jump = b i; wait = c i }), rw (f, ← h) (bit looks))
+    ((λ i. record { next = a i; jump = b i; wait = c i }), rw (f, ← h) (bit unusual))
   where
     bit : (b : Bool) → not (eqb (cond b 1 0) 0) ≡ b
     bit true = refl
     bit false = refl
 
-pub ways-from : (ways : Ways) (code : ℕ) (looks : Bool) → ways .next < 65536 → ways .jump < 65536 → ways .wait < 65536
-    → code ≡ ways .next + ways .jump * 65536 + ways .wait * 4294967296 + cond looks 9223372036854775808 0 → (waysFrom code ≡ ways) × (looksFrom code ≡ looks)
+pub ways-from : (ways : Ways) (code : ℕ) (unusual : Bool) → ways .next < 65536 → ways .jump < 65536 → ways .wait < 65536
+    → code ≡ ways .next + ways .jump * 65536 + ways .wait * 4294967296 + cond unusual 9223372036854775808 0 → (waysFrom code ≡ ways) × (unusualFrom code ≡ unusual)
 ways-from ways code true n j w e = told-from ways code 1 true n j w refl e
 ways-from ways code false n j w e = told-from ways code 0 false n j w refl e
 
@@ -49,7 +49,7 @@ ways-from ways code false n j w e = told-from ways code 0 false n j w refl e
 abbrev pub TabledAt : List Instr → List ℕ → ℕ → Type 0
 TabledAt k table p =
     (i : Instr) → fetch k p ≡ some i → (getD table (3 * p) 0 + getD table (3 * p + 1) 0 * 2 ^ 64 ≡ i .word) × (waysFrom (getD table (3 * p + 2) 0) ≡ waysOf i)
-    × (looksFrom (getD table (3 * p + 2) 0) ≡ false → Unaided (i .word))
+    × (unusualFrom (getD table (3 * p + 2) 0) ≡ false → Usual (i .word))
 
 -- So at each place below q.
 abbrev pub TabledTo : List Instr → List ℕ → ℕ → Type 0
@@ -105,14 +105,14 @@ entered-none k table p e = record { long = refl; there = λ i f. absurd (other i
 
 -- The three numbers of an instruction are stored.
 pub entered-three : (k : List Instr) (table : List ℕ) (p lo hi code : ℕ) (i : Instr) → 3 * p + 2 < length table → fetch k p ≡ some i
-    → lo + hi * 2 ^ 64 ≡ i .word → waysFrom code ≡ waysOf i → (looksFrom code ≡ false → Unaided (lo + hi * 2 ^ 64))
+    → lo + hi * 2 ^ 64 ≡ i .word → waysFrom code ≡ waysOf i → (unusualFrom code ≡ false → Usual (lo + hi * 2 ^ 64))
     → Entered k table (set (set (set table (3 * p) lo) (3 * p + 1) hi) (3 * p + 2) code) p
-entered-three k table p lo hi code i room fetched word ways unaided =
+entered-three k table p lo hi code i room fetched word ways usual =
     record {
       long = length-set (set (set table (3 * p) lo) (3 * p + 1) hi) (3 * p + 2) code ∙ length-set (set table (3 * p) lo) (3 * p + 1) hi ∙ length-set table (3 * p) lo;
       there = λ j f.
           let same : i ≡ j = some-same i j (sym fetched ∙ f) in
-          rw (third, second, first) (word ∙ ap (λ (x : Instr). x .word) same, ways ∙ ap waysOf same, λ e. subst Unaided (word ∙ ap (λ (x : Instr). x .word) same) (unaided e));
+          rw (third, second, first) (word ∙ ap (λ (x : Instr). x .word) same, ways ∙ ap waysOf same, λ e. subst Usual (word ∙ ap (λ (x : Instr). x .word) same) (usual e));
       others = λ j h.
           getD-set-other (set (set table (3 * p) lo) (3 * p + 1) hi) (3 * p + 2) j code 0 (λ e. h (omega arith) (omega arith))
           ∙ getD-set-other (set table (3 * p) lo) (3 * p + 1) j hi 0 (λ e. h (omega arith) (omega arith))
@@ -175,11 +175,11 @@ module _ (k : List Instr) (end budget start : ℕ) (table : List ℕ) (d : Table
       let row = row-told n begun h i f in
       running-steps k registers addresses here s t r row-away i f w ways (ew ∙ row .0) (e ∙ row .1)
 
-  -- Where the row says that a0 has no part in it, it has none.
-  pub row-unaided : (n : ℕ) → (n ≡ 0 → s .place ≡ start) → n < budget → (w : ℕ) (looks : Bool)
-      → w ≡ getD table (3 * s .place) 0 + getD table (3 * s .place + 1) 0 * 2 ^ 64 → looks ≡ looksFrom (getD table (3 * s .place + 2) 0) → looks ≡ false → Unaided w
-  row-unaided n begun h w looks ew el e =
+  -- Where the row says that its word is as most are, it is.
+  pub row-usual : (n : ℕ) → (n ≡ 0 → s .place ≡ start) → n < budget → (w : ℕ) (unusual : Bool)
+      → w ≡ getD table (3 * s .place) 0 + getD table (3 * s .place + 1) 0 * 2 ^ 64 → unusual ≡ unusualFrom (getD table (3 * s .place + 2) 0) → unusual ≡ false → Usual w
+  row-usual n begun h w unusual ew el e =
       let i = running-instr k registers addresses here s t r row-away in
       let f = running-fetched k registers addresses here s t r row-away in
       let row = row-told n begun h i f in
-      subst Unaided (sym (ew ∙ row .0)) (row .2 (sym el ∙ e))
+      subst Usual (sym (ew ∙ row .0)) (row .2 (sym el ∙ e))

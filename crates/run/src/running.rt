@@ -3,6 +3,7 @@ use crate::acting::Act;
 use crate::acting::acting;
 use crate::table::row_at;
 use machine::step::Stand;
+use machine::step::float_at;
 use machine::step::move_at;
 use machine::step::step_at;
 ghost use mathlib.Core.List.{List};
@@ -45,7 +46,7 @@ pub(crate) fn run_on(
         }
         let row = row_at(table, s.place);
         let ways = row.ways;
-        let act = acting(row.looks, row.word, addresses);
+        let act = acting(row.unusual, row.word, addresses);
         match act {
             Act::Steps(w) => {
                 s = step_at(w, ways, s, registers, here);
@@ -53,6 +54,10 @@ pub(crate) fn run_on(
             }
             Act::Moves(w) => {
                 s = move_at(w, ways, s, registers, addresses, here);
+                steps += 1;
+            }
+            Act::Reckons(p, w) => {
+                s = float_at(p, w, ways, s, registers, here);
                 steps += 1;
             }
             Act::Broken => {

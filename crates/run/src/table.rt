@@ -3,9 +3,9 @@ use crate::ways::ways_of;
 use kernel::fetch::word_at;
 use kernel::jumps::is_marked;
 use machine::ways::Ways;
-use words::addresses::looks_at_a0;
 use words::bytes::Word;
 use words::limits::PLACES;
+use words::unusual::is_unusual;
 ghost use mathlib.Core.Bool.{false, cond};
 ghost use mathlib.Core.Path.{_≡_};
 ghost use Prim.Native.Nat.{ℕ, _+_, _*_, _^_, _<_, _≤_};
@@ -15,22 +15,22 @@ ghost use Rattle.words.specs.Words.{toWord};
 ghost use Rattle.kernel.specs.Marks.{marked};
 ghost use Rattle.machine.specs.Branches.{waysIs};
 ghost use Rattle.run.specs.Kernels.{instructions, Takes};
-ghost use Rattle.run.specs.Tables.{waysFrom, looksFrom, Tabled, Entered};
+ghost use Rattle.run.specs.Tables.{waysFrom, unusualFrom, Tabled, Entered};
 
-// A row of the table: a word, where it leads, and whether a0 may have a part in what it does.
+// A row of the table: a word, where it leads, and whether it is unusual.
 pub struct Row {
     pub word: Word,
     pub ways: Ways,
-    pub looks: bool,
+    pub unusual: bool,
 }
 
-// Three places of 16 bits as one number, and whether a0 may have a part as its highest bit.
-fn code_of(ways: Ways, looks: bool) -> u64
+// Three places of 16 bits as one number, and whether the word is unusual as its highest bit.
+fn code_of(ways: Ways, unusual: bool) -> u64
     requires { ⌜ (ways .next < 65536) × (ways .jump < 65536) × (ways .wait < 65536) ⌝ }
-    ensures { λ r. ⌜ r ≡ ways .next + ways .jump * 65536 + ways .wait * 4294967296 + cond looks 9223372036854775808 0 ⌝ }
+    ensures { λ r. ⌜ r ≡ ways .next + ways .jump * 65536 + ways .wait * 4294967296 + cond unusual 9223372036854775808 0 ⌝ }
 {
     let places = ways.next + ways.jump * 65536 + ways.wait * 4294967296;
-    if looks {
+    if unusual {
         return places + 9223372036854775808;
     }
     places
@@ -40,7 +40,7 @@ fn code_of(ways: Ways, looks: bool) -> u64
 pub(crate) fn row_at(table: &[u64], place: u64) -> Row
     requires { ⌜ (3 * place + 2 < length (now table)) × (place < 65536) ⌝ }
     ensures { λ r. ⌜ (toWord (r .word) ≡ getD (now (table .entry)) (3 * place) 0 + getD (now (table .entry)) (3 * place + 1) 0 * 2 ^ 64)
-        × (waysIs (r .ways) ≡ waysFrom (getD (now (table .entry)) (3 * place + 2) 0)) × (r .looks ≡ looksFrom (getD (now (table .entry)) (3 * place + 2) 0)) ⌝ }
+        × (waysIs (r .ways) ≡ waysFrom (getD (now (table .entry)) (3 * place + 2) 0)) × (r .unusual ≡ unusualFrom (getD (now (table .entry)) (3 * place + 2) 0)) ⌝ }
 {
     let i = 3 * (place as usize);
     let lo = table[i];
@@ -55,7 +55,7 @@ pub(crate) fn row_at(table: &[u64], place: u64) -> Row
     Row {
         word: word,
         ways: ways,
-        looks: code >> 63 != 0,
+        unusual: code >> 63 != 0,
     }
 }
 
@@ -78,7 +78,7 @@ pub(crate) fn put_row(
         let i = 3 * p;
         table[i] = w.lo;
         table[i + 1] = w.hi;
-        table[i + 2] = code_of(ways_of(w, p as u64, f.size), looks_at_a0(w));
+        table[i + 2] = code_of(ways_of(w, p as u64, f.size), is_unusual(w));
         return;
     }
 }

@@ -9,6 +9,7 @@ use rows::expect::compared;
 use rows::row::CHECK;
 use rows::row::DECODE;
 use rows::row::EXPAND;
+use rows::row::FIXED;
 use rows::row::FORWARD;
 use rows::row::LIST;
 use rows::row::LOADS;
@@ -18,7 +19,9 @@ use rows::row::LOGRUNS;
 use rows::row::PACK;
 use rows::row::PAIR;
 use rows::row::PART;
+use rows::row::PLACE;
 use rows::row::READ;
+use rows::row::RECORD;
 use rows::row::RUN;
 use rows::row::Row;
 use rows::row::SHORTEN;
@@ -39,6 +42,9 @@ use spokeshaver::spokeshaver_log_run;
 use spokeshaver::spokeshaver_log_runs;
 use spokeshaver::spokeshaver_pack;
 use spokeshaver::spokeshaver_pair;
+use spokeshaver::spokeshaver_place;
+use spokeshaver::spokeshaver_place_kernel;
+use spokeshaver::spokeshaver_place_load;
 use spokeshaver::spokeshaver_read;
 use spokeshaver::spokeshaver_run;
 use spokeshaver::spokeshaver_shorten;
@@ -53,6 +59,23 @@ ghost use Rattle.rows.specs.Sizes.{tableBytes, boardBytes, stateBytes};
 pub enum Answered {
     No,
     With(u64),
+}
+
+// `place ORDER X Y`, of the record that is the kernel's bytes; `fixed` writes the kernel that places tiles.
+fn placed(row: Row, six: &[u8], out: &mut [u8]) -> Answered {
+    if row.key == FIXED {
+        return Answered::With(spokeshaver_place_kernel(out));
+    }
+    if row.key != PLACE {
+        return Answered::No;
+    }
+    if 0x1_0000_0000 <= row.b {
+        return Answered::No;
+    }
+    if 0x1_0000_0000 <= row.c {
+        return Answered::No;
+    }
+    Answered::With(spokeshaver_place(row.a, six, row.b as u32, row.c as u32, out))
 }
 
 // `check`, `forward`, `decode PLACE`, `pack`, `unpack`, `list`, `read`, `pair`, `shorten`, `expand`. The kernel's bytes are the word to shorten or to expand, or the text to
@@ -88,7 +111,7 @@ fn asked(row: Row, dictionary: &[u8], kernel: &[u8], out: &mut [u8]) -> Answered
     if row.key == EXPAND {
         return Answered::With(spokeshaver_expand(dictionary, kernel, out));
     }
-    Answered::No
+    placed(row, kernel, out)
 }
 
 // `start MASK FLAG0 FLAG1`.
@@ -105,7 +128,7 @@ fn started(row: Row, state: &mut [u8]) -> Answered {
     Answered::With(spokeshaver_start(row.a as u16, row.b as u16, row.c as u16, state))
 }
 
-// `start`, `step`, `run BUDGET`.
+// `start`, `step`, `run BUDGET`; `record` loads the record that is the kernel's bytes into the registers.
 fn moved(
     row: Row,
     dictionary: &[u8],
@@ -121,6 +144,9 @@ fn moved(
     }
     if row.key == RUN {
         return Answered::With(spokeshaver_run(dictionary, kernel, row.a, registers, state));
+    }
+    if row.key == RECORD {
+        return Answered::With(spokeshaver_place_load(kernel, registers));
     }
     Answered::No
 }

@@ -38,4 +38,5 @@ fn main() {
     report(b"sheet.txt");
     report(b"words.txt");
     report(b"elements.txt");
+    report(b"floats.txt");
 }

@@ -16,6 +16,9 @@ use machine::start::start;
 use packer::pack::pack;
 use packer::pack::unpack;
 use pair::pair::pair;
+use placement::calls::place;
+use placement::calls::place_kernel;
+use placement::calls::place_load;
 use run::calls::run;
 use run::calls::step;
 use short::calls::expand_word;
@@ -23,6 +26,7 @@ use short::calls::shorten_word;
 ghost use Rattle.contracts.specs.Contracts.{CheckPromise, ForwardPromise, PackPromise, UnpackPromise, PairPromise, ShortenPromise, ExpandPromise};
 ghost use Rattle.contracts.specs.Contracts.{DecodePromise, StartPromise, StepPromise, RunPromise};
 ghost use Rattle.contracts.specs.Contracts.{LogAppendPromise, LogReadPromise, LogRunsPromise, LogRunPromise, ListPromise, ReadPromise};
+ghost use Rattle.contracts.specs.Contracts.{PlacePromise, PlaceKernelPromise, PlaceLoadPromise};
 
 // Is the kernel accepted; the count is its instructions.
 #[no_mangle]
@@ -182,4 +186,28 @@ pub extern "C" fn spokeshaver_read(dictionary: &[u8], text: &[u8], out: &mut [u8
     ensures { λ r. ⌜ ReadPromise (now (dictionary .entry)) (now (text .entry)) (now (out .entry)) r (now (out .exit)) ⌝ }
 {
     number_of(read(dictionary, text, out))
+}
+
+// The answer to an order, with its record of six floats, for a tile at x and y, as the bytes of two patterns; the count is theirs.
+#[no_mangle]
+pub extern "C" fn spokeshaver_place(order: u64, six: &[u8], x: u32, y: u32, out: &mut [u8]) -> u64
+    ensures { λ r. ⌜ PlacePromise order (now (six .entry)) x y (now (out .entry)) r (now (out .exit)) ⌝ }
+{
+    number_of(place(order, six, x, y, out))
+}
+
+// The fixed kernel that places sixteen tiles, in long words; the count is its bytes.
+#[no_mangle]
+pub extern "C" fn spokeshaver_place_kernel(out: &mut [u8]) -> u64
+    ensures { λ r. ⌜ PlaceKernelPromise (now (out .entry)) r (now (out .exit)) ⌝ }
+{
+    number_of(place_kernel(out))
+}
+
+// A record, six floats in 24 bytes, put where the fixed kernel finds it.
+#[no_mangle]
+pub extern "C" fn spokeshaver_place_load(six: &[u8], registers: &mut [u8]) -> u64
+    ensures { λ r. ⌜ PlaceLoadPromise (now (six .entry)) (now (registers .entry)) r (now (registers .exit)) ⌝ }
+{
+    number_of(place_load(six, registers))
 }

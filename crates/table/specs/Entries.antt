@@ -1,14 +1,14 @@
 -- The table's rule: what the twelve source bits allow, as a number for each of their values. Assumes nothing.
 use mathlib.Core.Bool.{Bool, false, not}
-use mathlib.Core.List.{List, [], _∷_}
-use mathlib.Core.Path.{_≡_, _∙_, sym, ap}
-use Prim.Native.Nat.{ℕ, zero, suc, _+_, _≤_, _<_}
-use native.Mathlib.Nat.{add-zero, zero-add, add-suc, suc-add, le-of-suc-le-suc, not-suc-le-zero}
+use mathlib.Core.List.{List}
+use mathlib.Core.Path.{_≡_}
+use Prim.Native.Nat.{ℕ, _≤_, _<_}
 use lib.ListN.{getD}
 use Rattle.paper.specs.Bits.{bit}
 use Rattle.paper.specs.Legal.{shapeRefused}
 use Rattle.paper.specs.Enable.{ofBits}
 use Rattle.laws.specs.Masks.{bit-ofBits, bit-ofBits-above}
+use Rattle.laws.specs.Tables.{valuesFrom, value-at}
 
 -- The field's region passes 9 at ExecSize 2 to the power k. Its modifier and its AddrMode do not matter.
 abbrev pub passesAt : ℕ → ℕ → Bool
@@ -17,11 +17,6 @@ passesAt field k = not (shapeRefused k field)
 -- The entry of a field: bit k is 1 exactly when it passes at k, 0 to 4; other bits are 0.
 unfoldable pub entryOf : ℕ → ℕ
 entryOf field = ofBits (passesAt field) 5
-
--- The n values of f from i on.
-abbrev pub valuesFrom : (ℕ → ℕ) → ℕ → ℕ → List ℕ
-valuesFrom f i zero = []
-valuesFrom f i (suc n) = f i ∷ valuesFrom f (suc i) n
 
 -- The table: the entries of all fields, in order.
 unfoldable pub regionTable : List ℕ
@@ -38,12 +33,7 @@ pub entry-other : (field k : ℕ) → 5 ≤ k → bit (entryOf field) k ≡ fals
 unfolding entryOf
 entry-other field k h = bit-ofBits-above (passesAt field) 5 k h
 
-value-from : (f : ℕ → ℕ) (n i k : ℕ) → k < n → getD (valuesFrom f i n) k 0 ≡ f (i + k)
-value-from f zero i k h = absurd (not-suc-le-zero h)
-value-from f (suc n) i zero h = ap f (sym (add-zero i))
-value-from f (suc n) i (suc k) h = value-from f n (suc i) k (le-of-suc-le-suc h) ∙ ap f (suc-add i k ∙ sym (add-suc i k))
-
 -- Entry i of the table is the entry of the field i.
 pub table-entry : (field : ℕ) → field < 4096 → getD regionTable field 0 ≡ entryOf field
 unfolding regionTable
-table-entry field h = value-from entryOf 4096 0 field h ∙ ap entryOf (zero-add field)
+table-entry field h = value-at entryOf 4096 field h

@@ -8,5 +8,6 @@ pub record Asked (p : Plain) (r : Row) : Type 0 where
   pub two : r .two ≡ readsTwo p
   pub saturates : r .saturates ≡ traits p .saturates
   pub modifiers : r .modifiers ≡ traits p .modifiers
+  pub floats : r .floats ≡ traits p .floats
   pub compares : r .compares ≡ traits p .compares
   pub masks : r .masks ≡ traits p .masks

@@ -6,6 +6,6 @@ pub mod Bytes
 pub mod Fields
 pub mod Answer
 pub mod Regions
-pub mod Unaided
+pub mod Usual
 pub mod Operands
 pub mod Meaning

@@ -10,13 +10,11 @@ use crate::fields::of_source;
 use crate::fields::src_addr_mode;
 use crate::fields::src_file;
 use crate::fields::src_register;
-ghost use mathlib.Core.Bool.{false};
 ghost use mathlib.Core.Path.{_≡_};
 ghost use Prim.Native.Nat.{_<_};
 ghost use Rattle.paper.specs.Word.{dstByAddress, dstIndirect, dstIsA0, srcByAddress, srcIndirect, srcIsA0};
 ghost use Rattle.paper.specs.Region.{registerAt};
 ghost use Rattle.words.specs.Words.{toWord, sourceIs};
-ghost use Rattle.words.specs.Unaided.{Direct, Unaided};
 
 // ---- a0
 
@@ -82,29 +80,4 @@ pub fn src_indirect(x: Source, w: Word) -> u64
     ensures { λ r. ⌜ (r ≡ srcIndirect (sourceIs x) (toWord w)) × (r < 8192) ⌝ }
 {
     of_source(x, w, 0, 13)
-}
-
-// ---- whether a0 has a part
-
-// An operand may be by address: an AddrMode is 1, or what stands in its place in an immediate.
-fn may_address(w: Word) -> bool
-    ensures { λ r. ⌜ (r ≡ false → Direct (toWord w)) ⌝ }
-{
-    (w.lo >> 63) + (w.hi >> 15) % 2 + (w.hi >> 47) % 2 != 0
-}
-
-// a0 may have a part in what a word does: an operand may be by address, or is a0 itself.
-pub fn looks_at_a0(w: Word) -> bool
-    ensures { λ r. ⌜ (r ≡ false → Unaided (toWord w)) ⌝ }
-{
-    if may_address(w) {
-        return true;
-    }
-    if dst_is_a0(w) {
-        return true;
-    }
-    if src_is_a0(Source::First, w) {
-        return true;
-    }
-    src_is_a0(Source::Second, w)
 }

@@ -141,7 +141,7 @@ pub fn input_of(x: Source, w: Word) -> Input
         kind: src_type(x, w),
         modifier: src_modifier(x, w),
         mode: src_addr_mode(x, w),
-        operand: operand_of(src_is_a0(x, w), x, w),
+        operand: operand_of(true, src_is_a0(x, w), x, w),
     }
 }
 

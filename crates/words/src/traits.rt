@@ -6,12 +6,13 @@ ghost use Rattle.words.specs.Operations.{plainIs};
 ghost use Rattle.laws.specs.Sources.{readsTwo};
 ghost use Rattle.words.specs.Asked.{Asked};
 
-// The operation reads two sources, and else one; Saturate is served on it; its sources may have modifiers; it is cmp, which sets flags; its
-// predicate masks its channels.
+// The operation reads two sources, and else one; Saturate is served on it; its sources may have modifiers; floats are served on it; it is cmp,
+// which sets flags; its predicate masks its channels.
 pub struct Row {
     pub two: bool,
     pub saturates: bool,
     pub modifiers: bool,
+    pub floats: bool,
     pub compares: bool,
     pub masks: bool,
 }
@@ -25,6 +26,7 @@ fn row_of(p: Plain) -> Row
             two: false,
             saturates: true,
             modifiers: true,
+            floats: true,
             compares: false,
             masks: true,
         },
@@ -32,6 +34,7 @@ fn row_of(p: Plain) -> Row
             two: true,
             saturates: true,
             modifiers: true,
+            floats: false,
             compares: false,
             masks: false,
         },
@@ -39,6 +42,7 @@ fn row_of(p: Plain) -> Row
             two: false,
             saturates: false,
             modifiers: false,
+            floats: false,
             compares: false,
             masks: true,
         },
@@ -46,6 +50,7 @@ fn row_of(p: Plain) -> Row
             two: true,
             saturates: false,
             modifiers: false,
+            floats: false,
             compares: false,
             masks: true,
         },
@@ -53,6 +58,7 @@ fn row_of(p: Plain) -> Row
             two: true,
             saturates: false,
             modifiers: false,
+            floats: false,
             compares: false,
             masks: true,
         },
@@ -60,6 +66,7 @@ fn row_of(p: Plain) -> Row
             two: true,
             saturates: false,
             modifiers: false,
+            floats: false,
             compares: false,
             masks: true,
         },
@@ -67,6 +74,7 @@ fn row_of(p: Plain) -> Row
             two: true,
             saturates: false,
             modifiers: false,
+            floats: false,
             compares: false,
             masks: true,
         },
@@ -74,6 +82,7 @@ fn row_of(p: Plain) -> Row
             two: true,
             saturates: false,
             modifiers: false,
+            floats: false,
             compares: false,
             masks: true,
         },
@@ -81,6 +90,7 @@ fn row_of(p: Plain) -> Row
             two: true,
             saturates: false,
             modifiers: false,
+            floats: false,
             compares: false,
             masks: true,
         },
@@ -88,6 +98,7 @@ fn row_of(p: Plain) -> Row
             two: true,
             saturates: false,
             modifiers: true,
+            floats: true,
             compares: true,
             masks: true,
         },
@@ -95,6 +106,7 @@ fn row_of(p: Plain) -> Row
             two: true,
             saturates: true,
             modifiers: true,
+            floats: true,
             compares: false,
             masks: true,
         },
@@ -102,6 +114,7 @@ fn row_of(p: Plain) -> Row
             two: true,
             saturates: true,
             modifiers: true,
+            floats: true,
             compares: false,
             masks: true,
         },
@@ -109,6 +122,7 @@ fn row_of(p: Plain) -> Row
             two: true,
             saturates: true,
             modifiers: true,
+            floats: false,
             compares: false,
             masks: true,
         },
@@ -134,6 +148,13 @@ pub fn takes_modifiers(p: Plain) -> bool
     ensures { λ r. ⌜ r ≡ traits (plainIs p) .modifiers ⌝ }
 {
     row_of(p).modifiers
+}
+
+// Floats are served on it.
+pub fn takes_floats(p: Plain) -> bool
+    ensures { λ r. ⌜ r ≡ traits (plainIs p) .floats ⌝ }
+{
+    row_of(p).floats
 }
 
 // It is cmp, which sets flags.

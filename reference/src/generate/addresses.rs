@@ -2,9 +2,9 @@
 //! where an operand may lie, at times past an edge, misaligned or across three registers.
 
 use super::a0_moves::{broken_word, move_of_a0, set};
-use super::damage;
 use super::instructions::{legal_word, SCALAR};
-use super::kernels::{finish, keep_forward, plan, Laying, Pair, Planned};
+use super::kernels::{plan, Planned};
+use super::makers::Makers;
 use crate::assemble::{jmpi, word};
 use crate::locations::{Kind, A0_ELEMENTS};
 use crate::operations::ElementType::Uw;
@@ -30,33 +30,11 @@ pub fn homes(random: &mut Random) -> Homes {
     })
 }
 
-/// A kernel with addresses, mostly legal, else with a word that breaks a rule, or a bit flipped.
-pub fn any_pair(random: &mut Random, laying: Laying, homes: &Homes) -> Pair {
-    match random.below(8) {
-        0 | 1 => with_broken(random, laying, homes),
-        2 => {
-            let pair = legal_pair(random, laying, homes);
-            damage::flip(random, pair)
-        }
-        _ => legal_pair(random, laying, homes),
-    }
-}
-
-/// A legal kernel with addresses.
-pub fn legal_pair(random: &mut Random, laying: Laying, homes: &Homes) -> Pair {
-    let plan = legal_plan(random, homes);
-    finish(random, &plan, laying)
-}
-
-/// A legal kernel with addresses whose jumps all go forward.
-pub fn forward_pair(random: &mut Random, laying: Laying, homes: &Homes) -> Pair {
-    let mut plan = legal_plan(random, homes);
-    keep_forward(&mut plan);
-    finish(random, &plan, laying)
-}
+/// What makes kernels with addresses.
+pub const ADDRESSES: Makers = Makers { legal_word: legal_address_word, legal_plan, broken_word };
 
 /// A plan in which many words have an operand by address, and some move a0.
-pub fn legal_plan(random: &mut Random, homes: &Homes) -> Vec<Planned> {
+fn legal_plan(random: &mut Random, homes: &Homes) -> Vec<Planned> {
     if random.once_in(12) {
         return walk(random, homes);
     }
@@ -242,13 +220,4 @@ fn write_and_use(random: &mut Random, plan: &mut [Planned], homes: &Homes) {
         *first = set(element, number);
         *second = legal_address_word(random, &moved);
     }
-}
-
-/// A plan with one instruction that breaks a rule by what it does with a0 or an address.
-fn with_broken(random: &mut Random, laying: Laying, homes: &Homes) -> Pair {
-    let mut plan = legal_plan(random, homes);
-    let number = random.between(7, 11) as u8;
-    let at = random.below(plan.len());
-    plan[at] = Planned::Plain(broken_word(random, number, homes));
-    finish(random, &plan, laying)
 }

@@ -1,15 +1,18 @@
 //! From a seed to a call with all its inputs.
 
-use super::addresses::{self, homes, legal_address_word, Homes};
+use super::addresses::{homes, Homes, ADDRESSES};
 use super::damage::{short_branch, unlisted_opcode};
 use super::dictionaries::{dictionary_for, lend_dictionary};
+use super::floats::{registers_of_floats, FLOATS};
 use super::instructions::legal_word;
 use super::kernels::{
     any_pair, branch_word, forward_pair, legal_pair, with_other_indices, Laying, Pair,
 };
 use super::listings::{list_case, read_case};
 use super::logs::{log_append_case, log_read_case, log_run_case, log_runs_case};
+use super::makers::Makers;
 use super::pairs::{pair_case, related};
+use super::placements::{place_case, place_kernel_case, place_load_case};
 use super::states::{a0_near, mask, noise, registers, state_for, with_homes, wrong_size};
 use super::{Call, Case, CALLS};
 use crate::answers::{Answer, BAD_ADDRESS};
@@ -27,27 +30,40 @@ use crate::words::{shorten, LongWord, SHORT_BIT};
 /// new call leaves the cases of all others as they were.
 const FIRST_CALLS: u64 = 9;
 
-/// Of so many rounds of seeds the last has kernels with addresses, from streams of its own, so that
-/// the cases of the others are as they were.
-const ROUNDS: u64 = 4;
+/// Of so many rounds of seeds the last but one has kernels with addresses and the last kernels with
+/// floats, each from streams of its own, so that the cases of the others are as they were.
+const ROUNDS: u64 = 5;
+
+/// Which kernels a round has.
+#[derive(Clone, Copy, PartialEq, Eq)]
+enum Kernels {
+    Plain,
+    Addresses,
+    Floats,
+}
 
 /// The case of a seed. `CALLS` seeds in a row give every call.
 pub fn case(seed: u64) -> Case {
     let (round, number) = (seed / CALLS, seed % CALLS);
     let (group, turn) = (round / ROUNDS, round % ROUNDS);
-    let with_addresses = turn == ROUNDS - 1;
-    let round = if with_addresses { group } else { (ROUNDS - 1) * group + turn };
-    let own = match number {
-        _ if with_addresses => 1 << 63 | number << 56 | round,
-        0..FIRST_CALLS => FIRST_CALLS * round + number,
-        _ => number << 56 | round,
+    let (kernels, round) = match turn {
+        4 => (Kernels::Floats, group),
+        3 => (Kernels::Addresses, group),
+        _ => (Kernels::Plain, 3 * group + turn),
+    };
+    let own = match kernels {
+        Kernels::Floats => 1 << 62 | number << 56 | round,
+        Kernels::Addresses => 1 << 63 | number << 56 | round,
+        Kernels::Plain if number < FIRST_CALLS => FIRST_CALLS * round + number,
+        Kernels::Plain => number << 56 | round,
     };
     let mut random = Random::new(own);
     let random = &mut random;
     random.number();
-    let (dictionary, call) = match with_addresses {
-        true => addressed_case(random, number),
-        false => plain_case(random, number),
+    let (dictionary, call) = match kernels {
+        Kernels::Floats => special_case(random, number, &FLOATS, registers_of_floats),
+        Kernels::Addresses => special_case(random, number, &ADDRESSES, registers),
+        Kernels::Plain => plain_case(random, number),
     };
     Case { seed, dictionary, call }
 }
@@ -70,18 +86,27 @@ fn plain_case(random: &mut Random, number: u64) -> (Vec<u8>, Call) {
         13 => log_run_case(random),
         15 => list_case(random),
         16 => read_case(random),
+        17 => place_case(random),
+        18 => place_kernel_case(random),
+        19 => place_load_case(random),
         _ => forward_case(random),
     }
 }
 
-/// The same calls on kernels and words with addresses. Calls that take neither are as ever.
-fn addressed_case(random: &mut Random, number: u64) -> (Vec<u8>, Call) {
+/// The same calls on kernels and words of one kind, and registers for them. Calls that take neither
+/// are as ever.
+fn special_case(
+    random: &mut Random,
+    number: u64,
+    makers: &Makers,
+    registers: Registers,
+) -> (Vec<u8>, Call) {
     let homes = &homes(random);
     let laying = match number {
         1 => Laying::AllLong,
         _ => any_laying(random),
     };
-    let words = |random: &mut Random| [(); 3].map(|()| legal_address_word(random, homes));
+    let words = |random: &mut Random| [(); 3].map(|()| (makers.legal_word)(random, homes));
     match number {
         3 => {
             let words = words(random);
@@ -91,16 +116,22 @@ fn addressed_case(random: &mut Random, number: u64) -> (Vec<u8>, Call) {
             let words = words(random);
             expand_of(random, words)
         }
-        7 => addressed_step_case(random, laying, homes),
-        8 => addressed_run_case(random, laying, homes),
+        7 => {
+            let lent = special_run(random, laying, homes, makers, registers);
+            special_step_case(random, lent)
+        }
+        8 => {
+            let lent = special_run(random, laying, homes, makers, registers);
+            special_run_case(random, lent)
+        }
         9 => {
-            let plan = addresses::legal_plan(random, homes);
+            let plan = (makers.legal_plan)(random, homes);
             related(random, plan)
         }
         0..=2 | 5 | 14 => {
             let pair = match number == 14 && random.once_in(2) {
-                true => addresses::forward_pair(random, laying, homes),
-                false => addresses::any_pair(random, laying, homes),
+                true => makers.forward_pair(random, laying, homes),
+                false => makers.any_pair(random, laying, homes),
             };
             judged_of(random, number, pair)
         }
@@ -327,11 +358,20 @@ fn run_case(random: &mut Random) -> (Vec<u8>, Call) {
     (dictionary, Call::Run { kernel: pair.kernel, budget, registers, state })
 }
 
-/// A kernel with addresses for running, mostly legal, and registers and state for it.
-fn addressed_run(random: &mut Random, laying: Laying, homes: &Homes) -> (Pair, Vec<u8>, Vec<u8>) {
+/// What makes registers to lend.
+type Registers = fn(&mut Random) -> Vec<u8>;
+
+/// A kernel for running, mostly legal, and registers and state for it.
+fn special_run(
+    random: &mut Random,
+    laying: Laying,
+    homes: &Homes,
+    makers: &Makers,
+    registers: Registers,
+) -> (Pair, Vec<u8>, Vec<u8>) {
     let pair = match random.once_in(6) {
-        true => addresses::any_pair(random, laying, homes),
-        false => addresses::legal_pair(random, laying, homes),
+        true => makers.any_pair(random, laying, homes),
+        false => makers.legal_pair(random, laying, homes),
     };
     let registers = with_homes(registers(random), homes);
     let a0 = a0_near(random, homes);
@@ -339,15 +379,19 @@ fn addressed_run(random: &mut Random, laying: Laying, homes: &Homes) -> (Pair, V
     (pair, registers, state)
 }
 
-fn addressed_step_case(random: &mut Random, laying: Laying, homes: &Homes) -> (Vec<u8>, Call) {
-    let (pair, registers, state) = addressed_run(random, laying, homes);
+fn special_step_case(
+    random: &mut Random,
+    (pair, registers, state): (Pair, Vec<u8>, Vec<u8>),
+) -> (Vec<u8>, Call) {
     let dictionary = lend_dictionary(random, &pair.dictionary);
     (dictionary, Call::Step { kernel: pair.kernel, registers, state })
 }
 
 /// Where the run meets a bad address, the budget is often spent just before it, or one step on.
-fn addressed_run_case(random: &mut Random, laying: Laying, homes: &Homes) -> (Vec<u8>, Call) {
-    let (pair, registers, state) = addressed_run(random, laying, homes);
+fn special_run_case(
+    random: &mut Random,
+    (pair, registers, state): (Pair, Vec<u8>, Vec<u8>),
+) -> (Vec<u8>, Call) {
     let dictionary = lend_dictionary(random, &pair.dictionary);
     let Pair { kernel, .. } = pair;
     let (mut file, mut ahead) = (registers.clone(), state.clone());

@@ -121,6 +121,16 @@ pub fn vote(random: &mut Random, size: u32) -> u32 {
 
 fn destination(random: &mut Random, made: LongWord, channels: usize) -> LongWord {
     let element = random.pick(&TYPES);
+    destination_of(random, made, channels, element)
+}
+
+/// A destination of a type: null, or registers in which it fits.
+pub fn destination_of(
+    random: &mut Random,
+    made: LongWord,
+    channels: usize,
+    element: ElementType,
+) -> LongWord {
     if random.once_in(10) {
         return made.to_null(element);
     }
@@ -162,7 +172,8 @@ fn immediate(random: &mut Random, made: LongWord, which: usize, element: Element
     made.immediate_source(which, element, number)
 }
 
-fn register_source(
+/// A source of a type in registers in which it fits.
+pub fn register_source(
     random: &mut Random,
     made: LongWord,
     which: usize,

@@ -6,6 +6,7 @@ use super::sources::Source;
 use super::targets::Target;
 use super::Step;
 use crate::decoded::{self, Condition, Decoded, Modifier};
+use crate::floats;
 use crate::operations::Operation;
 
 /// The function of a decoded operation, given the number of the instruction behind it.
@@ -20,7 +21,9 @@ pub fn step_of(decoded: &Decoded, next: usize) -> Step {
 }
 
 fn step_of_channels<const N: usize>(decoded: &Decoded, next: usize) -> Step {
-    if narrow_lanes_serve(decoded) {
+    if decoded.on_floats {
+        step_on_floats::<N>(decoded, next)
+    } else if narrow_lanes_serve(decoded) {
         step_of_lanes::<N, i32>(decoded, next)
     } else {
         step_of_lanes::<N, i64>(decoded, next)
@@ -51,6 +54,26 @@ fn step_of_lanes<const N: usize, L: Lane>(decoded: &Decoded, next: usize) -> Ste
             Condition::LessOrEqual => work.compare(|a, b| a <= b),
         },
         other => unreachable!("{other:?} has no operands"),
+    }
+}
+
+/// The function of an operation on floats, whose lanes hold patterns.
+fn step_on_floats<const N: usize>(decoded: &Decoded, next: usize) -> Step {
+    let work = Work::<N, i64>::of(decoded, next);
+    let condition = match decoded.condition {
+        Condition::Zero => 1,
+        Condition::NotZero => 2,
+        Condition::Greater => 3,
+        Condition::GreaterOrEqual => 4,
+        Condition::Less => 5,
+        Condition::LessOrEqual => 6,
+    };
+    match decoded.operation {
+        Operation::Mov => work.on_one(|a| a),
+        Operation::Add => work.on_two(|a, b| floats::sum(a as u32, b as u32) as i64),
+        Operation::Mul => work.on_two(|a, b| floats::product(a as u32, b as u32) as i64),
+        Operation::Cmp => work.compare(move |a, b| floats::compare(condition, a as u32, b as u32)),
+        other => unreachable!("{other:?} takes no floats"),
     }
 }
 
@@ -174,6 +197,7 @@ impl Span {
     fn of(source: &decoded::Source) -> Span {
         let (element, modifier) = match source {
             decoded::Source::Immediate(value) => return Span(*value, *value),
+            decoded::Source::Four(_) => return Span(0, u32::MAX as i64),
             decoded::Source::Elements { element, modifier, .. } => (element, modifier),
         };
         let (least, greatest) = (element.minimum() as i64, element.maximum() as i64);

@@ -4,6 +4,7 @@ use super::lanes::{Element, Lane};
 use super::machine::Machine;
 use crate::channels::Registers;
 use crate::decoded::{self, Layout, Modifier, Origin};
+use crate::floats;
 use crate::operations::ElementType;
 
 /// Reads a source whose first element lies at this byte.
@@ -14,8 +15,8 @@ type Modify<const N: usize, L> = Option<fn([L; N]) -> [L; N]>;
 pub struct Source<const N: usize, L> {
     load: Load<N, L>,
     modify: Modify<N, L>,
-    /// The value of an immediate.
-    value: L,
+    /// The value of an immediate for each channel.
+    immediate: [L; N],
     origin: Origin,
     /// How many bytes each channel's element lies behind the first.
     offsets: [u16; N],
@@ -24,23 +25,30 @@ pub struct Source<const N: usize, L> {
 impl<const N: usize, L: Lane> Source<N, L> {
     pub fn of(source: &decoded::Source) -> Source<N, L> {
         match source {
-            decoded::Source::Immediate(value) => Source {
-                load: immediate,
-                modify: None,
-                value: L::of(*value),
-                origin: Origin::Register(0),
-                offsets: [0; N],
-            },
+            decoded::Source::Immediate(value) => Source::of_immediate([L::of(*value); N]),
+            decoded::Source::Four(values) => {
+                Source::of_immediate(std::array::from_fn(|n| L::of(values[n])))
+            }
             decoded::Source::Elements { origin, layout, element, modifier } => Source {
                 load: match origin {
                     Origin::A0(_) => of_a0,
                     _ => load_of(*element, layout),
                 },
                 modify: modify_of(*element, *modifier),
-                value: L::of(0),
+                immediate: [L::of(0); N],
                 origin: *origin,
                 offsets: std::array::from_fn(|n| layout.distance(n, element.size()) as u16),
             },
+        }
+    }
+
+    fn of_immediate(values: [L; N]) -> Source<N, L> {
+        Source {
+            load: immediate,
+            modify: None,
+            immediate: values,
+            origin: Origin::Register(0),
+            offsets: [0; N],
         }
     }
 
@@ -58,7 +66,7 @@ impl<const N: usize, L: Lane> Source<N, L> {
 
 fn load_of<const N: usize, L: Lane>(element: ElementType, layout: &Layout) -> Load<N, L> {
     match element {
-        ElementType::Ud => load_of_element::<u32, N, L>(layout),
+        ElementType::Ud | ElementType::F => load_of_element::<u32, N, L>(layout),
         ElementType::D => load_of_element::<i32, N, L>(layout),
         ElementType::Uw => load_of_element::<u16, N, L>(layout),
         ElementType::W => load_of_element::<i16, N, L>(layout),
@@ -76,7 +84,7 @@ fn load_of_element<E: Element, const N: usize, L: Lane>(layout: &Layout) -> Load
 }
 
 fn immediate<const N: usize, L: Lane>(source: &Source<N, L>, _: &Machine, _: usize) -> [L; N] {
-    [source.value; N]
+    source.immediate
 }
 
 /// Elements of a0, which are uw. The start is one of them, too.
@@ -124,6 +132,14 @@ fn element_at<E: Element, L: Lane>(registers: &Registers, start: usize) -> L {
 /// The function of a modifier, none if it changes nothing. Unsigned elements are their own
 /// absolute values, which a 32-bit lane would not know of a ud.
 fn modify_of<const N: usize, L: Lane>(element: ElementType, modifier: Modifier) -> Modify<N, L> {
+    if element == ElementType::F {
+        return match modifier {
+            Modifier::None => None,
+            Modifier::Absolute => Some(|values| values.map(|value| float::<1, L>(value))),
+            Modifier::Negated => Some(|values| values.map(|value| float::<2, L>(value))),
+            Modifier::NegatedAbsolute => Some(|values| values.map(|value| float::<3, L>(value))),
+        };
+    }
     match (modifier, element.is_signed()) {
         (Modifier::None, _) | (Modifier::Absolute, false) => None,
         (Modifier::Absolute, true) => Some(|values| values.map(L::absolute)),
@@ -134,4 +150,10 @@ fn modify_of<const N: usize, L: Lane>(element: ElementType, modifier: Modifier) 
             Some(|values| values.map(|value| value.absolute().negated()))
         }
     }
+}
+
+/// A float under a modifier.
+fn float<const MODIFIER: u32, L: Lane>(value: L) -> L {
+    let pattern: i64 = value.into();
+    L::of(floats::modified(MODIFIER, pattern as u32) as i64)
 }

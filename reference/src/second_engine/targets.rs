@@ -68,7 +68,7 @@ fn in_a0<const N: usize, L: Lane>(
 
 fn store_of<const N: usize, L: Lane>(destination: &Destination) -> Store<N, L> {
     match destination.element {
-        ElementType::Ud => store_of_element::<u32, N, L>(destination),
+        ElementType::Ud | ElementType::F => store_of_element::<u32, N, L>(destination),
         ElementType::D => store_of_element::<i32, N, L>(destination),
         ElementType::Uw => store_of_element::<u16, N, L>(destination),
         ElementType::W => store_of_element::<i16, N, L>(destination),

@@ -2,6 +2,7 @@
 //! makes the same bytes.
 
 use super::fields::{said, FIELDS};
+use super::floats;
 use super::names::{
     CONDITIONS, FLAGS, IMMEDIATE_TYPES, MODIFIERS, NULL, SATURATED, SHORT, TYPES, VOTES,
 };
@@ -169,6 +170,9 @@ fn address(element: usize, added: i64) -> String {
 
 /// A number of a type that immediates have, in decimal.
 fn immediate(bits: u32, type_code: u32) -> String {
+    if floats::is_float(type_code) {
+        return floats::written(bits, type_code);
+    }
     let element = ElementType::from_code(type_code).expect("a served type");
     let own_bits = element.bit_count();
     let number = bits as i128 & ((1 << own_bits) - 1);

@@ -3,7 +3,7 @@
 //! numbers that have codes (channels, strides, widths) stand in assemble.rs.
 
 use super::nearest::unknown;
-use crate::operations::{ElementType, Operation, OPERATIONS};
+use crate::operations::{ElementType, Operation, OPERATIONS, TYPE_F, TYPE_VF};
 
 /// The suffix of an operation that saturates.
 pub const SATURATED: &str = "sat";
@@ -58,6 +58,7 @@ pub const TYPES: Names = Names {
         ("w", ElementType::W as u32),
         ("ub", ElementType::Ub as u32),
         ("b", ElementType::B as u32),
+        ("f", ElementType::F as u32),
     ],
 };
 
@@ -69,6 +70,8 @@ pub const IMMEDIATE_TYPES: Names = Names {
         ("d", ElementType::D as u32),
         ("uw", ElementType::Uw as u32),
         ("w", ElementType::W as u32),
+        ("f", TYPE_F),
+        ("vf", TYPE_VF),
     ],
 };
 

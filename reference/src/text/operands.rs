@@ -2,6 +2,7 @@
 //! Each function refuses what a word has no code or no room for.
 
 use super::faults::Wrong;
+use super::floats;
 use super::names::{element_type, IMMEDIATE_TYPES, MODIFIERS, NULL, TYPES};
 use super::numbers::{listed, signed, up_to};
 use crate::assemble::{region, RegionCodes, STRIDES, VERTICAL_STRIDES, WIDTHS};
@@ -69,14 +70,18 @@ fn destination(word: LongWord, text: &str) -> Result<LongWord, String> {
 /// A word with a source: a number, which only the last may be, or something with a region.
 fn source(word: LongWord, which: usize, text: &str, last: bool) -> Result<LongWord, String> {
     let (place, name) = typed(text)?;
-    let Some(number) = signed(place) else {
+    let bits = match IMMEDIATE_TYPES.find(name).filter(|code| floats::is_float(*code)) {
+        Some(code) => floats::immediate(place, code),
+        None => signed(place).map(|number| immediate(place, number, name)),
+    };
+    let Some(bits) = bits else {
         return register_source(word, which, place, element_type(&TYPES, name)?);
     };
     if !last {
         return Err(format!("{text} is an immediate and not the last source"));
     }
-    let element = element_type(&IMMEDIATE_TYPES, name)?;
-    Ok(word.immediate_source(which, element, immediate(place, number, element)?))
+    let bits = bits?;
+    Ok(word.immediate_source(which, element_type(&IMMEDIATE_TYPES, name)?, bits))
 }
 
 /// A word with a source in registers, by address or in a0.
@@ -189,9 +194,9 @@ fn typed(text: &str) -> Result<(&str, &str), String> {
 }
 
 /// The bits of an immediate that its type holds.
-fn immediate(text: &str, number: i128, element: ElementType) -> Result<u32, String> {
+fn immediate(text: &str, number: i128, name: &str) -> Result<u32, String> {
+    let element = element_type(&IMMEDIATE_TYPES, name)?;
     let (least, greatest) = (element.minimum(), element.maximum());
-    let name = IMMEDIATE_TYPES.name(element.code()).expect("a type of immediates");
     match (least..=greatest).contains(&number) {
         true => Ok(number as u32),
         false => Err(format!("immediate {text} does not fit {name}, {least} to {greatest}")),

@@ -41,6 +41,11 @@ fn request(call: &Call) -> Request<'_> {
         Call::Forward { kernel } => Request(14, [0; 5], kernel),
         Call::List { kernel, .. } => Request(15, [0; 5], kernel),
         Call::Read { text, .. } => Request(16, [0; 5], text),
+        Call::Place { order, record, x, y, .. } => {
+            Request(17, [*order, *x as u64, *y as u64, 0, 0], record)
+        }
+        Call::PlaceKernel { .. } => Request(18, [0; 5], &[]),
+        Call::PlaceLoad { record, .. } => Request(19, [0; 5], record),
     }
 }
 

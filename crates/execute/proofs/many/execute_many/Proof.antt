@@ -14,7 +14,7 @@ use Rattle.execute.proofs.many.execute_many.Tie as tie
 
 -- The word can be executed.
 legal : (s : tie.Start) → Acting (plainIs (s .args .p)) (toWord (s .args .w))
-legal s = s .pre .0 .0
+legal s = s .pre .0 .0 .acting
 
 -- What it reads and what it writes are registers.
 reads : (s : tie.Start) → length (s .args .registers .now) ≡ bytesIn (srcIsA0 src0 (toWord (s .args .w)))
@@ -56,7 +56,7 @@ quarter-mask-requires c κs = search needs
 results-requires : tie.Need-results-requires
 results-requires c κs =
     let s = c .before .before .before .before .before .before .before in
-    (legal s, reads s, refl, s .pre .0 .1)
+    (s .pre .0 .0, reads s, refl, s .pre .0 .1)
 
 quarter-mask-requires-2 : tie.Need-quarter-mask-requires-2
 quarter-mask-requires-2 c κs = search needs

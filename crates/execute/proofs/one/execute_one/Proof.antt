@@ -15,7 +15,7 @@ use Rattle.execute.proofs.one.execute_one.Tie as tie
 
 -- The word can be executed.
 legal : (s : tie.Start) → Acting (plainIs (s .args .p)) (toWord (s .args .w))
-legal s = s .pre .0 .0
+legal s = s .pre .0 .0 .acting
 
 -- What it reads and what it writes are registers.
 reads : (s : tie.Start) → length (s .args .registers .now) ≡ bytesIn (srcIsA0 src0 (toWord (s .args .w)))
@@ -39,7 +39,7 @@ quarter-mask-requires c κs = search needs
 result-of-requires : tie.Need-result-of-requires
 result-of-requires c κs =
     let s = c .before .before .before .before .before .before in
-    (legal s, reads s, s .pre .0 .2, s .pre .0 .1)
+    (s .pre .0 .0, reads s, s .pre .0 .2, s .pre .0 .1)
 
 quarter-mask-requires-2 : tie.Need-quarter-mask-requires-2
 quarter-mask-requires-2 c κs = search needs

@@ -7,7 +7,7 @@ use Rattle.paper.specs.Word.{src0, dstType}
 use Rattle.words.specs.Operations.{plainIs}
 use Rattle.laws.specs.Sources.{first-source}
 use Rattle.words.specs.Words.{toWord}
-use Rattle.execute.specs.Readable.{legal-type, legal-readable, not-source}
+use Rattle.execute.specs.Readable.{legal-whole, legal-readable, not-source}
 use Rattle.execute.specs.Results.{read-operands, kept-stays, kept-clamped}
 use Rattle.execute.specs.Single.{made-alone}
 use borrow.Author.Needs.{needs}
@@ -41,13 +41,13 @@ dst-type-requires : tie.Need-dst-type-requires
 dst-type-requires c κs = search needs
 
 clamp-requires : tie.Need-clamp-requires
-clamp-requires c κs = rw (c .dst-type .ensures .0) (legal-type _ _ (c .before .before .before .before .before .before .before .before .before .pre .0))
+clamp-requires c κs = rw (c .dst-type .ensures .0) (legal-whole _ _ (c .before .before .before .before .before .before .before .before .before .pre .0))
 
 returns : tie.Need-returns
 returns c =
     let s = c .before .before .before .before .before .before .before .before .before .before in
     let on = sym (eq-eqb _ _ (sym (c .before .before .before .saturate .ensures .0) ∙ c .before .before .if1 .taken)) in
-    made-alone (s .args .p) (toWord (s .args .w)) (s .args .registers .now) _ _ (c .before .before .before .before .before .before .before .before .first-number .ensures) (c .before .before .before .before .before .before .before .second-of .ensures) (s .pre .2) (s .args .predicate) _ _ true _ _
+    made-alone (s .args .p) (toWord (s .args .w)) (s .args .registers .now) _ _ (c .before .before .before .before .before .before .before .before .first-number .ensures) (c .before .before .before .before .before .before .before .second-of .ensures) (s .pre .0) (s .pre .2) (s .args .predicate) _ _ true _ _
     (c .before .before .before .before .before .before .cond-modifier .ensures .0) (c .before .dst-type .ensures .0) on (rw (← (c .before .before .before .before .before .bit .ensures)) (c .before .before .before .before .compute .ensures)) (kept-clamped _ _ _ (c .clamp .ensures))
 
 returns-2 : tie.Need-returns-2
@@ -55,7 +55,7 @@ returns-2 c =
     let s = c .before .before .before .before .before .before .before .before in
     let w = toWord (s .args .w) in
     let off = sym (ne-eqb _ _ (λ e. c .if1 .left (c .before .saturate .ensures .0 ∙ e))) in
-    made-alone (s .args .p) w (s .args .registers .now) _ _ (c .before .before .before .before .before .before .first-number .ensures) (c .before .before .before .before .before .second-of .ensures) (s .pre .2) (s .args .predicate) _ (dstType w) false _ _
+    made-alone (s .args .p) w (s .args .registers .now) _ _ (c .before .before .before .before .before .before .first-number .ensures) (c .before .before .before .before .before .second-of .ensures) (s .pre .0) (s .pre .2) (s .args .predicate) _ (dstType w) false _ _
     (c .before .before .before .before .cond-modifier .ensures .0) refl off (rw (← (c .before .before .before .bit .ensures)) (c .before .before .compute .ensures)) (kept-stays (dstType w) _)
 
 pub result-of-spec : {M : Type 1} → statement M

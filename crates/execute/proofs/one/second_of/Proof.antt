@@ -20,7 +20,7 @@ second-number-requires c κs =
     let s = c .before .before .before in
     let p = plainIs (s .args .p) in
     let two = sym (c .before .reads-two .ensures) ∙ c .if1 .taken in
-    (legal-readable p (toWord (s .args .w)) (s .pre .0) src1 (second-source p two), s .pre .1 ∙ ap bytesIn (sym (one-file p (toWord (s .args .w)) (s .pre .0) two)), not-source p (toWord (s .args .w)) (s .pre .2) src1 (second-source p two))
+    (legal-readable p (toWord (s .args .w)) (s .pre .0) src1 (second-source p two), s .pre .1 ∙ ap bytesIn (sym (one-file p (toWord (s .args .w)) (s .pre .0 .acting) two)), not-source p (toWord (s .args .w)) (s .pre .2) src1 (second-source p two))
 
 returns : tie.Need-returns
 returns c = second-read _ _ _ _ _ _ (sym (c .before .before .reads-two .ensures) ∙ c .before .if1 .taken) (c .second-number .ensures)

@@ -6,14 +6,14 @@ use Rattle.paper.specs.Word.{src0}
 use Rattle.words.specs.Operations.{plainIs}
 use Rattle.laws.specs.Sources.{first-source}
 use Rattle.words.specs.Words.{toWord}
-use Rattle.execute.specs.Readable.{legal-count, legal-type, legal-readable, not-source}
+use Rattle.execute.specs.Readable.{legal-count, legal-whole, legal-readable, not-source}
 use Rattle.execute.specs.Results.{zeros-near, read-sixteen, read-operands, combined-sixteen, results-made}
 use borrow.Author.Needs.{needs}
 use Rattle.execute.proofs.results.results.Statement.{statement}
 use Rattle.execute.proofs.results.results.Tie as tie
 
 channels-requires : tie.Need-channels-requires
-channels-requires c κs = legal-count _ _ (c .before .pre .0)
+channels-requires c κs = legal-count _ _ (c .before .pre .0 .acting)
 
 first-operand-requires : tie.Need-first-operand-requires
 first-operand-requires c κs =
@@ -45,13 +45,13 @@ dst-type-requires c κs = search needs
 clamp-all-requires : tie.Need-clamp-all-requires
 clamp-all-requires c κs =
     let s = c .before .before .before .before .before .before .before .before .before .before .before .before .before in
-    (c .before .before .before .before .before .before .before .before .before .before .before .channels .ensures .1, combined-sixteen _ _ _ _ _ _ _ (c .before .before .before .combine .ensures), rw (c .before .dst-type .ensures .0) (legal-type _ _ (s .pre .0)))
+    (c .before .before .before .before .before .before .before .before .before .before .before .channels .ensures .1, combined-sixteen _ _ _ _ _ _ _ (c .before .before .before .combine .ensures), rw (c .before .dst-type .ensures .0) (legal-whole _ _ (s .pre .0)))
 
 returns : tie.Need-returns
 returns c =
     let s = c .before .before .before .before .before .before .before .before .before .before .before .before .before .before in
     let w = toWord (s .args .w) in
-    results-made (s .args .p) w (s .args .registers .now) _ _ _ _ (c .before .before .before .before .before .before .before .before .before .before .first-operand .ensures) (c .before .before .before .before .before .before .before .before .second .ensures) _ _ _ _ _ _
+    results-made (s .args .p) w (s .args .registers .now) _ _ _ _ (c .before .before .before .before .before .before .before .before .before .before .first-operand .ensures) (c .before .before .before .before .before .before .before .before .second .ensures) (s .pre .0) _ _ _ _ _ _
     (c .before .before .before .before .before .before .before .before .before .before .before .before .channels .ensures .0) (c .before .before .before .before .before .before .before .cond-modifier .ensures .0) (c .before .before .dst-type .ensures .0) (ap (λ (x : ℕ). eqb x 1) (c .before .before .before .saturate .ensures .0))
     (c .before .before .before .before .combine .ensures) (c .clamp-all .ensures)
 

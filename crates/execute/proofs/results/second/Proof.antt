@@ -19,7 +19,7 @@ second-operand-requires c κs =
     let s = c .before .before .before .before in
     let p = plainIs (s .args .p) in
     let two = sym (c .before .before .reads-two .ensures) ∙ c .before .if1 .taken in
-    (legal-readable p (toWord (s .args .w)) (s .pre .0 .0) src1 (second-source p two), s .pre .0 .1, s .pre .0 .2 ∙ ap bytesIn (sym (one-file p (toWord (s .args .w)) (s .pre .0 .0) two)), s .pre .0 .3, not-source p (toWord (s .args .w)) (s .pre .0 .4) src1 (second-source p two))
+    (legal-readable p (toWord (s .args .w)) (s .pre .0 .0) src1 (second-source p two), s .pre .0 .1, s .pre .0 .2 ∙ ap bytesIn (sym (one-file p (toWord (s .args .w)) (s .pre .0 .0 .acting) two)), s .pre .0 .3, not-source p (toWord (s .args .w)) (s .pre .0 .4) src1 (second-source p two))
 
 returns : tie.Need-returns
 returns c = second-read _ _ _ _ _ _ (sym (c .before .before .before .reads-two .ensures) ∙ c .before .before .if1 .taken) (c .second-operand .ensures)

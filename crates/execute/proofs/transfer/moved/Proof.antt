@@ -7,14 +7,14 @@ use Rattle.paper.specs.Operation.{mov}
 use Rattle.paper.specs.Legal.{bytesIn}
 use Rattle.laws.specs.Sources.{first-source}
 use Rattle.words.specs.Words.{toWord}
-use Rattle.execute.specs.Readable.{legal-count, legal-type, legal-readable}
+use Rattle.execute.specs.Readable.{legal-count, legal-whole, legal-readable}
 use Rattle.execute.specs.Results.{read-sixteen, moved-made}
 use borrow.Author.Needs.{needs}
 use Rattle.execute.proofs.transfer.moved.Statement.{statement}
 use Rattle.execute.proofs.transfer.moved.Tie as tie
 
 channels-requires : tie.Need-channels-requires
-channels-requires c κs = legal-count _ _ (c .before .before .pre .0)
+channels-requires c κs = legal-count _ _ (c .before .before .pre .0 .acting)
 
 src-is-a0-requires : tie.Need-src-is-a0-requires
 src-is-a0-requires c κs = search needs
@@ -34,13 +34,13 @@ dst-type-requires c κs = search needs
 clamp-all-requires : tie.Need-clamp-all-requires
 clamp-all-requires c κs =
     let s = c .before .before .before .before .before .before .before .before .before .before in
-    (c .before .before .before .before .before .before .before .channels .ensures .1, read-sixteen (toWord (s .args .w)) (s .args .addresses .now) _ _ _ (c .before .before .before .operand-by-element .ensures), rw (c .before .dst-type .ensures .0) (legal-type _ _ (s .pre .0)))
+    (c .before .before .before .before .before .before .before .channels .ensures .1, read-sixteen (toWord (s .args .w)) (s .args .addresses .now) _ _ _ (c .before .before .before .operand-by-element .ensures), rw (c .before .dst-type .ensures .0) (legal-whole _ _ (s .pre .0)))
 
 returns : tie.Need-returns
 returns c =
     let s = c .before .before .before .before .before .before .before .before .before .before .before in
     let a0 = sym (c .before .before .before .before .before .before .before .src-is-a0 .ensures) ∙ c .before .before .before .before .before .before .if1 .taken in
-    rw a0 (moved-made (toWord (s .args .w)) (s .args .addresses .now) _ _ _ _ (c .before .before .before .before .operand-by-element .ensures) (c .before .before .before .before .before .before .before .before .channels .ensures .0) (c .before .before .before .before .before .before .before .before .channels .ensures .1) _ _
+    rw a0 (moved-made (toWord (s .args .w)) (s .pre .0) (s .args .addresses .now) _ _ _ _ (c .before .before .before .before .operand-by-element .ensures) (c .before .before .before .before .before .before .before .before .channels .ensures .0) (c .before .before .before .before .before .before .before .before .channels .ensures .1) _ _
     (c .before .before .dst-type .ensures .0) (ap (λ (x : ℕ). eqb x 1) (c .before .before .before .saturate .ensures .0)) (c .clamp-all .ensures))
 
 operand-by-element-requires-2 : tie.Need-operand-by-element-requires-2
@@ -58,13 +58,13 @@ dst-type-requires-2 c κs = search needs
 clamp-all-requires-2 : tie.Need-clamp-all-requires-2
 clamp-all-requires-2 c κs =
     let s = c .before .before .before .before .before .before .before .before .before .before in
-    (c .before .before .before .before .before .before .before .channels .ensures .1, read-sixteen (toWord (s .args .w)) (s .args .registers .now) _ _ _ (c .before .before .before .operand-by-element2 .ensures), rw (c .before .dst-type2 .ensures .0) (legal-type _ _ (s .pre .0)))
+    (c .before .before .before .before .before .before .before .channels .ensures .1, read-sixteen (toWord (s .args .w)) (s .args .registers .now) _ _ _ (c .before .before .before .operand-by-element2 .ensures), rw (c .before .dst-type2 .ensures .0) (legal-whole _ _ (s .pre .0)))
 
 returns-2 : tie.Need-returns-2
 returns-2 c =
     let s = c .before .before .before .before .before .before .before .before .before .before .before in
     let a0 = sym (c .before .before .before .before .before .before .before .src-is-a0 .ensures) ∙ c .before .before .before .before .before .before .if1 .left in
-    rw a0 (moved-made (toWord (s .args .w)) (s .args .registers .now) _ _ _ _ (c .before .before .before .before .operand-by-element2 .ensures) (c .before .before .before .before .before .before .before .before .channels .ensures .0) (c .before .before .before .before .before .before .before .before .channels .ensures .1) _ _
+    rw a0 (moved-made (toWord (s .args .w)) (s .pre .0) (s .args .registers .now) _ _ _ _ (c .before .before .before .before .operand-by-element2 .ensures) (c .before .before .before .before .before .before .before .before .channels .ensures .0) (c .before .before .before .before .before .before .before .before .channels .ensures .1) _ _
     (c .before .before .dst-type2 .ensures .0) (ap (λ (x : ℕ). eqb x 1) (c .before .before .before .saturate2 .ensures .0)) (c .clamp-all2 .ensures))
 
 pub moved-spec : {M : Type 1} → statement M

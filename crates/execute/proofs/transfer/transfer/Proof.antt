@@ -30,7 +30,7 @@ quarter-mask-requires c κs = search needs
 write-either-requires : tie.Need-write-either-requires
 write-either-requires c κs =
     let s = c .before .before .before .before .before .before .before .before .before .before .before .before .before in
-    (legal-writable _ (toWord (s .args .w)) (s .pre .0), s .pre .1, s .pre .2)
+    (legal-writable _ (toWord (s .args .w)) (s .pre .0 .acting), s .pre .1, s .pre .2)
 
 same-length : tie.Need-same-length
 same-length c = search needs
@@ -57,7 +57,7 @@ returns c =
       makes = c .before .before .before .before .before .before .before .before .before .moved .ensures (quarterMask predicate quarter);
     } in
     let st = storeOf registers (s .args .flags) addresses in
-    (transferred w (s .args .awake) registers (s .args .flags) addresses _ _ _ _ _ _ (s .pre .0) made _ _ (c .before .before .before .before .write-either .ensures .0) (c .before .before .before .before .write-either .ensures .1), (mov-flag0 w (awakeList (s .args .awake)) st, mov-flag1 w (awakeList (s .args .awake)) st))
+    (transferred w (s .args .awake) registers (s .args .flags) addresses _ _ _ _ _ _ (s .pre .0 .acting) made _ _ (c .before .before .before .before .write-either .ensures .0) (c .before .before .before .before .write-either .ensures .1), (mov-flag0 w (awakeList (s .args .awake)) st, mov-flag1 w (awakeList (s .args .awake)) st))
 
 pub transfer-spec : {M : Type 1} → statement M
 transfer-spec =

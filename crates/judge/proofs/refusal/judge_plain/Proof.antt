@@ -1,22 +1,22 @@
 -- The parts are the definition's parts, in its order. Assumes nothing.
-use mathlib.Core.Path.{_≡_, sym, _∙_}
+use mathlib.Core.Path.{sym, _∙_}
 use borrow.Author.Tests.{not-true, not-false}
 use Rattle.judge.specs.Rules.{later-field, later-operand, later-shape, later-places}
 use borrow.Author.Needs.{needs}
 use Rattle.judge.proofs.refusal.judge_plain.Statement.{statement}
 use Rattle.judge.proofs.refusal.judge_plain.Tie as tie
 
-looks-at-a0-requires : tie.Need-looks-at-a0-requires
-looks-at-a0-requires c κs = search needs
+is-unusual-requires : tie.Need-is-unusual-requires
+is-unusual-requires c κs = search needs
 
 plain-served-requires : tie.Need-plain-served-requires
-plain-served-requires c κs = c .looks-at-a0 .ensures
+plain-served-requires c κs = c .is-unusual .ensures
 
 returns : tie.Need-returns
 returns c = sym (later-field _ _ (sym (c .before .plain-served .ensures) ∙ not-true _ (c .if1 .taken)))
 
 operand-rule-broken-requires : tie.Need-operand-rule-broken-requires
-operand-rule-broken-requires c κs = search needs
+operand-rule-broken-requires c κs = c .before .before .is-unusual .ensures
 
 returns-2 : tie.Need-returns-2
 returns-2 c = sym (later-operand _ _ (sym (c .before .before .before .plain-served .ensures) ∙ not-false _ (c .before .before .if1 .left)) (sym (c .before .operand-rule-broken .ensures) ∙ (c .if2 .taken)))
@@ -35,19 +35,19 @@ returns-4 c =
     c .judge-places .ensures
     ∙ sym (later-places _ _ (sym (c .before .before .before .before .before .before .before .plain-served .ensures) ∙ not-false _ (c .before .before .before .before .before .before .if1 .left)) (sym (c .before .before .before .before .before .operand-rule-broken .ensures) ∙ c .before .before .before .before .if2 .left) (sym (c .before .before .before .shape-broken .ensures) ∙ c .before .before .if3 .left))
 
-judge-places-unaided-requires : tie.Need-judge-places-unaided-requires
-judge-places-unaided-requires c κs = c .before .before .before .before .before .before .before .looks-at-a0 .ensures (c .if4 .left)
+judge-places-usual-requires : tie.Need-judge-places-usual-requires
+judge-places-usual-requires c κs = c .before .before .before .before .before .before .before .is-unusual .ensures (c .if4 .left)
 
 returns-5 : tie.Need-returns-5
 returns-5 c =
-    c .judge-places-unaided .ensures
+    c .judge-places-usual .ensures
     ∙ sym (later-places _ _ (sym (c .before .before .before .before .before .before .before .plain-served .ensures) ∙ not-false _ (c .before .before .before .before .before .before .if1 .left)) (sym (c .before .before .before .before .before .operand-rule-broken .ensures) ∙ c .before .before .before .before .if2 .left) (sym (c .before .before .before .shape-broken .ensures) ∙ c .before .before .if3 .left))
 
 pub judge-plain-spec : {M : Type 1} → statement M
 judge-plain-spec =
     tie.close
     (tie.spec
-    looks-at-a0-requires
+    is-unusual-requires
     plain-served-requires
     returns
     operand-rule-broken-requires
@@ -56,5 +56,5 @@ judge-plain-spec =
     returns-3
     judge-places-requires
     returns-4
-    judge-places-unaided-requires
+    judge-places-usual-requires
     returns-5)

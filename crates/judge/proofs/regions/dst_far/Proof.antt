@@ -20,7 +20,7 @@ bytes-in-requires c κs = search needs
 dst-region-requires : tie.Need-dst-region-requires
 dst-region-requires c κs =
     let s = c .before .before .before in
-    c .before .both .ensures ∙ ap (_&&_ (s .args .looks)) (c .before .before .dst-is-a0 .ensures) ∙ asked _ _ (λ e. s .pre e .destination)
+    c .before .both .ensures ∙ ap (_&&_ (s .args .unusual)) (c .before .before .dst-is-a0 .ensures) ∙ asked _ _ (λ e. s .pre e .destination)
 
 last-channel-requires : tie.Need-last-channel-requires
 last-channel-requires c κs = search needs
@@ -43,12 +43,12 @@ both-requires-3 c κs = search needs
 returns : tie.Need-returns
 returns c =
     let s = c .before .before .before .before .before .before .before .before .before .before in
-    let a0 = c .before .before .before .before .before .before .before .before .both .ensures ∙ ap (_&&_ (s .args .looks)) (c .before .before .before .before .before .before .before .before .before .dst-is-a0 .ensures) ∙ asked _ _ (λ e. s .pre e .destination) in
+    let a0 = c .before .before .before .before .before .before .before .before .both .ensures ∙ ap (_&&_ (s .args .unusual)) (c .before .before .before .before .before .before .before .before .before .dst-is-a0 .ensures) ∙ asked _ _ (λ e. s .pre e .destination) in
     let bytes = c .before .before .before .before .before .before .before .bytes-in .ensures ∙ ap bytesIn a0 in
     let region = c .before .before .before .before .before .before .dst-region .ensures .0 in
     let last = c .before .before .before .before .before .last-channel .ensures .0 in
     let far = c .before .before .before .before .region-too-far .ensures ∙ (λ i. regionTooFar (bytes i) (region i) (last i)) in
-    let mode = c .before .before .both2 .ensures ∙ ap (_&&_ (s .args .looks)) (c .before .before .before .dst-by-address .ensures) ∙ asked _ _ (λ e. s .pre e .direct .destination) in
+    let mode = c .before .before .both2 .ensures ∙ ap (_&&_ (s .args .unusual)) (c .before .before .before .dst-by-address .ensures) ∙ asked _ _ (λ e. s .pre e .direct .destination) in
     let direct = c .before .negated .ensures ∙ ap not mode in
     c .both3 .ensures ∙ ap₂ _&&_ direct far ∙ dst-far (toWord (s .args .w))
 

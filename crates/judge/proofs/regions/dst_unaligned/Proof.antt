@@ -33,7 +33,7 @@ both-requires-2 c κs = search needs
 returns : tie.Need-returns
 returns c =
     let s = c .before .before .before .before .before .before .before .before in
-    let mode = c .before .before .both .ensures ∙ ap (_&&_ (s .args .looks)) (c .before .before .before .dst-by-address .ensures) ∙ asked _ _ (λ e. s .pre e .direct .destination) in
+    let mode = c .before .before .both .ensures ∙ ap (_&&_ (s .args .unusual)) (c .before .before .before .dst-by-address .ensures) ∙ asked _ _ (λ e. s .pre e .direct .destination) in
     rw (c .both2 .ensures, c .before .negated .ensures, mode, c .before .before .before .before .is-unaligned .ensures, c .before .before .before .before .before .size-of .ensures .0, c .before .before .before .before .before .before .dst-type .ensures .0, c .before .before .before .before .before .before .before .dst-subregister .ensures .0)
 
 pub dst-unaligned-spec : {M : Type 1} → statement M

@@ -20,7 +20,7 @@ bytes-in-requires c κs = search needs
 src-region-requires : tie.Need-src-region-requires
 src-region-requires c κs =
     let s = c .before .before .before in
-    c .before .both .ensures ∙ ap (_&&_ (s .args .looks)) (c .before .before .src-is-a0 .ensures) ∙ asked _ _ (λ e. s .pre e .source (sourceIs (s .args .x)))
+    c .before .both .ensures ∙ ap (_&&_ (s .args .unusual)) (c .before .before .src-is-a0 .ensures) ∙ asked _ _ (λ e. s .pre e .source (sourceIs (s .args .x)))
 
 last-channel-requires : tie.Need-last-channel-requires
 last-channel-requires c κs = search needs
@@ -43,12 +43,12 @@ both-requires-3 c κs = search needs
 returns : tie.Need-returns
 returns c =
     let s = c .before .before .before .before .before .before .before .before .before .before in
-    let a0 = c .before .before .before .before .before .before .before .before .both .ensures ∙ ap (_&&_ (s .args .looks)) (c .before .before .before .before .before .before .before .before .before .src-is-a0 .ensures) ∙ asked _ _ (λ e. s .pre e .source (sourceIs (s .args .x))) in
+    let a0 = c .before .before .before .before .before .before .before .before .both .ensures ∙ ap (_&&_ (s .args .unusual)) (c .before .before .before .before .before .before .before .before .before .src-is-a0 .ensures) ∙ asked _ _ (λ e. s .pre e .source (sourceIs (s .args .x))) in
     let bytes = c .before .before .before .before .before .before .before .bytes-in .ensures ∙ ap bytesIn a0 in
     let region = c .before .before .before .before .before .before .src-region .ensures .0 in
     let last = c .before .before .before .before .before .last-channel .ensures .0 in
     let far = c .before .before .before .before .region-too-far .ensures ∙ (λ i. regionTooFar (bytes i) (region i) (last i)) in
-    let mode = c .before .before .both2 .ensures ∙ ap (_&&_ (s .args .looks)) (c .before .before .before .src-by-address .ensures) ∙ asked _ _ (λ e. s .pre e .direct .source (sourceIs (s .args .x))) in
+    let mode = c .before .before .both2 .ensures ∙ ap (_&&_ (s .args .unusual)) (c .before .before .before .src-by-address .ensures) ∙ asked _ _ (λ e. s .pre e .direct .source (sourceIs (s .args .x))) in
     let direct = c .before .negated .ensures ∙ ap not mode in
     c .both3 .ensures ∙ ap₂ _&&_ direct far
 

@@ -34,7 +34,7 @@ both-requires-2 c κs = search needs
 returns : tie.Need-returns
 returns c =
     let s = c .before .before .before .before .before .before .before .before in
-    let mode = c .before .before .both .ensures ∙ ap (_&&_ (s .args .looks)) (c .before .before .before .src-by-address .ensures) ∙ asked _ _ (λ e. s .pre e .direct .source (sourceIs (s .args .x))) in
+    let mode = c .before .before .both .ensures ∙ ap (_&&_ (s .args .unusual)) (c .before .before .before .src-by-address .ensures) ∙ asked _ _ (λ e. s .pre e .direct .source (sourceIs (s .args .x))) in
     rw (c .both2 .ensures, c .before .negated .ensures, mode, c .before .before .before .before .is-unaligned .ensures, c .before .before .before .before .before .size-of .ensures .0, c .before .before .before .before .before .before .src-type .ensures .0, c .before .before .before .before .before .before .before .src-subregister .ensures .0)
 
 pub src-unaligned-spec : {M : Type 1} → statement M

@@ -22,14 +22,14 @@ both-requires c κs = search needs
 returns : tie.Need-returns
 returns c = rw (plain-served, c .both .ensures, c .before .operands-served .ensures, c .before .before .before .control-served .ensures, c .before .before .before .before .saturates .ensures, c .before .before .before .before .before .compares .ensures)
 
-operands-served-unaided-requires : tie.Need-operands-served-unaided-requires
-operands-served-unaided-requires c κs = c .before .before .before .before .pre (c .if1 .left)
+operands-served-usual-requires : tie.Need-operands-served-usual-requires
+operands-served-usual-requires c κs = c .before .before .before .before .pre (c .if1 .left)
 
 both-requires-2 : tie.Need-both-requires-2
 both-requires-2 c κs = search needs
 
 returns-2 : tie.Need-returns-2
-returns-2 c = rw (plain-served, c .both2 .ensures, c .before .operands-served-unaided .ensures, c .before .before .before .control-served .ensures, c .before .before .before .before .saturates .ensures, c .before .before .before .before .before .compares .ensures)
+returns-2 c = rw (plain-served, c .both2 .ensures, c .before .operands-served-usual .ensures, c .before .before .before .control-served .ensures, c .before .before .before .before .saturates .ensures, c .before .before .before .before .before .compares .ensures)
 
 pub plain-served-spec : {M : Type 1} → statement M
 plain-served-spec =
@@ -41,6 +41,6 @@ plain-served-spec =
     operands-served-requires
     both-requires
     returns
-    operands-served-unaided-requires
+    operands-served-usual-requires
     both-requires-2
     returns-2)

@@ -39,7 +39,7 @@ returns c =
     let a = s .args in
     let e = c .before .before .before .before .before .before .before .before .before .rouse .ensures in
     let made = c .before .before .before .before .transfer .ensures in (
-      λ t shows. rw (s .pre .0 .0, ← (shows .store)) (pass-shown _ _ _ _ _ _ (step-shown (a .registers .now) (a .addresses .now) (a .here .now) (a .s) t shows (s .pre .1 .1) _ _ (e .0) (e .1)) refl mov (toWord (a .w)) (waysIs (a .ways)) (storeOf (a .registers .now) (a .s .flags) (a .addresses .now)) (s .pre .0 .0) (s .pre .0 .1) refl (made .0) (made .1)),
+      λ t shows. rw (s .pre .0 .0, ← (shows .store)) (pass-shown _ _ _ _ _ _ (step-shown (a .registers .now) (a .addresses .now) (a .here .now) (a .s) t shows (s .pre .1 .1) _ _ (e .0) (e .1)) refl mov (toWord (a .w)) (waysIs (a .ways)) (storeOf (a .registers .now) (a .s .flags) (a .addresses .now)) (s .pre .0 .0) (s .pre .0 .1 .acting) refl (made .0) (made .1)),
       (s .pre .1 .0 .flag0, s .pre .1 .0 .flag1, rw (e .1) (length-set (a .here .now) (a .s .place) 0)),
     )
 

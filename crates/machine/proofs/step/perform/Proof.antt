@@ -48,7 +48,7 @@ returns c =
     let a = s .args in
     let told = sym (s .pre .0 .0) ∙ ap operationIs (c .before .before .before .before .before .o .given .1) in
     let e = c .before .before .execute .ensures in (
-      λ addresses cs posted. rw (c .before .before .before .before .before .o .given .1) (pass-shown _ (a .up) (a .here .now) _ addresses cs posted refl _ (toWord (a .w)) (waysIs (a .ways)) (storeOf (a .registers .now) (a .flags) addresses) told (s .pre .0 .1 _ told .0) refl (e .0 addresses) (e .1 .0 addresses)),
+      λ addresses cs posted. rw (c .before .before .before .before .before .o .given .1) (pass-shown _ (a .up) (a .here .now) _ addresses cs posted refl _ (toWord (a .w)) (waysIs (a .ways)) (storeOf (a .registers .now) (a .flags) addresses) told (s .pre .0 .1 _ told .0 .acting) refl (e .0 addresses) (e .1 .0 addresses)),
       (e .1 .1 .0, e .1 .1 .1, refl),
     )
 

@@ -31,7 +31,7 @@ unsigned-bytes-requires c κs =
 signed-bytes-requires : tie.Need-signed-bytes-requires
 signed-bytes-requires c κs =
     let s = c .before .before .before in
-    ((s .pre .0 .1, s .pre .0 .2), typed-room _ _ _ (s .pre .0 .0) (last-type _ _ (s .pre .0 .0) (s .pre .0 .3) (c .before .match .rest)) _ _ _ (s .pre .1))
+    ((s .pre .0 .1, s .pre .0 .2), typed-room _ _ _ (s .pre .0 .0) (last-type _ (s .pre .0 .3) (c .before .match .rest)) _ _ _ (s .pre .1))
 
 returns : tie.Need-returns
 returns c =
@@ -61,7 +61,7 @@ returns-5 c =
 returns-6 : tie.Need-returns-6
 returns-6 c =
     let s = c .before .before .before .before in
-    typed-read _ _ _ (s .pre .0 .0) (last-type _ _ (s .pre .0 .0) (s .pre .0 .3) (c .before .before .match .rest)) _ _ _ _ _ (c .signed-bytes .ensures)
+    typed-read _ _ _ (s .pre .0 .0) (last-type _ (s .pre .0 .3) (c .before .before .match .rest)) _ _ _ _ _ (c .signed-bytes .ensures)
 
 pub beside-spec : {M : Type 1} → statement M
 beside-spec =

@@ -1,9 +1,10 @@
 -- An immediate is the same for all channels; elements are read one by one and modified. Assumes nothing.
+use mathlib.Core.Bool.{true≢false}
 use mathlib.Core.Path.{refl, sym, ap, _∙_}
 use Rattle.paper.specs.Value.{sizeOf}
 use Rattle.paper.specs.Word.{src0}
 use Rattle.words.specs.Words.{toWord}
-use Rattle.words.specs.Operands.{fixed-told, direct-told}
+use Rattle.words.specs.Operands.{fixed-told, vector-told, direct-told}
 use Rattle.operands.specs.Sources.{operand-fixed, operand-direct, elements-near, elements-sixteen, count-channels, region-read}
 use borrow.Author.Needs.{needs}
 use Rattle.operands.proofs.elements.operand_by_element.Statement.{statement}
@@ -16,7 +17,7 @@ src-is-a0-requires : tie.Need-src-is-a0-requires
 src-is-a0-requires c κs = search needs
 
 operand-of-requires : tie.Need-operand-of-requires
-operand-of-requires c κs = c .src-is-a0 .ensures
+operand-of-requires c κs = ((λ e. c .before .before .before .pre .0 .whole), c .src-is-a0 .ensures)
 
 enum-known-o : tie.Need-enum-known-o
 enum-known-o c = search needs
@@ -34,6 +35,9 @@ spread-requires c κs =
     let w = toWord (s .args .w) in
     (rw (s .pre .1) (count-channels w (s .pre .0 .count)), s .pre .3)
 
+enum-told : tie.Need-enum-told
+enum-told c = search needs
+
 enum-known-o-2 : tie.Need-enum-known-o-2
 enum-known-o-2 c = search needs
 
@@ -42,7 +46,7 @@ lines-requires c κs =
     let s = c .before .before .before .before .before .before .before .before in
     let w = toWord (s .args .w) in
     let t = direct-told src0 w _ (c .before .before .before .before .operand-of .ensures) _ (c .before .before .o2 .given .1) in (
-      (t .2, refl, t .3 ∙ sym (ap sizeOf (c .before .before .before .before .before .before .src-type .ensures .0)), rw (s .pre .1) (count-channels w (s .pre .0 .count)), s .pre .3, rw (t .3) (s .pre .0 .type)),
+      (t .2, refl, t .3 ∙ sym (ap sizeOf (c .before .before .before .before .before .before .src-type .ensures .0)), rw (s .pre .1) (count-channels w (s .pre .0 .count)), s .pre .3, rw (c .before .before .before .before .before .before .src-type .ensures .0) (s .pre .0 .type)),
       region-read src0 w _ (s .pre .0) (t .0) (t .1) _ _ (s .pre .1) (s .pre .2),
     )
 
@@ -60,14 +64,21 @@ returns c =
     let s = c .before .before .before .before .before .before .before .before .before .before in
     let w = toWord (s .args .w) in
     let t = fixed-told src0 w _ (c .before .before .before .before .before .before .operand-of .ensures) _ (c .before .before .before .before .o .given .1) in
-    operand-fixed w (s .args .file .now) src0 _ _ _ _ _ _ (t .0) (c .before .before .before .before .before .before .before .before .src-type .ensures .0) (t .1) (c .before .before .load .ensures) (c .spread .ensures)
+    operand-fixed w (s .args .file .now) src0 _ _ _ (s .pre .0) _ _ _ (t .0) (c .before .before .before .before .before .before .before .before .src-type .ensures .0) (t .1) (c .before .before .load .ensures) (c .spread .ensures)
 
 returns-2 : tie.Need-returns-2
 returns-2 c =
+    let s = c .before .before .before .before .before .before in
+    let w = toWord (s .args .w) in
+    let t = vector-told src0 w _ (c .before .before .operand-of .ensures) _ (c .enum-told .given .1) in
+    absurd (true≢false (sym (t .0) ∙ s .pre .0 .whole))
+
+returns-3 : tie.Need-returns-3
+returns-3 c =
     let s = c .before .before .before .before .before .before .before .before .before .before .before .before in
     let w = toWord (s .args .w) in
     let t = direct-told src0 w _ (c .before .before .before .before .before .before .before .before .operand-of .ensures) _ (c .before .before .before .before .before .before .o2 .given .1) in
-    operand-direct w (s .args .file .now) src0 _ _ _ _ _ _ _ (t .0) (c .before .before .before .before .before .before .before .before .before .before .src-type .ensures .0) (c .before .before .src-modifier .ensures .0) (t .1) (c .before .before .before .lines .ensures) (c .modify-all .ensures)
+    operand-direct w (s .args .file .now) src0 _ _ _ (s .pre .0) _ _ _ _ (t .0) (c .before .before .before .before .before .before .before .before .before .before .src-type .ensures .0) (c .before .before .src-modifier .ensures .0) (t .1) (c .before .before .before .lines .ensures) (c .modify-all .ensures)
 
 pub operand-by-element-spec : {M : Type 1} → statement M
 operand-by-element-spec =
@@ -79,9 +90,11 @@ operand-by-element-spec =
     enum-known-o
     load-requires
     spread-requires
+    enum-told
     enum-known-o-2
     lines-requires
     src-modifier-requires
     modify-all-requires
     returns
-    returns-2)
+    returns-2
+    returns-3)

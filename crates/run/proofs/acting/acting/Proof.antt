@@ -1,16 +1,16 @@
--- A word in which a0 may have a part is settled where it has operands; else it acts as it stands. Assumes nothing.
+-- An unusual word is settled where it has operands; else it acts as it stands. Assumes nothing.
 use mathlib.Core.Path.{refl, sym, ap, _∙_}
 use borrow.Author.Tests.{not-true}
 use Rattle.laws.specs.Regions.{legal-plain}
 use Rattle.words.specs.Words.{toWord}
 use Rattle.words.specs.Operations.{operationIs}
-use Rattle.run.specs.Acting.{acts-unaided, acts-said, acts-other}
+use Rattle.run.specs.Acting.{acts-usual, acts-said, acts-other}
 use borrow.Author.Needs.{needs}
 use Rattle.run.proofs.acting.acting.Statement.{statement}
 use Rattle.run.proofs.acting.acting.Tie as tie
 
 returns : tie.Need-returns
-returns c = let p = c .before .before .pre in acts-unaided _ _ (p .0) (p .2 (not-true _ (c .if1 .taken)))
+returns c = let p = c .before .before .pre in acts-usual _ _ (p .0) (p .2 (not-true _ (c .if1 .taken)))
 
 operation-requires : tie.Need-operation-requires
 operation-requires c κs = search needs

@@ -8,7 +8,7 @@ use Rattle.paper.specs.Kernel.{Instr}
 use Rattle.paper.specs.Machine.{State, step}
 use Rattle.run.specs.Acting.{acts-by}
 use Rattle.run.specs.Running.{Running, running-registers, running-addresses, running-a0, running-sound, running-place, running-end, running-spent, running-made}
-use Rattle.run.specs.Tables.{Tabled, row-there, row-away, row-steps, row-unaided}
+use Rattle.run.specs.Tables.{Tabled, row-there, row-away, row-steps, row-usual}
 use Rattle.run.specs.Outcomes.{Leads, leads-start, leads-on, leads-spent, leads-stopped, leads-end}
 use borrow.Author.Needs.{needs}
 use Rattle.run.proofs.running.run_on.Statement.{statement}
@@ -58,7 +58,7 @@ acting-requires c κs =
     let p = c .before .before .before .before .before .before .before .before .before .before .before .pre in
     let i = c .before .before .before .before .before .before .loop .inv .1 (p .0) (p .1) (p .2) (p .3) in
     let st = row-steps (p .0) _ _ _ _ (p .3) _ _ _ _ (i .0) (i .1) (c .before .before .before .before .if1 .taken) _ (c .before .before .before .before .before .before .loop .inv .3) (omega (arith, c .before .before .before .before .before .before .loop .inv .0, c .before .before .before .if2 .left)) _ _ (c .before .before .row-at .ensures .0) (c .before .before .row-at .ensures .1) in
-    (st .legal, running-addresses (p .0) _ _ _ _ (i .0) (i .1), row-unaided (p .0) _ _ _ _ (p .3) _ _ _ _ (i .0) (i .1) (c .before .before .before .before .if1 .taken) _ (c .before .before .before .before .before .before .loop .inv .3) (omega (arith, c .before .before .before .before .before .before .loop .inv .0, c .before .before .before .if2 .left)) _ _ (c .before .before .row-at .ensures .0) (c .before .before .row-at .ensures .2))
+    (st .legal, running-addresses (p .0) _ _ _ _ (i .0) (i .1), row-usual (p .0) _ _ _ _ (p .3) _ _ _ _ (i .0) (i .1) (c .before .before .before .before .if1 .taken) _ (c .before .before .before .before .before .before .loop .inv .3) (omega (arith, c .before .before .before .before .before .before .loop .inv .0, c .before .before .before .if2 .left)) _ _ (c .before .before .row-at .ensures .0) (c .before .before .row-at .ensures .2))
 
 enum-known-act : tie.Need-enum-known-act Inv-loop μ-loop
 enum-known-act c = search needs
@@ -122,6 +122,39 @@ loop-again-2 c =
           let st = row-steps k _ _ _ _ d _ _ _ _ (i .0) (i .1) (c .before .before .before .before .before .before .before .before .before .before .before .before .before .before .before .before .before .before .if1 .taken) _ (c .before .before .before .before .before .before .before .before .before .before .before .before .before .before .before .before .before .before .before .before .loop .inv .3) (omega (arith, c .before .before .before .before .before .before .before .before .before .before .before .before .before .before .before .before .before .before .before .before .loop .inv .0, c .before .before .before .before .before .before .before .before .before .before .before .before .before .before .before .before .before .if2 .left)) _ _ (c .before .before .before .before .before .before .before .before .before .before .before .before .before .before .before .before .row-at .ensures .0) (c .before .before .before .before .before .before .before .before .before .before .before .before .before .before .before .before .row-at .ensures .1) in
           let same = acts .2 _ _ (i .0) (running-a0 k _ _ _ _ (i .0) (i .1)) in
           (step k (i .0), running-made k _ _ _ _ (i .0) (i .1) _ _ _ st same _ _ _ _ (m .1 .2) (m .0 (i .0) (i .1 .shows)), leads-on k _ t _ (i .0) (i .2) (st .on (acts .0)) (omega (arith, l .inv .0, more)) (step k (i .0)) refl),
+      m .1 .2 ∙ l .inv .2,
+      λ e. absurd (omega arith),
+    )
+
+enum-known-act-3 : tie.Need-enum-known-act-3 Inv-loop μ-loop
+enum-known-act-3 c = search needs
+
+float-at-requires : tie.Need-float-at-requires Inv-loop μ-loop
+float-at-requires c κs =
+    let p = c .before .before .before .before .before .before .before .before .before .before .before .before .before .before .before .before .before .pre in
+    let i = c .before .before .before .before .before .before .before .before .before .before .before .before .loop .inv .1 (p .0) (p .1) (p .2) (p .3) in
+    let st = row-steps (p .0) _ _ _ _ (p .3) _ _ _ _ (i .0) (i .1) (c .before .before .before .before .before .before .before .before .before .before .if1 .taken) _ (c .before .before .before .before .before .before .before .before .before .before .before .before .loop .inv .3) (omega (arith, c .before .before .before .before .before .before .before .before .before .before .before .before .loop .inv .0, c .before .before .before .before .before .before .before .before .before .if2 .left)) _ _ (c .before .before .before .before .before .before .before .before .row-at .ensures .0) (c .before .before .before .before .before .before .before .before .row-at .ensures .1) in
+    let acts = acts-by _ _ _ _ (c .before .before .before .before .before .acting .ensures) (c .before .before .before .act3 .given .1) in
+    ((acts .1 .0, acts .1 .1, running-registers (p .0) _ _ _ _ (i .0) (i .1)), (running-sound (p .0) _ _ _ _ (i .0) (i .1), running-place (p .0) _ _ _ _ (i .0) (i .1)))
+
+add-steps-3 : tie.Need-add-steps-3 Inv-loop μ-loop
+add-steps-3 c = omega (arith, c .before .before .before .before .before .before .before .before .before .before .before .before .before .before .before .before .before .loop .inv .0, c .before .before .before .before .before .before .before .before .before .before .before .before .before .before .if2 .left, c .before .before .before .before .before .before .before .before .before .before .before .before .before .before .before .before .before .before .before .before .before .before .fits .budget)
+
+loop-less-3 : tie.Need-loop-less-3 Inv-loop μ-loop
+loop-less-3 c = omega (arith, c .before .before .before .before .before .before .before .before .before .before .before .before .before .before .before .before .before .loop .inv .0, c .before .before .before .before .before .before .before .before .before .before .before .before .before .before .if2 .left)
+
+loop-again-3 : tie.Need-loop-again-3 Inv-loop μ-loop
+loop-again-3 c =
+    let l = c .before .before .before .before .before .before .before .before .before .before .before .before .before .before .before .before .before .loop in
+    let more = c .before .before .before .before .before .before .before .before .before .before .before .before .before .before .if2 .left in
+    let m = c .before .before .before .before .float-at .ensures in
+    let acts = acts-by _ _ _ _ (c .before .before .before .before .before .before .before .before .before .before .acting .ensures) (c .before .before .before .before .before .before .before .before .act3 .given .1) in (
+      omega (arith, l .inv .0, more),
+      λ k t r d.
+          let i = l .inv .1 k t r d in
+          let st = row-steps k _ _ _ _ d _ _ _ _ (i .0) (i .1) (c .before .before .before .before .before .before .before .before .before .before .before .before .before .before .before .if1 .taken) _ (c .before .before .before .before .before .before .before .before .before .before .before .before .before .before .before .before .before .loop .inv .3) (omega (arith, c .before .before .before .before .before .before .before .before .before .before .before .before .before .before .before .before .before .loop .inv .0, c .before .before .before .before .before .before .before .before .before .before .before .before .before .before .if2 .left)) _ _ (c .before .before .before .before .before .before .before .before .before .before .before .before .before .row-at .ensures .0) (c .before .before .before .before .before .before .before .before .before .before .before .before .before .row-at .ensures .1) in
+          let same = acts .2 _ _ (i .0) (running-a0 k _ _ _ _ (i .0) (i .1)) in
+          (step k (i .0), running-made k _ _ _ _ (i .0) (i .1) _ _ _ st same _ _ _ _ (m .1 .2) (m .0 _ (i .0) (i .1 .shows)), leads-on k _ t _ (i .0) (i .2) (st .on (acts .0)) (omega (arith, l .inv .0, more)) (step k (i .0)) refl),
       m .1 .2 ∙ l .inv .2,
       λ e. absurd (omega arith),
     )
@@ -196,6 +229,11 @@ run-on-spec =
     add-steps-2
     loop-less-2
     loop-again-2
+    enum-known-act-3
+    float-at-requires
+    add-steps-3
+    loop-less-3
+    loop-again-3
     enum-told
     same-length-4
     same-length-5

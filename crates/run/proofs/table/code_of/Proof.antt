@@ -1,4 +1,4 @@
--- The highest bit is added where a0 may have a part. Assumes nothing.
+-- The highest bit is added where the word is unusual. Assumes nothing.
 use native.Mathlib.Omega.{arith}
 use borrow.Author.Needs.{needs}
 use Rattle.run.proofs.table.code_of.Statement.{statement}

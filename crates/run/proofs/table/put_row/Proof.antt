@@ -49,8 +49,8 @@ slice-write-table-2 c =
 ways-of-requires : tie.Need-ways-of-requires
 ways-of-requires c κs = search needs
 
-looks-at-a0-requires : tie.Need-looks-at-a0-requires
-looks-at-a0-requires c κs = search needs
+is-unusual-requires : tie.Need-is-unusual-requires
+is-unusual-requires c κs = search needs
 
 code-of-requires : tie.Need-code-of-requires
 code-of-requires c κs =
@@ -83,8 +83,8 @@ returns c =
     let e = c .before .before .ways-of .ensures in
     let a = c .before .before .before .before .before .before .before .before .before .before .args in
     let fetch = c .before .before .before .before .word-at .result in
-    let ways = ways-from (waysOf (instrOf (a .p) (fetch .size) (toWord (fetch .word)))) (c .code-of .result) (c .before .looks-at-a0 .result) (near .next) (near .jump) (near .wait) (rw (← e) (c .code-of .ensures)) in
-    entered-three _ _ _ _ _ _ _ (p .3) fetched refl (ways .0) (λ l. c .before .looks-at-a0 .ensures (sym (ways .1) ∙ l))
+    let ways = ways-from (waysOf (instrOf (a .p) (fetch .size) (toWord (fetch .word)))) (c .code-of .result) (c .before .is-unusual .result) (near .next) (near .jump) (near .wait) (rw (← e) (c .code-of .ensures)) in
+    entered-three _ _ _ _ _ _ _ (p .3) fetched refl (ways .0) (λ l. c .before .is-unusual .ensures (sym (ways .1) ∙ l))
 
 returns-2 : tie.Need-returns-2
 returns-2 c =
@@ -105,7 +105,7 @@ put-row-spec =
     mul-table-2
     slice-write-table-2
     ways-of-requires
-    looks-at-a0-requires
+    is-unusual-requires
     code-of-requires
     add-table-2
     mul-table-3

@@ -1,5 +1,5 @@
 -- The tests are those of the definition. Assumes nothing.
-use borrow.Author.Tests.{lt-ltb, le-ltb}
+use borrow.Author.Tests.{lt-ltb, le-ltb, eq-eqb, ne-eqb}
 use native.Mathlib.Omega.{arith}
 use Rattle.words.proofs.types.size_of.Statement.{statement}
 use Rattle.words.proofs.types.size_of.Tie as tie
@@ -14,7 +14,16 @@ returns-3 : tie.Need-returns-3
 returns-3 c = (simp (le-ltb _ _ (c .before .before .if1 .left), le-ltb _ _ (c .before .if2 .left), lt-ltb _ _ (c .if3 .taken)), omega arith)
 
 returns-4 : tie.Need-returns-4
-returns-4 c = (simp (le-ltb _ _ (c .before .before .if1 .left), le-ltb _ _ (c .before .if2 .left), le-ltb _ _ (c .if3 .left)), omega arith)
+returns-4 c = (
+  simp (le-ltb _ _ (c .before .before .before .if1 .left), le-ltb _ _ (c .before .before .if2 .left), le-ltb _ _ (c .before .if3 .left), eq-eqb _ _ (c .if4 .taken)),
+  omega arith,
+)
+
+returns-5 : tie.Need-returns-5
+returns-5 c = (
+  simp (le-ltb _ _ (c .before .before .before .if1 .left), le-ltb _ _ (c .before .before .if2 .left), le-ltb _ _ (c .before .if3 .left), ne-eqb _ _ (c .if4 .left)),
+  omega arith,
+)
 
 pub size-of-spec : {M : Type 1} → statement M
-size-of-spec = tie.close (tie.spec returns returns-2 returns-3 returns-4)
+size-of-spec = tie.close (tie.spec returns returns-2 returns-3 returns-4 returns-5)

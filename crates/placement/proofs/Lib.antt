@@ -1,0 +1,4 @@
+mod Calling
+mod Joined
+mod Sixed
+mod SameBits

@@ -1,0 +1,3 @@
+-- What orders answer, on floats and by patterns.
+pub mod Orders
+pub mod Spots

@@ -1,0 +1,2 @@
+-- The table of restricted floats.
+pub mod Patterns
