@@ -11,7 +11,7 @@ use words::fields::part;
 use words::limits::REGISTER_BYTES;
 
 // What an address names: a byte of the register file, or none.
-#[derive(Drop)]
+#[derive(Clone, Copy)]
 pub enum Address {
     Byte(u64),
     Outside,

@@ -19,7 +19,7 @@ use words::operation::Plain;
 use words::traits::reads_two;
 
 // What an operation acts by: the word with its operands named directly; or nothing, where an address is broken.
-#[derive(Drop)]
+#[derive(Clone, Copy)]
 pub enum Settled {
     Acts(Word),
     Broken,

@@ -1,4 +1,6 @@
 // Answers as the one number in which they cross to C.
+#![tactic(auto)]
+
 ghost use Rattle.std.specs.Prelude.{◌≡◌, ◌^◌, ◌<◌};
 ghost use Rattle.paper.specs.Calls.{verdict, refusal, refusal_with, as_number};
 ghost use Rattle.words.specs.Answer.{answer_is};

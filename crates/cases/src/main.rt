@@ -1,4 +1,6 @@
 // The checking program's work on each file that the arguments name, one after the other: the file's name, then the four lines.
+#![tactic(auto)]
+
 use libc::STDOUT_FILENO;
 
 // The file that argument i names. False where there is no such argument, or no such file.

@@ -1,4 +1,6 @@
 // The checking program: a dictionary and a kernel on standard input, four lines on standard output.
+#![tactic(auto)]
+
 use libc::STDIN_FILENO;
 
 fn main() {

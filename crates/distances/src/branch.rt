@@ -13,7 +13,7 @@ use words::fields::operation;
 use words::operation::{Branch, Operation};
 
 // None, as of what is no branch, one or two, in the order in which they are judged.
-#[derive(Drop)]
+#[derive(Clone, Copy)]
 pub enum Distances {
     Nothing,
     One(Distance),

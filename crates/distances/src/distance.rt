@@ -10,7 +10,7 @@ use words::bytes::Word;
 use words::fields::{high_half, long_distance, low_half, short_distance};
 
 // Where a distance stands and from where it counts: bits 63:48, JIP's 111:96 or UIP's 127:112, from the instruction's own start; or 127:96, from its end.
-#[derive(Drop)]
+#[derive(Clone, Copy)]
 pub enum Distance {
     Near,
     Far,
@@ -19,7 +19,7 @@ pub enum Distance {
 }
 
 // Where a jump leads: to a place, or to what lies below place 0.
-#[derive(Drop)]
+#[derive(Clone, Copy)]
 pub enum Target {
     Place(u64),
     Below,

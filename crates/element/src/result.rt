@@ -1,6 +1,6 @@
 // The result of an operation on two numbers.
 ghost use Rattle.std.specs.Prelude.{◌≡◌, cond};
-ghost use Rattle.paper.specs.Element.{result};
+ghost use Rattle.paper.specs.Element.{result as whole_result};
 ghost use Rattle.words.specs.Operations.{plain_is};
 ghost use Rattle.element.specs.Biased.{ex};
 ghost use Rattle.element.specs.Operands.{Operands};
@@ -13,7 +13,7 @@ use words::operation::Plain;
 
 // The first where the predicate holds, else the second.
 fn select(holds: bool, a: u64, b: u64) -> u64
-    ensures* { λ r. ⌜ r ≡ cond holds a b ⌝ }
+    ensures { result ≡ cond holds a b }
 {
     if holds {
         return a;
@@ -24,7 +24,7 @@ fn select(holds: bool, a: u64, b: u64) -> u64
 // The result of an operation on src0's value a and src1's b. cmp reads the condition code, sel whether the predicate holds.
 pub fn compute(p: Plain, condition: u64, holds: bool, a: u64, b: u64) -> u64
     requires { Operands p a b }
-    ensures* { λ r. ⌜ ex r ≡ result (plain_is p) condition holds (ex a) (ex b) ⌝ }
+    ensures { ex result ≡ whole_result (plain_is p) condition holds (ex a) (ex b) }
 {
     match p {
         Plain::Mov => a,

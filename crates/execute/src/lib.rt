@@ -1,4 +1,6 @@
 // What an instruction that is no branch does to registers and flags.
+#![tactic(auto)]
+
 pub mod clamp;
 pub mod combine;
 pub mod compare;

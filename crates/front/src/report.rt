@@ -6,7 +6,7 @@ use kernel::check::check;
 use words::answer::Answer;
 
 // Named as the lines are.
-#[derive(Drop)]
+#[derive(Clone, Copy)]
 pub struct Report {
     pub verdict: u64,
     pub at: u64,

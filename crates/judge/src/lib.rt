@@ -1,4 +1,6 @@
 // The judge: rules 6 to 11 of one expanded word, each by itself and then in the table's order.
+#![tactic(auto)]
+
 mod dispatch;
 pub mod logic;
 pub mod operands;

@@ -22,7 +22,7 @@ use words::operation::{Branch, Operation, Plain, is_branch};
 use words::unusual::is_unusual;
 
 // What the judge says of a word: it passes, or the first rule that it breaks.
-#[derive(Drop)]
+#[derive(Clone, Copy)]
 pub enum Broken {
     Nothing,
     Reserved,

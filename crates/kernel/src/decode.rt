@@ -14,7 +14,7 @@ use words::bytes::Word;
 use words::limits::PLACES;
 
 // A refusal's number and offset; or the instruction's size in places of 8 bytes, and its word.
-#[derive(Drop)]
+#[derive(Clone, Copy)]
 pub enum Decoded {
     Refused(u8, u64),
     Passed(u8, Word),

@@ -10,7 +10,7 @@ use words::bytes::{Word, read8, read16};
 use words::fields::is_short;
 
 // Its size in places of 8 bytes, and its word.
-#[derive(Drop)]
+#[derive(Clone, Copy)]
 pub struct Fetched {
     pub size: u64,
     pub word: Word,

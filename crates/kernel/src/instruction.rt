@@ -17,7 +17,7 @@ use words::operation::{is_branch, is_listed};
 // Where a parameter `long` is true, only long words are taken. A parameter `regions` is the table of what source fields allow.
 
 // What is said of one instruction: a refusal's number; or its size in places of 8 bytes, and its word.
-#[derive(Drop)]
+#[derive(Clone, Copy)]
 pub enum Judged {
     Refused(u8),
     Passed(u8, Word),

@@ -16,7 +16,7 @@ use words::bytes::Word;
 use words::limits::PLACES;
 
 // The byte offset of a branch that goes astray, if there is one.
-#[derive(Drop)]
+#[derive(Clone, Copy)]
 pub enum Astray {
     Nowhere,
     Branch(u64),

@@ -1,4 +1,6 @@
 // A kernel: fetching an instruction, its judgement, the walk, the jumps, the check, whether jumps go forward, and decoding at a place.
+#![tactic(auto)]
+
 pub mod accept;
 pub mod check;
 pub mod decode;

@@ -12,7 +12,7 @@ use table::regions::FIELDS;
 use words::limits::{INSTRUCTION_LIMIT, PLACES};
 
 // What is said of a kernel: how many instructions it has; or a refusal's number, and the byte offset of what is refused.
-#[derive(Drop)]
+#[derive(Clone, Copy)]
 pub enum Said {
     Good(u64),
     Bad(u8, u64),

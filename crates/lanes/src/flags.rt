@@ -4,7 +4,7 @@ ghost use Rattle.paper.specs.Bits.{bit};
 ghost use Rattle.paper.specs.Enable.{flag_after};
 
 // f0.0 and f0.1.
-#[derive(Drop)]
+#[derive(Clone, Copy)]
 pub struct Flags {
     pub flag0: u64,
     pub flag1: u64,

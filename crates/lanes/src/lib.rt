@@ -1,4 +1,6 @@
 // Channels: masks and flags, elements read and stored.
+#![tactic(auto)]
+
 pub mod flags;
 pub mod load;
 pub mod mask;

@@ -1,5 +1,7 @@
 // The listing program: a dictionary and a kernel on standard input, as the checking program has them, and on standard output the kernel's listing; or the
 // checking program's four lines, where the kernel is refused.
+#![tactic(auto)]
+
 mod show;
 
 use libc::{STDIN_FILENO, STDOUT_FILENO};

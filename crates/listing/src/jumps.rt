@@ -9,7 +9,7 @@ use kernel::jumps::jump_lands;
 use words::limits::PLACES;
 
 // The byte at which the lines begin of a branch that goes astray, if there is one.
-#[derive(Drop)]
+#[derive(Clone, Copy)]
 pub enum Astray {
     Nowhere,
     Branch(u64),

@@ -1,4 +1,6 @@
 // Listings: a kernel listed as text, and a text read as a kernel.
+#![tactic(auto)]
+
 pub mod jumps;
 pub mod lay;
 pub mod lines;

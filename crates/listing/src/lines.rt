@@ -25,7 +25,7 @@ const LINES_BYTES: usize = 86;
 const DWORD: u64 = 4294967296;
 
 // An instruction's size in places and its word, and the byte after its lines; or there is none.
-#[derive(Drop)]
+#[derive(Clone, Copy)]
 pub enum Lines {
     Instruction(u64, Word, usize),
     Nothing,

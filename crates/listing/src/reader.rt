@@ -9,7 +9,7 @@ ghost use Rattle.kernel.specs.Standing.{Whole, Fetches};
 use kernel::fetch::{Fetched, word_at};
 
 // A kernel that is lent, and a place in it.
-#[derive(Drop)]
+#[derive(Clone, Copy)]
 pub struct Reader<'a> {
     pub kernel: &'a [u8],
     pub place: u64,

@@ -11,7 +11,7 @@ use table::regions::FIELDS;
 use words::limits::{INSTRUCTION_LIMIT, PLACES};
 
 // What is said of a text: how many places its kernel has; or the byte at which the first faulty lines begin.
-#[derive(Drop)]
+#[derive(Clone, Copy)]
 pub enum Scanned {
     Whole(u64),
     Faulty(u64),

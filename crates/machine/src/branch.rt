@@ -12,7 +12,7 @@ use lanes::mask::bit;
 use words::operation::Branch;
 
 // Who is awake after a branch, and the place that it leads to.
-#[derive(Drop)]
+#[derive(Clone, Copy)]
 pub struct Forked {
     pub awake: u64,
     pub place: u64,

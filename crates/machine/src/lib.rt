@@ -1,4 +1,6 @@
 // The machine: channels that are awake, wait or are off, branches, the lent state, one step.
+#![tactic(auto)]
+
 pub mod branch;
 pub mod channels;
 mod dispatch;

@@ -12,7 +12,7 @@ use lanes::mask::bit;
 use words::bytes::{read2, write2};
 
 // Flags, channels, and the place at which the next step is made. Registers are lent beside it, and a0's bytes stay where they are lent.
-#[derive(Drop)]
+#[derive(Clone, Copy)]
 pub struct State {
     pub flags: Flags,
     pub channels: Channels,

@@ -25,7 +25,7 @@ use words::fields::opcode;
 use words::operation::{Operation, Plain};
 
 // Where a run stands: the flags, who is awake, and the place of the next step. Registers are lent beside it, a0's bytes, and who waits where.
-#[derive(Drop)]
+#[derive(Clone, Copy)]
 pub struct Stand {
     pub flags: Flags,
     pub awake: u64,

@@ -1,4 +1,6 @@
 // Numbers as bytes, the lowest byte first: read and stored, of one, two, four and eight bytes.
+#![tactic(auto)]
+
 ghost use Rattle.std.specs.Prelude.{◌≡◌, ◌+◌, ◌<◌, ◌≤◌, ◌^◌, length};
 ghost use Rattle.paper.specs.Bits.{number_at, put_at};
 

@@ -1,4 +1,6 @@
 // What the channels of a source read, as numbers.
+#![tactic(auto)]
+
 pub mod beside;
 pub mod elements;
 pub mod floats;

@@ -1,4 +1,6 @@
 // Packing and unpacking: a kernel's instructions laid out anew, each distance rewritten.
+#![tactic(auto)]
+
 pub mod form;
 pub mod pack;
 pub mod place;

@@ -1,4 +1,6 @@
 // A tile's placement, the van's order for a tile, and the plain answers, on floats; `patterns` has them by the 32 bits that floats cross to C in.
+#![tactic(auto)]
+
 pub mod calls;
 mod fixed;
 pub mod patterns;
@@ -7,7 +9,7 @@ ghost use Rattle.std.specs.Prelude.{◌≡◌};
 ghost use Rattle.placement.specs.Orders.{placed_by, answered};
 
 // Six single floats: a·x + b·y + c and d·x + e·y + f.
-#[derive(Drop)]
+#[derive(Clone, Copy)]
 pub struct Placement {
     pub a: f32,
     pub b: f32,
@@ -18,14 +20,14 @@ pub struct Placement {
 }
 
 // Where something is.
-#[derive(Drop)]
+#[derive(Clone, Copy)]
 pub struct Point {
     pub x: f32,
     pub y: f32,
 }
 
 // Keep, shift by c and f, or place by a full record.
-#[derive(Drop)]
+#[derive(Clone, Copy)]
 pub enum Order {
     Keep,
     Shift(f32, f32),

@@ -9,7 +9,7 @@ use super::{Order, Placement, Point, answer};
 use single::value::{float_of, pattern_of};
 
 // The six patterns of a placement, as a record holds them and the fixed kernel is loaded with them.
-#[derive(Drop)]
+#[derive(Clone, Copy)]
 pub struct Record {
     pub a: u32,
     pub b: u32,
@@ -20,7 +20,7 @@ pub struct Record {
 }
 
 // A point by its patterns.
-#[derive(Drop)]
+#[derive(Clone, Copy)]
 pub struct Spot {
     pub x: u32,
     pub y: u32,

@@ -6,7 +6,7 @@ use Rattle.laws.specs.Calls.{Confined, pack_confined, unpack_confined, shorten_c
 use Rattle.paper.specs.Log.{entry, log_append_call, log_read_call, log_runs_call, log_run_call}
 use Rattle.paper.specs.Listing.{list_call, read_call}
 use Rattle.paper.specs.Placing.{Point, place_call, place_kernel_call, place_load_call}
-use Rattle.log.specs.Appends.{append_confined, run_confined}
+use Rattle.run_log.specs.Appends.{append_confined, run_confined}
 use Rattle.answers.specs.Logs.{log_append_fine, log_read_fine, log_runs_fine, log_run_fine}
 use Rattle.answers.specs.Listings.{list_fine, read_fine}
 use Rattle.answers.specs.Placings.{place_fine, place_kernel_fine, place_load_fine}

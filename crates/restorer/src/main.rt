@@ -1,5 +1,7 @@
 // The program that reads listings back: a dictionary and a listing on standard input, and the kernel on standard output. Where the text is refused nothing is
 // written there, and the four lines of the refusal go to standard error.
+#![tactic(auto)]
+
 use front::lines::{LINES_BYTES, put_report};
 use front::report::refused;
 use libc::{STDERR_FILENO, STDIN_FILENO, STDOUT_FILENO};

@@ -3,7 +3,7 @@ use words::limits::{DICTIONARY_BYTES, REGISTER_BYTES, STATE_LENGTH};
 
 // The sizes of what is lent; the last call's answer; the line's number, and whether its command is known; how many cases are right of how many, and
 // whether the one at hand is.
-#[derive(Drop)]
+#[derive(Clone, Copy)]
 pub struct Desk {
     pub kernel: usize,
     pub room: usize,

@@ -7,7 +7,7 @@ use crate::row::{ANSWER, HOLDS, Row, STANDS, WROTE};
 use crate::sizes::{BOARD, STATE};
 
 // How an expectation came out: as the row says, or with another number. Unasked where the row is none.
-#[derive(Drop)]
+#[derive(Clone, Copy)]
 pub enum Outcome {
     Unasked,
     Right,

@@ -2,7 +2,7 @@
 use crate::text::{byte_at, name_in, numbers_in};
 
 // The command, and the four numbers that follow it, or 0 where there are fewer.
-#[derive(Drop)]
+#[derive(Clone, Copy)]
 pub struct Row {
     pub key: u64,
     pub a: u64,

@@ -15,7 +15,7 @@ use words::operation::{Operation, Plain};
 
 // How a step is made: by a word whose operands are registers of whole numbers, by a mov of which an operand is a0, by an operation on floats, or not at all, an address
 // being broken.
-#[derive(Drop)]
+#[derive(Clone, Copy)]
 pub enum Act {
     Steps(Word),
     Moves(Word),

@@ -13,7 +13,7 @@ use words::answer::Answer;
 use words::limits::{BUDGET_LIMIT, PLACES, REGISTER_BYTES, STATE_LENGTH};
 
 // What is said of a kernel and a state before a step is made.
-#[derive(Drop)]
+#[derive(Clone, Copy)]
 pub enum Admission {
     Fine,
     Barred(u8, u64),

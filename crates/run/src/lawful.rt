@@ -6,8 +6,8 @@ ghost use Rattle.words.specs.Answer.{Left};
 ghost use Rattle.run.specs.Answers.{Sizes, Lawful, MarksLand, call_of};
 ghost use Rattle.run.specs.Opening.{Blank};
 
+use crate::ahead::{fill, put_row};
 use crate::running::run_on;
-use crate::table::{fill, put_row};
 use machine::ends::{enter, leave};
 use words::answer::Answer;
 use words::limits::{ADDRESSES_AT, PLACES};

@@ -7,11 +7,11 @@ ghost use Rattle.run.specs.Tables.{Tabled};
 ghost use Rattle.run.specs.Outcomes.{Ends};
 
 use crate::acting::{Act, acting};
-use crate::table::row_at;
+use crate::ahead::row_at;
 use machine::step::{Stand, float_at, move_at, step_at};
 
 // What a run comes to: 20 at the end, 21 with the budget spent or 22 at a broken address, the steps that were made, and where it stands.
-#[derive(Drop)]
+#[derive(Clone, Copy)]
 pub struct Outcome {
     pub verdict: u8,
     pub steps: u64,

@@ -21,7 +21,7 @@ use spokeshaver::{
 };
 
 // What a row's call answered; No where it makes none.
-#[derive(Drop)]
+#[derive(Clone, Copy)]
 pub enum Answered {
     No,
     With(u64),

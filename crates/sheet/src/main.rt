@@ -1,5 +1,7 @@
 // Runs the cases that the files of data/ write in rows, over the calls of the C boundary and the part that decoding hands back inside of Rattle. A line a
 // file: how many cases came out as they say, and before it a line for each row that did not. data/sheet.txt says how rows are written.
+#![tactic(auto)]
+
 mod call;
 mod obey;
 

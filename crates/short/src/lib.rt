@@ -1,4 +1,6 @@
 // Short words: the dictionary, expanding and shortening.
+#![tactic(auto)]
+
 pub mod calls;
 pub mod dictionary;
 pub mod expand;

@@ -16,7 +16,7 @@ use words::fields::{form_of, operation_in, part};
 use words::operation::is_branch;
 
 // A short word, or none.
-#[derive(Drop)]
+#[derive(Clone, Copy)]
 pub enum Shorter {
     Short(u64),
     NoShort,

@@ -1,6 +1,8 @@
 // The calls of the C boundary (include/spokeshaver.h): numbers and byte slices only. Each answers one number, by `as_number`, and leaves in what it is
 // lent what the paper's definition of the call says, for all inputs; nothing is required of bytes and numbers. What each promises stands in Contracts.antt of
 // the crate `contracts`, what follows from it in the crate `promises`.
+#![tactic(auto)]
+
 ghost use Rattle.contracts.specs.Contracts.{CheckPromise, ForwardPromise, PackPromise, UnpackPromise, PairPromise, ShortenPromise, ExpandPromise};
 ghost use Rattle.contracts.specs.Contracts.{DecodePromise, StartPromise, StepPromise, RunPromise};
 ghost use Rattle.contracts.specs.Contracts.{LogAppendPromise, LogReadPromise, LogRunsPromise, LogRunPromise, ListPromise, ReadPromise};
@@ -12,13 +14,13 @@ use kernel::decode::decode_size;
 use kernel::forward::forward;
 use listing::list::list;
 use listing::read::read;
-use log::calls::{append, append_run, whole_bytes, whole_runs};
-use log::write::Entry;
 use machine::start::start;
 use packer::pack::{pack, unpack};
 use pair::pair::pair;
 use placement::calls::{place, place_kernel, place_load};
 use run::calls::{run, step};
+use run_log::calls::{append, append_run, whole_bytes, whole_runs};
+use run_log::write::Entry;
 use short::calls::{expand_word, shorten_word};
 
 // Is the kernel accepted; the count is its instructions.

@@ -6,7 +6,7 @@ ghost use Rattle.text.specs.Meaning.{found_is, number_is};
 use crate::write::{put_hex8, put_line};
 
 // A text that is looked for stands there whole; or its beginning does, torn off by the end; or something else.
-#[derive(Drop)]
+#[derive(Clone, Copy)]
 pub enum Found {
     Whole,
     Torn,
@@ -14,7 +14,7 @@ pub enum Found {
 }
 
 // A number and the place after its text; or the text is torn off by the end; or something else stands there.
-#[derive(Drop)]
+#[derive(Clone, Copy)]
 pub enum Number {
     Value(u64, usize),
     Short,

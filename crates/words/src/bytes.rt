@@ -6,7 +6,7 @@ ghost use Rattle.words.specs.Words.{to_word};
 pub use numbers::{read2, read4, read8, write2, write4, write8};
 
 // A long word: its bits 63:0 and its bits 127:64.
-#[derive(Drop)]
+#[derive(Clone, Copy)]
 pub struct Word {
     pub lo: u64,
     pub hi: u64,

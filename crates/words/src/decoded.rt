@@ -15,7 +15,7 @@ use crate::operation::Operation;
 use crate::region::{Region, dst_region};
 
 // Which channels work, and on what conditions. The size is a code.
-#[derive(Drop)]
+#[derive(Clone, Copy)]
 pub struct Control {
     pub size: u64,
     pub quarter: u64,
@@ -28,7 +28,7 @@ pub struct Control {
 }
 
 // The control fields that no step looks at: AccessMode, DepCtrl, ThreadCtrl, AccWrCtrl, CmptCtrl, DebugCtrl.
-#[derive(Drop)]
+#[derive(Clone, Copy)]
 pub struct Carried {
     pub access: u64,
     pub dependency: u64,
@@ -39,7 +39,7 @@ pub struct Carried {
 }
 
 // Where a result goes: its register file, its type, its AddrMode and its region.
-#[derive(Drop)]
+#[derive(Clone, Copy)]
 pub struct Destination {
     pub file: u64,
     pub kind: u64,
@@ -48,7 +48,7 @@ pub struct Destination {
 }
 
 // Where a source comes from: its register file, its type, its modifier, its AddrMode and what it names.
-#[derive(Drop)]
+#[derive(Clone, Copy)]
 pub struct Input {
     pub file: u64,
     pub kind: u64,
@@ -58,7 +58,7 @@ pub struct Input {
 }
 
 // A word, taken apart. `near` is the distance of if, else, endif and while, `far` is jmpi's, `jip` and `uip` are those of break and cont.
-#[derive(Drop)]
+#[derive(Clone, Copy)]
 pub struct Decoded {
     pub operation: Operation,
     pub control: Control,

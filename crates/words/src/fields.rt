@@ -13,7 +13,7 @@ use crate::bytes::Word;
 use crate::operation::{Operation, operation_of};
 
 // The first or the second source.
-#[derive(Drop)]
+#[derive(Clone, Copy)]
 pub enum Source {
     First,
     Second,

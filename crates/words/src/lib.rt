@@ -1,4 +1,6 @@
 // Long words: their bytes, fields, types, operands and operations, what the rules ask of an operation, and what the bench holds.
+#![tactic(auto)]
+
 pub mod addresses;
 pub mod answer;
 pub mod bytes;

@@ -12,7 +12,7 @@ use crate::region::{Region, src_region};
 use crate::types::size_of;
 
 // An immediate's pattern, as many of its low bits as its type has; the 32 bits of four restricted floats; or where the elements lie.
-#[derive(Drop)]
+#[derive(Clone, Copy)]
 pub enum Operand {
     Fixed(u64),
     Vector(u64),

@@ -4,7 +4,7 @@ ghost use Rattle.paper.specs.Operation.{operation_of, is_branch, is_listed};
 ghost use Rattle.words.specs.Operations.{operation_is};
 
 // Operations that make a result of their sources.
-#[derive(Drop)]
+#[derive(Clone, Copy)]
 pub enum Plain {
     Mov,
     Sel,
@@ -21,7 +21,7 @@ pub enum Plain {
     Avg,
 }
 
-#[derive(Drop)]
+#[derive(Clone, Copy)]
 pub enum Branch {
     Jmpi,
     If,
@@ -32,7 +32,7 @@ pub enum Branch {
     Cont,
 }
 
-#[derive(Drop)]
+#[derive(Clone, Copy)]
 pub enum Operation {
     Makes(Plain),
     Nop,

@@ -15,7 +15,7 @@ use crate::fields::{
 use crate::types::size_of;
 
 // The byte at which a region begins, its strides from row to row and from channel to channel, in elements, the code of a row's width, and an element's bytes.
-#[derive(Drop)]
+#[derive(Clone, Copy)]
 pub struct Region {
     pub origin: usize,
     pub vert: usize,

@@ -9,7 +9,7 @@ use crate::operation::Plain;
 
 // The operation reads two sources, and else one; Saturate is served on it; its sources may have modifiers; floats are served on it; it is cmp,
 // which sets flags; its predicate masks its channels.
-#[derive(Drop)]
+#[derive(Clone, Copy)]
 pub struct Row {
     pub two: bool,
     pub saturates: bool,

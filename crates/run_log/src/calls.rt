@@ -1,0 +1,102 @@
+// The calls: the log is the first bytes of a lent buffer, their count given.
+ghost use Rattle.std.specs.Prelude.{◌≡◌, length};
+ghost use Rattle.paper.specs.Limits.{state_length};
+ghost use Rattle.paper.specs.Log.{log_sized, log_read_call, log_runs_call, log_part, log_append_call, entry_of, log_run_call};
+ghost use Rattle.words.specs.Answer.{answer_is, Wrote};
+ghost use Rattle.run_log.specs.Meaning.{entry_is};
+
+use crate::read::{Reading, read};
+use crate::write::{Entry, add, legal};
+use lanes::mask::count_awake;
+use words::answer::Answer;
+use words::bytes::read2;
+use words::limits::STATE_LENGTH;
+
+// The count is within the buffer, and the buffer within a count of 32 bits.
+fn sized(log: &[u8], count: u64) -> bool
+    ensures { result ≡ log_sized log.now count }
+{
+    let length = log.len() as u64;
+    (count <= length) & (length < 4294967296)
+}
+
+// How many bytes the whole records take.
+pub fn whole_bytes(log: &[u8], count: u64) -> Answer
+    ensures { answer_is result ≡ log_read_call log.now count }
+{
+    if !sized(log, count) {
+        return Answer::Refused(1, 0);
+    }
+    match read(&log[..count as usize]) {
+        Reading::Readable(_, bytes) => Answer::Told(0, bytes as u64),
+        Reading::Unreadable => Answer::Refused(32, 0),
+    }
+}
+
+// How many records are whole.
+pub fn whole_runs(log: &[u8], count: u64) -> Answer
+    ensures { answer_is result ≡ log_runs_call log.now count }
+{
+    if !sized(log, count) {
+        return Answer::Refused(1, 0);
+    }
+    match read(&log[..count as usize]) {
+        Reading::Readable(runs, _) => Answer::Told(0, runs),
+        Reading::Unreadable => Answer::Refused(32, 0),
+    }
+}
+
+// The whole records, as a part of the buffer; empty on refusal.
+pub fn whole<'a>(log: &'a [u8], count: u64) -> &'a [u8]
+    ensures { result.now ≡ log_part log.now count }
+{
+    if !sized(log, count) {
+        return &log[..0];
+    }
+    match read(&log[..count as usize]) {
+        Reading::Readable(_, bytes) => &log[..bytes],
+        Reading::Unreadable => &log[..0],
+    }
+}
+
+// Appends a record.
+pub fn append(log: &mut [u8], count: u64, e: Entry) -> Answer
+    ensures { Wrote (log_append_call log.old count (entry_is e)) result log.new }
+{
+    if !sized(log, count) {
+        return Answer::Refused(1, 0);
+    }
+    if !legal(e) {
+        return Answer::Refused(32, 0);
+    }
+    match read(&log[..count as usize]) {
+        Reading::Readable(runs, bytes) => add(log, count, runs, bytes, e),
+        Reading::Unreadable => Answer::Refused(32, 0),
+    }
+}
+
+// What a run leaves in the log, by its answer as it crossed to C and its state.
+fn entry_of(answer: u64, state: &[u8]) -> Entry
+    requires { length state.now ≡ state_length }
+    ensures { entry_is result ≡ entry_of answer state.now }
+{
+    let place = read2(state, 4);
+    let awake = read2(state, 6);
+    let count = count_awake(awake as u16) as u64;
+    Entry {
+        verdict: answer % 256,
+        steps: answer / 4294967296,
+        place: place,
+        awake: count,
+    }
+}
+
+// Appends what a run answered and the state that it left.
+pub fn append_run(log: &mut [u8], count: u64, answer: u64, state: &[u8]) -> Answer
+    ensures { Wrote (log_run_call log.old count answer state.now) result log.new }
+{
+    if state.len() != STATE_LENGTH {
+        return Answer::Refused(1, 0);
+    }
+    append(log, count, entry_of(answer, state))
+}
