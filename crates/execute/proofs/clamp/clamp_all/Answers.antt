@@ -1,0 +1,17 @@
+-- What is not clamped has the low bits of what it stands for. Assumes nothing.
+use mathlib.Core.Path.{refl}
+use lib.ListN.{get_or}
+use Rattle.execute.specs.Results.{Kept, kept_stays}
+use Rattle.execute.proofs.clamp.clamp_all.Goals as goal
+
+pub returns-then-saturated : goal.returns-then-saturated
+returns-then-saturated c = rw c.if-saturated.true c.clamp_each.ensures
+
+pub returns : goal.returns
+unfolding Kept
+returns c =
+    rw c.if-saturated.false (record {
+      sixteen = c.requires.1;
+      done = λ k h. kept_stays c.args.kind (get_or c.args.values.now k 0);
+      kept = λ k h. refl;
+    })

@@ -1,0 +1,21 @@
+-- The flag is made of the masks that the contract names. Assumes nothing.
+use mathlib.Core.Path.{sym, ap, ◌∙◌}
+use native.Mathlib.Omega.{arith}
+use Rattle.words.specs.Words.{to_word}
+use Rattle.execute.proofs.Executed.{flag_from_lem}
+use Rattle.execute.specs.Compared.{lowest_bits}
+use Rattle.execute.proofs.compare.compared.Goals as goal
+
+pub channels-n-requires : goal.channels-n-requires
+channels-n-requires c = c.requires.0
+
+pub flag_after-flag-requires : goal.flag_after-flag-requires
+flag_after-flag-requires c =
+    rw (c.channels-n.ensures.0, c.qtr_ctrl-quarter.ensures.0) (omega (arith, c.requires.1))
+
+pub returns : goal.returns
+returns c =
+    λ results e.
+    let made = flag_from_lem (to_word c.args.w) c.chosen.result c.args.enable _ _ _ _ _ results c.channels-n.ensures.0 c.qtr_ctrl-quarter.ensures.0
+    (e ∙ ap (lowest_bits results) (sym c.channels-n.ensures.0)) c.raised_mask-found.ensures c.flag_after-flag.ensures.0 in
+    rw (← c.chosen.ensures, ← made) c.with_chosen.ensures

@@ -1,0 +1,29 @@
+-- The test is the choice of the definition, and what is handed to `store_each` is the destination's region, which lies inside its file. Assumes nothing.
+use mathlib.Core.Path.{◌≡◌, ap}
+use mathlib.Core.Bool.{false}
+use Rattle.paper.specs.Word.{dst_type, is_null}
+use Rattle.paper.specs.Region.{Region}
+use Rattle.words.specs.Words.{to_word}
+use Rattle.lanes.specs.Sizes.{type_size}
+use Rattle.operands.specs.Sources.{count-channels}
+use Rattle.execute.specs.Effects.{written}
+use Rattle.execute.proofs.destination.write_by_element.Goals as goal
+
+pub returns-then-is_null : goal.returns-then-is_null
+unfolding written
+returns-then-is_null c = rw (← c.is_null.ensures, c.if-is_null.true)
+
+pub dst_region-r-requires : goal.dst_region-r-requires
+dst_region-r-requires c = c.dst_is_a0.ensures
+
+pub store_each-requires : goal.store_each-requires
+store_each-requires c =
+    let w = to_word c.args.w in
+    let kept : is_null w ≡ false = rw (← c.is_null.ensures) c.if-is_null.false in
+    rw (c.channels.ensures.0, ap (λ (s' : Region). s'.origin) c.dst_region-r.ensures.0, ap (λ (s' : Region). s'.vert) c.dst_region-r.ensures.0, ap (λ (s' : Region). s'.size) c.dst_region-r.ensures.0)
+    ((type_size (dst_type w) c.requires.0.type, count-channels w c.requires.0.count), λ k h. rw c.requires.1 (c.requires.0.inside kept k h))
+
+pub returns : goal.returns
+unfolding written
+returns c =
+    rw (← c.is_null.ensures, c.if-is_null.false, c.store_each.ensures, c.channels.ensures.0, ap (λ (s : Region). s.origin) c.dst_region-r.ensures.0, ap (λ (s : Region). s.vert) c.dst_region-r.ensures.0, ap (λ (s : Region). s.size) c.dst_region-r.ensures.0)

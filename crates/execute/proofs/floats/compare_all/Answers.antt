@@ -1,0 +1,21 @@
+-- The loop's invariant: the results of the channels passed are made. Its measure: the channels left. Assumes nothing.
+use mathlib.Core.Path.{◌≡◌, ap, ◌∙◌}
+use Prim.Native.Nat.{◌-◌}
+use native.Mathlib.Omega.{arith}
+use Rattle.paper.specs.Element.{one_if, float_result}
+use Rattle.lanes.specs.Mapped.{mapped_none, mapped_more}
+use Rattle.execute.specs.Floats.{Reckoned, one_told}
+use Rattle.execute.proofs.floats.compare_all.Goals as goal
+
+pub loop-k-init : goal.loop-k-init
+unfolding Reckoned
+loop-k-init c = (omega arith, mapped_none _ _ c.requires.1)
+
+pub loop-k-preserved : goal.loop-k-preserved
+unfolding Reckoned float_result
+loop-k-preserved c = (omega arith, mapped_more _ c.loop-k.k _ _ _ (omega arith) c.loop-k.invariant.1 (one_told c.compare_pattern.result _ c.one_if.ensures ∙ ap one_if c.compare_pattern.ensures))
+
+pub returns : goal.returns
+returns c =
+    let e : c.loop-k.k ≡ c.args.n = omega arith in
+    rw (← e) c.loop-k.invariant.1

@@ -1,0 +1,5 @@
+-- The masks are those of the contract. Assumes nothing.
+use Rattle.machine.proofs.posts.post.Goals as goal
+
+pub returns : goal.returns
+returns c = (cc, cc)

@@ -1,0 +1,6 @@
+-- One byte writes itself. Assumes nothing.
+use Rattle.numbers.specs.Bytes.{one_read}
+use Rattle.numbers.proofs.read1.Goals as goal
+
+pub returns : goal.returns
+returns c = rw one_read c.wide.ensures.0

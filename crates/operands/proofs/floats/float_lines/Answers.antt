@@ -1,0 +1,30 @@
+-- The loop's invariant: the elements of the channels passed are read. Its measure: the channels left. Assumes nothing.
+use mathlib.Core.Path.{◌≡◌, ap, ◌∙◌}
+use Prim.Native.Nat.{ℕ, ◌-◌}
+use native.Mathlib.Omega.{arith}
+use Rattle.lanes.specs.Mapped.{mapped_none, mapped_more}
+use Rattle.paper.specs.Bits.{number_at}
+use Rattle.operands.proofs.floats.float_lines.Goals as goal
+
+pub loop-k-init : goal.loop-k-init
+loop-k-init c = (omega arith, mapped_none _ _ c.requires.2)
+
+pub element_at-from-requires : goal.element_at-from-requires
+element_at-from-requires c =
+    let p = c.requires in
+    (p.0, omega arith)
+
+pub read4-requires : goal.read4-requires
+read4-requires c = rw c.element_at-from.ensures.0 (c.requires.3 c.loop-k.k c.loop-k-test.true)
+
+pub loop-k-preserved : goal.loop-k-preserved
+loop-k-preserved c = (
+  omega arith,
+  mapped_more _ c.loop-k.k _ _ _ (omega arith) c.loop-k.invariant.1
+      (c.read4.ensures.0 ∙ ap (λ (i : ℕ). number_at c.args.registers.now i 4) c.element_at-from.ensures.0, c.read4.ensures.1),
+)
+
+pub returns : goal.returns
+returns c =
+    let e : c.loop-k.k ≡ c.args.n = omega arith in
+    rw (← e) c.loop-k.invariant.1

@@ -1,0 +1,51 @@
+-- An immediate is the same for all channels; elements are gathered and modified. Assumes nothing.
+use mathlib.Core.Bool.{true≢false}
+use mathlib.Core.Path.{sym, ap, ◌∙◌}
+use Rattle.paper.specs.Value.{size_of}
+use Rattle.paper.specs.Word.{src1}
+use Rattle.words.specs.Words.{to_word}
+use Rattle.words.specs.Operands.{fixed_told, vector_told, direct_told}
+use Rattle.operands.specs.Sources.{operand_fixed, operand_direct, elements_near, elements_sixteen, count-channels, channels_some, region_read}
+use Rattle.operands.proofs.sources.second_operand.Goals as goal
+
+pub operand_of-o-requires : goal.operand_of-o-requires
+operand_of-o-requires c = ((λ e. c.requires.0.whole), sym c.requires.4)
+
+pub load-number-requires : goal.load-number-requires
+load-number-requires c =
+    let w = to_word c.args.w in
+    let t = fixed_told src1 w _ c.operand_of-o.ensures _ c.in-Fixed.is in
+    rw c.src_type-kind.ensures.0 (c.requires.0.type, t.2)
+
+pub spread-requires : goal.spread-requires
+spread-requires c =
+    let w = to_word c.args.w in
+    (rw c.requires.1 (count-channels w c.requires.0.count), c.requires.3)
+
+pub gather-requires : goal.gather-requires
+gather-requires c =
+    let w = to_word c.args.w in
+    let t = direct_told src1 w _ c.operand_of-o.ensures _ c.in-Direct.is in record { small = (t.2, t.3 ∙ sym (ap size_of c.src_type-kind.ensures.0), rw c.requires.1 (channels_some w), rw c.requires.1 (count-channels w c.requires.0.count), c.requires.3, rw c.src_type-kind.ensures.0 c.requires.0.type); by_index = region_read src1 w _ c.requires.0 t.0 t.1 _ _ c.requires.1 c.requires.2 }
+
+pub modify_all-requires : goal.modify_all-requires
+modify_all-requires c =
+    let w = to_word c.args.w in
+    (rw c.requires.1 (count-channels w c.requires.0.count), elements_sixteen _ _ _ _ _ _ _ c.gather.ensures, elements_near _ _ _ _ _ _ _ c.gather.ensures)
+
+pub returns-in-Fixed : goal.returns-in-Fixed
+returns-in-Fixed c =
+    let w = to_word c.args.w in
+    let t = fixed_told src1 w _ c.operand_of-o.ensures _ c.in-Fixed.is in
+    operand_fixed w c.args.registers.now src1 _ _ _ c.requires.0 _ _ _ t.0 c.src_type-kind.ensures.0 t.1 c.load-number.ensures c.spread.ensures
+
+pub returns-in-Vector : goal.returns-in-Vector
+returns-in-Vector c =
+    let w = to_word c.args.w in
+    let t = vector_told src1 w _ c.operand_of-o.ensures _ c.in-Vector.is in
+    absurd (true≢false (sym t.0 ∙ c.requires.0.whole))
+
+pub returns-in-Direct : goal.returns-in-Direct
+returns-in-Direct c =
+    let w = to_word c.args.w in
+    let t = direct_told src1 w _ c.operand_of-o.ensures _ c.in-Direct.is in
+    operand_direct w c.args.registers.now src1 _ _ _ c.requires.0 _ _ _ _ t.0 c.src_type-kind.ensures.0 c.src_modifier.ensures.0 t.1 c.gather.ensures c.modify_all.ensures

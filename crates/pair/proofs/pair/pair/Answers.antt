@@ -1,0 +1,28 @@
+-- What is said of the long kernel refuses it, or the sent one is looked at. Assumes nothing.
+use mathlib.Core.Bool.{true}
+use Rattle.packer.specs.Forms.{kernel_of}
+use Rattle.pair.specs.Answers.{said_bad, said_good, said_taken, said_count, paired_bad, paired_good}
+use Rattle.pair.proofs.pair.pair.Goals as goal
+
+pub with_sent-requires : goal.with_sent-requires
+with_sent-requires c =
+    let d = c.args.dictionary.now in
+    let long = c.args.long.now in
+    let says = c.accept.ensures in
+    let e = c.in-Good.is in
+    (said_taken true d long _ _ says _ e, said_count true d long _ _ says _ e)
+
+pub returns-in-Good : goal.returns-in-Good
+returns-in-Good c =
+    let d = c.args.dictionary.now in
+    let long = c.args.long.now in
+    let sent = c.args.sent.now in
+    let e = said_good true d long _ _ c.accept.ensures _ c.in-Good.is in
+    paired_good d long sent (kernel_of true d long) e _ c.with_sent.ensures
+
+pub returns-in-Bad : goal.returns-in-Bad
+returns-in-Bad c =
+    let d = c.args.dictionary.now in
+    let long = c.args.long.now in
+    let sent = c.args.sent.now in
+    paired_bad d long sent _ _ (said_bad true d long _ _ c.accept.ensures _ _ c.in-Bad.is)

@@ -1,0 +1,13 @@
+-- The loop's invariant: the table has the instructions below place p. Its measure: the places left. Assumes nothing.
+use mathlib.Core.Path.{◌≡◌}
+use Prim.Native.Nat.{◌-◌, ◌≤◌}
+use lib.ListN.{length}
+use Rattle.run.specs.Kernels.{instructions}
+use Rattle.run.specs.Tables.{TabledTo}
+use Rattle.run.proofs.ahead.fill.Given as goal
+
+abbrev pub invariant-loop-p : goal.invariant-loop-p
+invariant-loop-p l = (l.p ≤ l.end) × TabledTo (instructions l.dictionary l.kernel) l.table l.p × (length l.table ≡ length l.initial.table)
+
+abbrev pub decreases-loop-p : goal.decreases-loop-p
+decreases-loop-p l = l.end - l.p

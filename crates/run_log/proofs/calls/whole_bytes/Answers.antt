@@ -1,0 +1,19 @@
+-- By the buffer's size and what was read. Assumes nothing.
+use mathlib.Core.Path.{sym, ap, ◌∙◌}
+use Rattle.run_log.specs.Meaning.{reading_is}
+use Rattle.run_log.specs.Calls.{part_length, read_unsized, read_is}
+use Rattle.run_log.proofs.calls.whole_bytes.Goals as goal
+
+pub returns-then-not-sized : goal.returns-then-not-sized
+returns-then-not-sized c = read_unsized _ _ (sym c.sized.ensures ∙ c.if-not-sized.true)
+
+pub slice_bounds-read-end : goal.slice_bounds-read-end
+slice_bounds-read-end c = part_length _ _ (sym c.sized.ensures ∙ c.if-not-sized.false)
+
+pub returns-in-Readable : goal.returns-in-Readable
+returns-in-Readable c =
+    read_is _ _ _ (sym c.sized.ensures ∙ c.if-not-sized.false) (sym c.read.ensures.0 ∙ ap reading_is c.in-Readable.is)
+
+pub returns-in-Unreadable : goal.returns-in-Unreadable
+returns-in-Unreadable c =
+    read_is _ _ _ (sym c.sized.ensures ∙ c.if-not-sized.false) (sym c.read.ensures.0 ∙ ap reading_is c.in-Unreadable.is)

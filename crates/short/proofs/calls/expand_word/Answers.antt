@@ -1,0 +1,26 @@
+-- Each return is a case of `expand_call`: 1 twice, 2, 4, 5 twice, and what `deliver` says. Assumes nothing.
+use mathlib.Core.Path.{sym, ap, ◌∙◌}
+use Rattle.paper.specs.Operation.{is_listed, is_branch}
+use Rattle.short.proofs.Calling.{as_written, as_called, expand_size, expand-length, expand_range, expand_unlisted, expand_long, expand_branch, expand_answer}
+use Rattle.short.proofs.calls.expand_word.Goals as goal
+
+pub returns-then-dictionary-ne-DICTIONARY_BYTES : goal.returns-then-dictionary-ne-DICTIONARY_BYTES
+returns-then-dictionary-ne-DICTIONARY_BYTES c = as_written _ _ _ (expand_size _ _ _ c.if-dictionary-ne-DICTIONARY_BYTES.true)
+
+pub returns-then-word-ne8 : goal.returns-then-word-ne8
+returns-then-word-ne8 c = as_written _ _ _ (expand-length _ _ _ c.if-dictionary-ne-DICTIONARY_BYTES.false c.if-word-ne8.true)
+
+pub returns-then-not-in_range : goal.returns-then-not-in_range
+returns-then-not-in_range c = as_written _ _ _ (expand_range _ _ _ c.if-dictionary-ne-DICTIONARY_BYTES.false c.if-word-ne8.false (sym c.in_range.ensures ∙ c.if-not-in_range.true))
+
+pub returns-then-not-is_listed : goal.returns-then-not-is_listed
+returns-then-not-is_listed c = as_written _ _ _ (expand_unlisted _ _ _ c.if-dictionary-ne-DICTIONARY_BYTES.false c.if-word-ne8.false (sym c.in_range.ensures ∙ c.if-not-in_range.false) _ c.read8-s.ensures (sym (c.is_listed.ensures ∙ ap is_listed c.operation_in.ensures) ∙ c.if-not-is_listed.true))
+
+pub returns-then-not-is_short : goal.returns-then-not-is_short
+returns-then-not-is_short c = as_written _ _ _ (expand_long _ _ _ c.if-dictionary-ne-DICTIONARY_BYTES.false c.if-word-ne8.false (sym c.in_range.ensures ∙ c.if-not-in_range.false) _ c.read8-s.ensures (sym (c.is_listed.ensures ∙ ap is_listed c.operation_in.ensures) ∙ c.if-not-is_listed.false) (sym c.is_short.ensures ∙ c.if-not-is_short.true))
+
+pub returns-then-is_branch : goal.returns-then-is_branch
+returns-then-is_branch c = as_written _ _ _ (expand_branch _ _ _ c.if-dictionary-ne-DICTIONARY_BYTES.false c.if-word-ne8.false (sym c.in_range.ensures ∙ c.if-not-in_range.false) _ c.read8-s.ensures (sym (c.is_listed.ensures ∙ ap is_listed c.operation_in.ensures) ∙ c.if-not-is_listed.false) (sym c.is_short.ensures ∙ c.if-not-is_short.false) (sym (c.is_branch.ensures ∙ ap is_branch c.operation_in-2.ensures) ∙ c.if-is_branch.true))
+
+pub returns : goal.returns
+returns c = as_called _ _ _ _ (expand_answer _ _ _ c.if-dictionary-ne-DICTIONARY_BYTES.false c.if-word-ne8.false (sym c.in_range.ensures ∙ c.if-not-in_range.false) _ c.read8-s.ensures (sym (c.is_listed.ensures ∙ ap is_listed c.operation_in.ensures) ∙ c.if-not-is_listed.false) _ (sym c.is_short.ensures ∙ c.if-not-is_short.false) (sym (c.is_branch.ensures ∙ ap is_branch c.operation_in-2.ensures) ∙ c.if-is_branch.false) c.expand-w.ensures) c.deliver16.ensures
