@@ -1,10 +1,12 @@
 -- The four numbers that the checking program prints, and their text (the paper, "The checking program"). Assumes nothing.
 use Rattle.std.proofs.Math.Bool.{and-false}
-use Rattle.std.specs.Prelude.{List, [], ◌∷◌, ◌++◌, ◌≡◌, ℕ, ◌+◌, ◌<◌, ◌≤◌, length, take}
-use Rattle.std.proofs.Common.{sym, ap, ◌∙◌, arith, length-take}
+use Rattle.std.specs.Prelude.{List, [], ◌∷◌, ◌++◌, ◌≡◌, refl, ℕ, zero, suc, ◌+◌, ◌<◌, ◌≤◌, length, take, drop}
+use Rattle.std.proofs.Common.{sym, ap, ◌∙◌, arith, ⊎_elim, length-take, take_all}
+use Rattle.std.proofs.lemmas.List.{drop-take}
 use Rattle.std.proofs.lemmas.Bool.{lt-leb}
-use Rattle.paper.specs.Limits.{kernel_bytes}
+use Rattle.paper.specs.Limits.{dictionary_bytes, kernel_bytes}
 use Rattle.paper.specs.Text.{decimal, line}
+use Rattle.text.specs.Decimals.{below}
 use Rattle.paper.specs.Log.{verdict_name}
 use Rattle.paper.specs.Calls.{Answer, verdict, refusal, refusal_with, check_call, accepted}
 use Rattle.front.specs.declared.report.Report.{Report}
@@ -50,6 +52,10 @@ printed_text p =
 abbrev pub check_text : List ℕ → List ℕ → List ℕ
 check_text dictionary kernel = printed_text (printed dictionary kernel)
 
+-- What it writes for an input: the first bytes are the dictionary, what follows is the kernel.
+unfoldable pub input_text : List ℕ → List ℕ
+input_text input = check_text (take dictionary_bytes input) (drop dictionary_bytes input)
+
 -- ---- laws
 
 pub printed_by : (dictionary kernel : List ℕ) (a : Answer) → check_call dictionary kernel ≡ a → printed dictionary kernel ≡ printed_as a (length kernel)
@@ -68,3 +74,25 @@ printed_cut dictionary kernel h =
     let most : kernel_bytes + 1 ≤ length kernel = omega arith in
     let still : kernel_bytes < length (take (kernel_bytes + 1) kernel) = simp length-take (omega arith) in
     printed_over dictionary kernel h ∙ sym (printed_over dictionary (take (kernel_bytes + 1) kernel) still)
+
+pub take_in : (n k : ℕ) (l : List ℕ) → n ≤ k → take n (take k l) ≡ take n l
+take_in zero k l h = refl
+take_in (suc n) zero l h = absurd (omega arith)
+take_in (suc n) (suc k) [] h = refl
+take_in (suc n) (suc k) (x ∷ l) h = ap (λ (t : List ℕ). x ∷ t) (take_in n k l (omega arith))
+
+-- Of a kernel one byte more than is allowed is enough.
+printed_start : (dictionary kernel : List ℕ) → printed dictionary (take (kernel_bytes + 1) kernel) ≡ printed dictionary kernel
+printed_start dictionary kernel =
+    ⊎_elim
+    (λ h. sym (printed_cut dictionary kernel h))
+    (λ h. ap (printed dictionary) (take_all (kernel_bytes + 1) kernel (omega arith)))
+    (below kernel_bytes (length kernel))
+
+-- So what follows the first 66,049 bytes of an input changes nothing.
+pub input_cut : (input : List ℕ) → input_text (take 66049 input) ≡ input_text input
+unfolding input_text
+input_cut input =
+    ap (λ (d : List ℕ). check_text d (drop dictionary_bytes (take 66049 input))) (take_in dictionary_bytes 66049 input (omega arith))
+    ∙ (ap (check_text (take dictionary_bytes input)) (drop-take dictionary_bytes (kernel_bytes + 1) input)
+    ∙ ap printed_text (printed_start (take dictionary_bytes input) (drop dictionary_bytes input)))

@@ -1,16 +1,62 @@
-// Reads a dictionary and a kernel from a descriptor, and writes the four lines.
+// Reads a dictionary and a kernel, and writes the four lines.
+ghost use Rattle.std.specs.Prelude.{◌≡◌, IfOk, IfSome, OnOk, take};
+ghost use Rattle.std.specs.Io.KnownBytes.{Appends};
+ghost use Rattle.front.specs.Printed.{input_text};
+
 use crate::lines::{LINES_BYTES, lines_on};
-use libc::STDOUT_FILENO;
+use std::alloc::Global;
+use std::io;
+use std::io::{Read, Write};
 use words::limits::{DICTIONARY_BYTES, KERNEL_BYTES};
 
-// The first bytes are the dictionary, what follows is the kernel. Of a kernel that is too long, one byte more than is allowed is read, so that it is
-// refused as too long; what follows that byte changes nothing (`printed-cut`) and stays unread.
-pub fn talk(descriptor: i32) {
-    let mut dictionary = [0u8; DICTIONARY_BYTES];
-    let d = io::read_full(descriptor, &mut dictionary);
-    let mut kernel = [0u8; KERNEL_BYTES + 1];
-    let k = io::read_full(descriptor, &mut kernel);
+// As much as is read: a dictionary, and of a kernel one byte more than is allowed.
+pub const INPUT_BYTES: u64 = (DICTIONARY_BYTES + KERNEL_BYTES + 1) as u64;
+
+// The first bytes of what a reader has left, so many at the most.
+pub fn first_bytes<R: Read>(alloc: Global, reader: &mut R, most: u64) -> io::Result<Vec<u8>>
+    ensures { IfOk result (λ v. IfSome (R.remaining reader.old) (λ xs. v.items ≡ take most xs)) }
+{
+    let mut bytes = Vec::new(alloc);
+    reader.take(most).read_to_end(&mut bytes)?;
+    Ok(bytes)
+}
+
+// Writes the four lines on an input.
+pub fn put_lines<W: Write>(writer: &mut W, input: &[u8]) -> io::Result<()>
+    ensures { OnOk result (Appends (W.contents writer.old) (W.contents writer.new) (input_text input.now)) }
+{
+    let (dictionary, kernel) = input.split_at(DICTIONARY_BYTES.min(input.len()));
     let mut text = [0u8; LINES_BYTES];
-    let n = lines_on(&dictionary[..d], &kernel[..k], &mut text);
-    io::write_all(STDOUT_FILENO, &text[..n]);
+    let n = lines_on(dictionary, kernel, &mut text);
+    writer.write_all(&text[..n])
+}
+
+// The first bytes are the dictionary, what follows is the kernel. Of a kernel that is too long, one byte more than is allowed is read, so that it is
+// refused as too long; what follows that byte changes nothing (`input_cut`) and stays unread.
+pub fn talk<R: Read, W: Write>(alloc: Global, reader: &mut R, writer: &mut W) -> io::Result<()>
+    ensures { OnOk result (IfSome (R.remaining reader.old)
+        (λ xs. Appends (W.contents writer.old) (W.contents writer.new) (input_text xs))) }
+{
+    let input = first_bytes(alloc, reader, INPUT_BYTES)?;
+    put_lines(writer, input.as_slice())
+}
+
+#[cfg(test)]
+mod tests {
+    use super::*;
+    use std::test::Fail;
+
+    // A slice is a reader, a Vec is a writer.
+    #[test]
+    fn talks(rt: HostRuntime) -> Result<(), Fail> {
+        // A dictionary of zeros, and two nops.
+        let mut input = [0u8; 544];
+        input[512] = 0x7E;
+        input[528] = 0x7E;
+        let mut written = Vec::new(rt.alloc());
+        talk(rt.alloc(), &mut input.as_slice(), &mut written)?;
+        let text = b"verdict=0\nat=0\ninstructions=2\nbytes=32\n";
+        assert_eq!(rt; written.as_slice(), text.as_slice());
+        Ok(())
+    }
 }

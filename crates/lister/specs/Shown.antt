@@ -1,18 +1,20 @@
 -- What the listing program writes (02 §1): the listing of a kernel that is accepted, else the checking program's four lines. Assumes nothing.
 use Rattle.std.proofs.Math.Bool.{and-false}
-use Rattle.std.specs.Prelude.{List, ◌++◌, refl, ℕ, ◌+◌, ◌*◌, ◌<◌, ◌≤◌, take}
+use Rattle.std.specs.Prelude.{List, ◌++◌, refl, ℕ, ◌+◌, ◌<◌, ◌≤◌, take}
 use Rattle.std.proofs.Math.Path.{◌≡◌}
-use Rattle.std.proofs.Common.{sym, ap, ◌∙◌, subst, length-take, le-ltb}
+use Rattle.std.proofs.Common.{sym, ap, ◌∙◌, ⊎_elim, length-take, take_all, le-ltb}
+use Rattle.std.proofs.lemmas.List.{drop-take}
+use Rattle.text.specs.Decimals.{below}
 use native.Mathlib.Omega.{arith}
 use Rattle.std.proofs.Math.ListN.{length, drop}
 use Rattle.std.proofs.lemmas.Bool.{lt-leb}
-use Rattle.paper.specs.Limits.{kernel_bytes, instruction_limit}
+use Rattle.paper.specs.Limits.{dictionary_bytes, kernel_bytes, instruction_limit}
 use Rattle.paper.specs.Kernel.{Instr, long_and_short, Parsed, bad, good}
 use Rattle.paper.specs.Calls.{verdict, refusal, refusal_with, deliver, accepted}
 use Rattle.paper.specs.Listing.{listing, listed_as, list_call}
 use Rattle.answers.specs.Kernels.{Near, near_few, near_inside, accepted_near}
 use Rattle.answers.specs.Listings.{listing_most}
-use Rattle.front.specs.Printed.{check_text, printed_cut, printed_text}
+use Rattle.front.specs.Printed.{check_text, printed_cut, printed_text, take_in}
 
 abbrev pub shown_as : Parsed → List ℕ → List ℕ
 shown_as (bad number offset) said = said
@@ -20,6 +22,10 @@ shown_as (good k) said = listing k
 
 unfoldable pub shown : List ℕ → List ℕ → List ℕ
 shown dictionary kernel = shown_as (accepted long_and_short dictionary kernel) (check_text dictionary kernel)
+
+-- The same of an input: its first bytes are the dictionary, what follows is the kernel.
+unfoldable pub input_shown : List ℕ → List ℕ
+input_shown input = shown (take dictionary_bytes input) (drop dictionary_bytes input)
 
 -- ---- laws
 
@@ -92,3 +98,18 @@ shown_cut dictionary kernel h =
     let most : kernel_bytes + 1 ≤ length kernel = omega arith in
     let still : kernel_bytes < length (take (kernel_bytes + 1) kernel) = simp length-take (omega arith) in
     shown_over dictionary kernel h ∙ (ap printed_text (printed_cut dictionary kernel h) ∙ sym (shown_over dictionary (take (kernel_bytes + 1) kernel) still))
+
+-- So what follows the first 66,049 bytes of an input changes nothing.
+pub shown_input_cut : (input : List ℕ) → input_shown (take 66049 input) ≡ input_shown input
+unfolding input_shown
+shown_input_cut input =
+    ap (λ (d : List ℕ). shown d (drop dictionary_bytes (take 66049 input))) (take_in dictionary_bytes 66049 input (omega arith))
+    ∙ (ap (shown (take dictionary_bytes input)) (drop-take dictionary_bytes (kernel_bytes + 1) input)
+    ∙ start (take dictionary_bytes input) (drop dictionary_bytes input))
+  where
+    start : (dictionary kernel : List ℕ) → shown dictionary (take (kernel_bytes + 1) kernel) ≡ shown dictionary kernel
+    start dictionary kernel =
+        ⊎_elim
+        (λ h. sym (shown_cut dictionary kernel h))
+        (λ h. ap (shown dictionary) (take_all (kernel_bytes + 1) kernel (omega arith)))
+        (below kernel_bytes (length kernel))

@@ -5,40 +5,23 @@
 mod call;
 mod obey;
 
-ghost use Rattle.std.specs.Prelude.{◌≡◌, length};
-
-use libc::STDOUT_FILENO;
 use obey::run_rows;
+use std::rt::Files;
+use std::{fs, io};
 
-// Room for a file, of which the last byte must stay free.
-fn pages() -> [u8; 262144]
-    ensures { 262144 ≡ length result }
-{
-    [0; 262144]
-}
-
-// Runs a file's cases. A file that cannot be opened has none; one that may be cut off has no line.
-fn report(file: &[u8]) {
-    let mut text = pages();
-    let descriptor = os::open_read(file);
-    let n = io::read_full(descriptor, &mut text);
-    libc::close(descriptor);
-    if n == 262144 {
-        return;
-    }
-    let desk = run_rows(file, &text[..n]);
-    io::write_all(STDOUT_FILENO, file);
-    io::write_all(STDOUT_FILENO, b": ");
-    io::print_decimal(STDOUT_FILENO, desk.right);
-    io::write_all(STDOUT_FILENO, b" of ");
-    io::print_decimal(STDOUT_FILENO, desk.total);
-    io::write_all(STDOUT_FILENO, b" cases\n");
+// Runs a file's cases. A file that cannot be read ends the run with its error.
+fn report<R: Files + Print + Alloc>(rt: &R, file: &str) -> io::Result<()> {
+    let text = fs::read(rt, file)?;
+    let desk = run_rows(rt, file, text.as_slice())?;
+    let right = desk.right;
+    let total = desk.total;
+    println!(rt; "{file}: {right} of {total} cases")
 }
 
 // The files one after the other.
-fn main() {
-    report(b"sheet.txt");
-    report(b"words.txt");
-    report(b"elements.txt");
-    report(b"floats.txt");
+fn main(rt: HostRuntime) -> io::Result<()> {
+    report(&rt, "sheet.txt")?;
+    report(&rt, "words.txt")?;
+    report(&rt, "elements.txt")?;
+    report(&rt, "floats.txt")
 }

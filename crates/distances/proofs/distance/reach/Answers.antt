@@ -8,20 +8,23 @@ use Rattle.distances.specs.Distances.{distance_is, told, reach_told}
 use Rattle.distances.specs.declared.distance.Target.TheVariants.{Place, Below}
 use Rattle.distances.proofs.distance.reach.Goals as goal
 
--- BY HAND: a helper over the old records
-leads : (c : lts.After-half (base-reads.Asked, base-reads.Learnt, field-reads.Asked, field-reads.Learnt, half-reads.Asked, half-reads.Learnt) reads.Pre reads.Post)
-    → let a = c.before.before.before.args in
-    said_from Place Below c.before.before.base.result c.before.field.result c.half.result
-    ≡ told (reach (distance_is a.d) (to_word a.w) a.here a.next)
-leads c =
-    let a = c.before.before.before.args in
-    reach_told a.d (to_word a.w) a.here a.next _ _ _ c.before.before.base.ensures.0 c.before.field.ensures.0 c.half.ensures.0 c.half.ensures.1
-
 pub returns-then-distance-least : goal.returns-then-distance-least
-returns-then-distance-least c = sym (from_forward _ _ _ _ _ c.if-distance-least.true) ∙ leads c
+returns-then-distance-least c =
+    let a = c.args in
+    let leads : said_from Place Below c.base-from.result c.field-distance.result c.half-least.result ≡ told (reach (distance_is a.d) (to_word a.w) a.here a.next) =
+    reach_told a.d (to_word a.w) a.here a.next _ _ _ c.base-from.ensures.0 c.field-distance.ensures.0 c.half-least.ensures.0 c.half-least.ensures.1 in
+    sym (from_forward _ _ _ _ _ c.if-distance-least.true) ∙ leads
 
 pub returns-then-from-distance : goal.returns-then-from-distance
-returns-then-from-distance c = sym (from_below _ _ _ _ _ c.if-distance-least.false c.if-from-distance.true) ∙ leads c
+returns-then-from-distance c =
+    let a = c.args in
+    let leads : said_from Place Below c.base-from.result c.field-distance.result c.half-least.result ≡ told (reach (distance_is a.d) (to_word a.w) a.here a.next) =
+    reach_told a.d (to_word a.w) a.here a.next _ _ _ c.base-from.ensures.0 c.field-distance.ensures.0 c.half-least.ensures.0 c.half-least.ensures.1 in
+    sym (from_below _ _ _ _ _ c.if-distance-least.false c.if-from-distance.true) ∙ leads
 
 pub returns : goal.returns
-returns c = sym (from_back _ _ _ _ _ c.if-distance-least.false c.if-from-distance.false) ∙ leads c
+returns c =
+    let a = c.args in
+    let leads : said_from Place Below c.base-from.result c.field-distance.result c.half-least.result ≡ told (reach (distance_is a.d) (to_word a.w) a.here a.next) =
+    reach_told a.d (to_word a.w) a.here a.next _ _ _ c.base-from.ensures.0 c.field-distance.ensures.0 c.half-least.ensures.0 c.half-least.ensures.1 in
+    sym (from_back _ _ _ _ _ c.if-distance-least.false c.if-from-distance.false) ∙ leads

@@ -21,7 +21,7 @@ scatter-requires c =
     let w = to_word c.args.w in
     let kept : is_null w ≡ false = rw (← c.is_null.ensures) c.if-is_null.false in
     rw (c.channels.ensures.0, ap (λ (s' : Region). s'.origin) c.dst_region-r.ensures.0, ap (λ (s' : Region). s'.vert) c.dst_region-r.ensures.0, ap (λ (s' : Region). s'.size) c.dst_region-r.ensures.0)
-    ((type_size (dst_type w) c.requires.0.type, count-channels w c.requires.0.count), λ k h. rw c.requires.1 (c.requires.0.inside kept k h))
+    record { size = (type_size (dst_type w) c.requires.0.type, count-channels w c.requires.0.count); by_index = λ k h. rw c.requires.1 (c.requires.0.inside kept k h) }
 
 pub returns : goal.returns
 unfolding written

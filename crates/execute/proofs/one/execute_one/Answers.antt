@@ -12,27 +12,17 @@ use Rattle.execute.specs.Readable.{Acting, not-destination, not_source, legal_wr
 use Rattle.execute.proofs.Executed.{Made, direct_registers, direct_flags, direct_less}
 use Rattle.execute.proofs.one.execute_one.Goals as goal
 
-legal : (s : goal.Start) → Acting (plain_is s.args.p) (to_word s.args.w)
-legal s = s.requires.0.0.acting
-
--- What it reads and what it writes are registers.
-reads : (s : goal.Start) → length s.args.registers.now ≡ bytes_in (src_is_a0 src0 (to_word s.args.w))
-reads s = let p = plain_is s.args.p in s.requires.1.0 ∙ ap bytes_in (sym (not_source p (to_word s.args.w) s.requires.0.1 src0 (first_source p)))
-
-writes : (s : goal.Start) → length s.args.registers.now ≡ bytes_in (dst_is_a0 (to_word s.args.w))
-writes s = s.requires.1.0 ∙ ap bytes_in (sym (not-destination (plain_is s.args.p) (to_word s.args.w) s.requires.0.1))
-
 pub result_of-v-requires : goal.result_of-v-requires
 result_of-v-requires c =
-    (c.requires.counting.0, reads c, c.requires.counting.2, c.requires.counting.1)
+    (c.requires.counting.0, (c.requires.registers_len.0 ∙ ap bytes_in (sym (not_source (plain_is c.args.p) (to_word c.args.w) c.requires.counting.1 src0 (first_source (plain_is c.args.p))))), c.requires.counting.2, c.requires.counting.1)
 
 pub store-requires : goal.store-requires
 store-requires c =
-    (legal_writable (plain_is c.args.p) (to_word c.args.w) (legal c), writes c, c.requires.counting.2, not-destination (plain_is c.args.p) (to_word c.args.w) c.requires.counting.1)
+    (legal_writable (plain_is c.args.p) (to_word c.args.w) c.requires.counting.0.acting, (c.requires.registers_len.0 ∙ ap bytes_in (sym (not-destination (plain_is c.args.p) (to_word c.args.w) c.requires.counting.1))), c.requires.counting.2, not-destination (plain_is c.args.p) (to_word c.args.w) c.requires.counting.1)
 
 pub flags_of_one-requires : goal.flags_of_one-requires
 flags_of_one-requires c =
-    (legal c, c.requires.counting.2)
+    (c.requires.counting.0.acting, c.requires.counting.2)
 
 pub returns : goal.returns
 returns c =
@@ -47,4 +37,4 @@ returns c =
       own-holds = c.quarter_mask.ensures;
       own-enables = c.quarter_mask-2.ensures;
       makes = c.result_of-v.ensures;
-    } in record { by_index = direct_registers p w c.args.awake registers c.args.flags _ _ _ _ _ _ (legal c) c.requires.counting.1 made _ c.store.ensures; by_index_2 = direct_flags p w c.args.awake registers c.args.flags _ _ _ _ _ _ (legal c) c.requires.counting.1 made _ c.flags_of_one.ensures; flag0_bound = direct_less p w c.args.awake registers c.args.flags _ _ _ _ _ _ (legal c) c.requires.counting.1 made _ c.flags_of_one.ensures c.requires.registers_len.0 c.requires.registers_len.2 c.requires.registers_len.3 }
+    } in record { by_index = direct_registers p w c.args.awake registers c.args.flags _ _ _ _ _ _ c.requires.counting.0.acting c.requires.counting.1 made _ c.store.ensures; by_index_2 = direct_flags p w c.args.awake registers c.args.flags _ _ _ _ _ _ c.requires.counting.0.acting c.requires.counting.1 made _ c.flags_of_one.ensures; flag0_bound = direct_less p w c.args.awake registers c.args.flags _ _ _ _ _ _ c.requires.counting.0.acting c.requires.counting.1 made _ c.flags_of_one.ensures c.requires.registers_len.0 c.requires.registers_len.2 c.requires.registers_len.3 }

@@ -1,10 +1,11 @@
--- The four lines fit into their buffer. Assumes nothing.
-use mathlib.Core.Path.{sym}
-use native.Mathlib.Omega.{arith}
-use lib.Seq.{length-take-le}
+-- The first bytes of an input stand for all of it.
+use Rattle.std.proofs.Common.{List, ℕ, ap}
+use Rattle.std.specs.Io.KnownBytes.{Appends}
+use Rattle.front.specs.Printed.{input_text}
+use Rattle.front.proofs.Said.{told_of, told_by}
 use Rattle.front.proofs.talk.talk.Goals as goal
 
-pub slice_bounds-write_all-end : goal.slice_bounds-write_all-end
-slice_bounds-write_all-end c =
-    let p = c.lines_on-n in
-    sym (length-take-le p.result p.new.out (omega (arith, p.ensures.1, p.auto.out)))
+pub returns : goal.returns
+returns g c =
+    let A : List ℕ → Type 0 = λ (w : List ℕ). Appends (g.W.Write.contents c.args.writer.now) (g.W.Write.contents c.put_lines.new.writer) w in
+    told_by _ _ A _ c.in_ok-input.ensures (told_of _ A _ _ (ap input_text c.as_slice.ensures.value) c.put_lines.ensures)

@@ -9,7 +9,7 @@ returns-in-1 c = rw c.in-1.is
 
 pub returns-in-2 : goal.returns-in-2
 unfolding sign_modified
-returns-in-2 c = rw c.in-2.is c.wrapping_add_u32.ensures
+returns-in-2 c = rw c.in-2.is cc
 
 pub returns-in-3 : goal.returns-in-3
 unfolding sign_modified

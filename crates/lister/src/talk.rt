@@ -1,0 +1,30 @@
+// Reads a dictionary and a kernel, and writes the listing or the four lines.
+ghost use Rattle.std.specs.Prelude.{◌≡◌, IfSome, OnOk};
+ghost use Rattle.std.specs.Io.KnownBytes.{Appends};
+ghost use Rattle.lister.specs.Shown.{input_shown};
+
+use crate::show::{TEXT_BYTES, show};
+use front::talk::{INPUT_BYTES, first_bytes};
+use std::alloc::Global;
+use std::io;
+use std::io::{Read, Write};
+use words::limits::DICTIONARY_BYTES;
+
+// Writes what is shown of an input.
+pub fn put_shown<W: Write>(writer: &mut W, input: &[u8]) -> io::Result<()>
+    ensures { OnOk result (Appends (W.contents writer.old) (W.contents writer.new) (input_shown input.now)) }
+{
+    let (dictionary, kernel) = input.split_at(DICTIONARY_BYTES.min(input.len()));
+    let mut text = [0u8; TEXT_BYTES];
+    let n = show(dictionary, kernel, &mut text);
+    writer.write_all(&text[..n])
+}
+
+// Of a kernel that is too long one byte more than is allowed is read, so that it is refused; what follows that byte changes nothing (`shown_input_cut`).
+pub fn talk<R: Read, W: Write>(alloc: Global, reader: &mut R, writer: &mut W) -> io::Result<()>
+    ensures { OnOk result (IfSome (R.remaining reader.old)
+        (λ xs. Appends (W.contents writer.old) (W.contents writer.new) (input_shown xs))) }
+{
+    let input = first_bytes(alloc, reader, INPUT_BYTES)?;
+    put_shown(writer, input.as_slice())
+}

@@ -1,0 +1,60 @@
+// Reads a dictionary and a listing, and writes the kernel, or the four lines of a refusal.
+ghost use Rattle.std.specs.Prelude.{◌≡◌, ◌≤◌, IfSome, OnOk, length, take};
+ghost use Rattle.std.specs.Io.KnownBytes.{Appends};
+ghost use Rattle.restorer.specs.Restored.{refusal_text, restored_output, restored_errors};
+
+use front::lines::{LINES_BYTES, put_report};
+use front::report::refused;
+use front::talk::first_bytes;
+use listing::read::read;
+use std::alloc::Global;
+use std::io;
+use std::io::{Read, Write};
+use words::answer::Answer;
+use words::limits::{DICTIONARY_BYTES, KERNEL_BYTES};
+
+// As much as is read: a dictionary, and one byte more than a listing can have, which is 70 for each of 4,096 instructions.
+const INPUT_BYTES: u64 = DICTIONARY_BYTES as u64 + 286721;
+
+// Writes the four lines of a refusal.
+fn say<E: Write>(errors: &mut E, number: u8, offset: u64) -> io::Result<()>
+    ensures { OnOk result (Appends (E.contents errors.old) (E.contents errors.new) (refusal_text number offset)) }
+{
+    let mut lines = [0u8; LINES_BYTES];
+    let n = put_report(&mut lines, refused(number, offset));
+    errors.write_all(&lines[..n])
+}
+
+// Writes what an input is read back as.
+pub fn put_restored<W: Write, E: Write>(
+    output: &mut W,
+    errors: &mut E,
+    input: &[u8],
+) -> io::Result<()>
+    ensures output { OnOk result (Appends (W.contents output.old) (W.contents output.new) (restored_output input.now)) }
+    ensures errors { OnOk result (Appends (E.contents errors.old) (E.contents errors.new) (restored_errors input.now)) }
+{
+    let (dictionary, text) = input.split_at(DICTIONARY_BYTES.min(input.len()));
+    let mut kernel = [0u8; KERNEL_BYTES];
+    match read(dictionary, text, &mut kernel) {
+        Answer::Told(_, count) => output.write_all(&kernel[..count as usize]),
+        Answer::Refused(number, offset) => say(errors, number, offset),
+        Answer::RefusedWith(number, offset, _) => say(errors, number, offset),
+    }
+}
+
+// What follows the bytes that are read changes nothing (`read_cut`) and stays unread.
+pub fn restore<R: Read, W: Write, E: Write>(
+    alloc: Global,
+    reader: &mut R,
+    output: &mut W,
+    errors: &mut E,
+) -> io::Result<()>
+    ensures output { OnOk result (IfSome (R.remaining reader.old)
+        (λ xs. Appends (W.contents output.old) (W.contents output.new) (restored_output xs))) }
+    ensures errors { OnOk result (IfSome (R.remaining reader.old)
+        (λ xs. Appends (E.contents errors.old) (E.contents errors.new) (restored_errors xs))) }
+{
+    let input = first_bytes(alloc, reader, INPUT_BYTES)?;
+    put_restored(output, errors, input.as_slice())
+}
