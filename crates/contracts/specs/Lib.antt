@@ -2,4 +2,3 @@
 -- whoever makes them stands in the crate `promises`.
 pub mod Contracts
 pub mod OneOutcome
-pub mod OneOutcomeHolds

@@ -1,30 +1,22 @@
 -- The demands over bytes and calls: packing and then unpacking gives the kernel back; a long kernel and what packing makes of it run alike; a run
 -- is one step and then a shorter run. Assumes nothing.
-use Rattle.std.specs.Prelude.{Bool, true, false, not, cond, ◌&&◌, ◌||◌, List, [], ◌∷◌, ◌++◌, ◌≡◌, refl, ℕ, zero, suc, ◌+◌, ◌*◌, ◌^◌, ◌<◌, ◌≤◌, eqb, ltb, leb, length, take, drop}
-use Rattle.std.proofs.Math.Option.{Option, none, some}
-use Rattle.std.proofs.Common.{sym, ap, ap₂, ◌∙◌, subst, arith, take_at}
-use Rattle.std.proofs.Math.Pow.{are_bytes}
-use borrow.Author.Tests.{eq-eqb, le-ltb, le-leb}
-use Rattle.paper.specs.Bits.{bit}
-use Rattle.paper.specs.Limits.{register_bytes, state_length, budget_limit, kernel_bytes}
-use Rattle.paper.specs.Dictionary.{Dictionary, dictionary_of}
-use Rattle.paper.specs.Shorten.{shorten}
+-- What follows from it is in proofs/DemandsHold.
+use Rattle.std.specs.Prelude.{Bool, true, false, cond, ◌&&◌, List, ◌≡◌, refl, ℕ, zero, suc, ◌*◌, ◌^◌, ◌<◌, ◌≤◌, eqb, length}
+use Rattle.std.proofs.Math.Option.{none}
+use Rattle.std.proofs.Common.{sym, ap, ◌∙◌, arith}
+use borrow.Author.Tests.{eq-eqb, le-ltb}
+use Rattle.paper.specs.Limits.{register_bytes, state_length, budget_limit}
 use Rattle.paper.specs.Store.{Store}
-use Rattle.paper.specs.Kernel.{Instr, Forms, long_and_short, long_only, Parsed, bad, good}
-use Rattle.paper.specs.Jump.{end_of, fetch}
-use Rattle.paper.specs.Machine.{Channel, off, awake, waiting, State, step, stops, Outcome, run, run_with, start_from, start}
+use Rattle.paper.specs.Kernel.{Instr, long_and_short, good}
+use Rattle.paper.specs.Jump.{end_of}
+use Rattle.paper.specs.Machine.{State, step, stops, run, start_from, start}
 use Rattle.paper.specs.State.{state_of, state_legal, state_lands, all_three, state_bytes}
-use Rattle.paper.specs.Packing.{packed, unpacked, relay}
-use Rattle.paper.specs.Calls.{Answer, verdict, refusal, refusal_with, number_of, count_of, Written, Changed, deliver, judged_kernel, sized, accepted, relaid, pack_call, unpack_call, fresh_store, start_call, all_sized, changed_to, on_state, stopped_as, stepped_as, step_call, ran_as, run_call}
-use Rattle.laws.specs.Names.{Sound, named, named_outcome, new_end, relaid_by}
+use Rattle.paper.specs.Calls.{Answer, verdict, refusal, refusal_with, judged_kernel, sized, fresh_store, start_call, all_sized, changed_to, stopped_as, step_call, ran_as, run_call}
+use Rattle.laws.specs.Names.{Sound}
 use Rattle.laws.specs.Runs.{run_on}
-use Rattle.laws.specs.Same.{start-lands, state_names, demand_3}
-use Rattle.laws.specs.StateBytes.{Storable, length-state_bytes, state_three, state_back}
-use Rattle.laws.specs.Lasting.{Fit, Holds, Lasting, state_lands_lem, step_lasting, run_lasting, lasting_storable}
-use Rattle.laws.specs.Relay.{new_end_near, relay-length}
-use Rattle.laws.specs.Packing.{Kernel, kernel_of_lem, long_accepted, packed-accepted, packed-sound, unpack_pack, kernel_near, accepted_parts}
-use Rattle.laws.specs.Moved.{relaid_end}
-use Rattle.laws.specs.Truth.{both_true}
+use Rattle.laws.specs.Same.{start-lands, state_names}
+use Rattle.laws.specs.StateBytes.{length-state_bytes, state_three, state_back}
+use Rattle.laws.specs.Lasting.{Lasting, state_lands_lem, step_lasting, lasting_storable}
 
 -- ---- what is lent to a run that is not refused
 
@@ -129,22 +121,3 @@ pub start_bytes : (registers : List ℕ) (flag0 flag1 mask : ℕ) (bytes : List 
     → (start_call mask flag0 flag1 bytes).output ≡ state_bytes (begun registers flag0 flag1 mask)
 unfolding start_call state_bytes
 start_bytes registers flag0 flag1 mask bytes l = rw (eq-eqb (length bytes) state_length l)
-
--- ---- demand 2, over calls: unpacking what was packed
-
-module _ (dictionary kernel : List ℕ) (bytes : are_bytes kernel ≡ true) (k : List Instr) (e : accepted long_only dictionary kernel ≡ good k) where
-  abbrev D : Dictionary
-  D = dictionary_of dictionary
-
-  -- Packing an accepted kernel, where the output has room, answers 0 and the packed bytes.
-  pub pack_delivers : (out : List ℕ) → length (packed D k) ≤ length out
-      → pack_call dictionary kernel out ≡ record { answer = verdict 0 (length (packed D k)); output = packed D k ++ drop (length (packed D k)) out }
-  unfolding pack_call deliver
-  pack_delivers out h = rw (e, le-ltb (length out) (length (packed D k)) h)
-
-  -- Unpacking the result, where the output has room, gives the kernel.
-  pub unpack_delivers : (out : List ℕ) → length kernel ≤ length out
-      → unpack_call dictionary (packed D k) out ≡ record { answer = verdict 0 (length kernel); output = kernel ++ drop (length kernel) out }
-  unfolding unpack_call deliver
-  unpack_delivers out h =
-      rw (packed-accepted dictionary kernel bytes k e, unpack_pack dictionary kernel bytes k e, le-ltb (length out) (length kernel) h)

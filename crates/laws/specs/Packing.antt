@@ -1,29 +1,27 @@
 -- Packing and unpacking (demand 2): what is packed is accepted and runs the same program, holds each word in its smallest form, and unpacks to the
 -- long bytes; what is unpacked is accepted too. Assumes nothing.
-use Rattle.std.specs.Prelude.{Bool, true, false, not, cond, ◌||◌, ◌&&◌, List, [], ◌∷◌, ◌++◌, map, ◌≡◌, refl, ℕ, zero, suc, ◌+◌, ◌-◌, ◌*◌, ◌/◌, ◌%◌, ◌^◌, ◌<◌, ◌≤◌, eqb, leb, ltb, length, take, drop}
-use Rattle.std.proofs.lemmas.Bool.{false≢true}
+-- What follows from it is in proofs/PackingHolds.
+use Rattle.std.specs.Prelude.{Bool, true, false, cond, List, [], ◌∷◌, ◌++◌, map, ◌≡◌, refl, ℕ, suc, ◌+◌, ◌*◌, ◌^◌, ◌<◌, ◌≤◌, eqb, leb, length}
 use Rattle.std.proofs.Math.Option.{Option, none, some}
-use Rattle.std.proofs.Common.{sym, ap, ap₂, ◌∙◌, subst, arith, take_at, leb-true, le-leb, le-ltb}
+use Rattle.std.proofs.Common.{sym, ap, ap₂, ◌∙◌, subst, arith, leb-true}
 use Rattle.std.proofs.Math.Pow.{are_bytes}
 use Rattle.paper.specs.Bits.{bytes_of}
 use Rattle.paper.specs.Limits.{instruction_limit, kernel_bytes, dictionary_bytes, last_place}
 use Rattle.paper.specs.Dictionary.{Dictionary, dictionary_of, in_range}
 use Rattle.paper.specs.Shorten.{Shortens, Least, Shortest, shorten}
 use Rattle.paper.specs.Operation.{operation, is_branch}
-use Rattle.paper.specs.Kernel.{Instr, Forms, long_and_short, long_only, takes_short, Parsed, bad, good, parse}
+use Rattle.paper.specs.Kernel.{Instr, Forms, long_and_short, long_only, Parsed, bad, good, parse}
 use Rattle.paper.specs.Jump.{next_of, end_of, with_jumps}
-use Rattle.paper.specs.Packing.{Piece, Form, piece, new_size, rewritten, encode, lay_from, relay, packed, unpacked}
-use Rattle.paper.specs.Calls.{judged_kernel, sized, accepted, Written, verdict, deliver, relaid, pack_call, unpack_call}
-use Rattle.laws.specs.Shorten.{shorten-some, shorten-none, shorten_right}
-use Rattle.paper.specs.Program.{Line, program}
-use Rattle.laws.specs.Names.{Laid, AllLand, Sound, moved, relaid_by, new_end, pieces_of, long_form, AllLong}
-use Rattle.laws.specs.Moved.{relaid_program, relaid_sound, relaid_length, rewritten-plain, rewritten-operation}
-use Rattle.laws.specs.Back.{relaid_back}
+use Rattle.paper.specs.Packing.{Piece, Form, piece, new_size, rewritten, lay_from, relay, packed}
+use Rattle.paper.specs.Calls.{judged_kernel, sized, accepted}
+use Rattle.laws.specs.Shorten.{shorten-some, shorten-none}
+use Rattle.laws.specs.Names.{Laid, Sound, moved, relaid_by, new_end, pieces_of, long_form, AllLong}
+use Rattle.laws.specs.Moved.{rewritten-plain, rewritten-operation}
 use Rattle.laws.specs.Expand.{expand-operation}
 use Rattle.laws.specs.Items.{Item, all_bytes, instrs_from, is_long, AllFormed, parse_items}
-use Rattle.laws.specs.Walk.{Each, Walked}
+use Rattle.laws.specs.Walk.{Each}
 use Rattle.laws.specs.Parse.{WordAt, parsed, jumps_good, good_jumps, long_bytes, long_back}
-use Rattle.laws.specs.Relay.{Sane, AllSane, Right, items_from, items_of, relay_items, relaid_items, relay-length, new_end_near, short_plain, relay_parses}
+use Rattle.laws.specs.Relay.{AllSane, Right, items_from, items_of, relay_items, relaid_items, new_end_near, short_plain}
 use Rattle.laws.specs.Truth.{both_true}
 
 -- ---- what an accepted kernel is
@@ -88,18 +86,8 @@ accepted_parts dictionary kernel k e = go (sized dictionary kernel) refl e
     go true h e = (h, e)
     go false h e = let z : ◌≡◌ {A = ℕ} 0 1 = cc in absurd (omega arith)
 
-end_bound : (form : Form) (k : List Instr) → length k ≤ instruction_limit → new_end form k < 2 ^ 15
+pub end_bound : (form : Form) (k : List Instr) → length k ≤ instruction_limit → new_end form k < 2 ^ 15
 end_bound form k few = let n = new_end_near form k few in omega arith
-
-pub relay-accepted : (forms forms' : Forms) (dictionary kernel : List ℕ) (k : List Instr) → Kernel forms dictionary kernel k
-    → (form : Form) → Right forms' (dictionary_of dictionary) form → accepted forms' dictionary (relay form k) ≡ good (relaid_by form k)
-unfolding accepted judged_kernel
-relay-accepted forms forms' dictionary kernel k h form right =
-    let p = both_true (eqb (length dictionary) dictionary_bytes) (leb (length kernel) kernel_bytes) h.sizes in
-    let l : length (relay form k) ≤ kernel_bytes = let e = relay-length form k in let n = new_end_near form k h.few in omega arith in
-    let s = relaid_sound form k h.sound.laid (end_bound form k h.few) in
-    rw (p.0, le-leb (length (relay form k)) kernel_bytes l, h.range, relay_parses forms' (dictionary_of dictionary) form right k h.sane h.few)
-    (good_jumps (relaid_by form k) s.land)
 
 -- Shortening is right where short words are taken; leaving every word long is right everywhere.
 pub shorten_is_right : (D : Dictionary) → Right long_and_short D (shorten D)
@@ -167,49 +155,6 @@ lay_long k ps a (i ∷ rest) =
 pub relay_long : (k : List Instr) → relay long_form k ≡ long_bytes (relaid_by long_form k)
 unfolding relay
 relay_long k = lay_long k (pieces_of long_form k) 0 k
-
--- ---- packing
-
-module _ (dictionary kernel : List ℕ) (bytes : are_bytes kernel ≡ true) (k : List Instr) (e : accepted long_only dictionary kernel ≡ good k) where
-  abbrev D : Dictionary
-  D = dictionary_of dictionary
-
-  abbrev packed_instrs : List Instr
-  packed_instrs = relaid_by (shorten D) k
-
-  -- What is packed is accepted, as the instructions in their order without gaps.
-  pub packed-accepted : accepted long_and_short dictionary (packed D k) ≡ good packed_instrs
-  packed-accepted = relay-accepted long_only long_and_short dictionary kernel k (kernel_of_lem long_only dictionary kernel bytes k e) (shorten D) (shorten_is_right D)
-
-  -- It is the same program: as many instructions in the same order, each jump reaching the same instruction.
-  pub packed-program : program packed_instrs ≡ program k
-  packed-program =
-      let h = kernel_of_lem long_only dictionary kernel bytes k e in relaid_program (shorten D) k h.sound.laid (end_bound (shorten D) k h.few)
-
-  pub packed-sound : Sound packed_instrs
-  packed-sound =
-      let h = kernel_of_lem long_only dictionary kernel bytes k e in relaid_sound (shorten D) k h.sound.laid (end_bound (shorten D) k h.few)
-
-  -- Unpacking what was packed gives the long bytes back.
-  pub unpack_pack : unpacked packed_instrs ≡ kernel
-  unpack_pack =
-      let h = kernel_of_lem long_only dictionary kernel bytes k e in
-      relay_long packed_instrs
-      ∙ ap long_bytes (relaid_back (shorten D) k h.sound (all_long kernel k h.words) (end_bound (shorten D) k h.few))
-      ∙ long_back kernel 0 k h.sound.laid h.ends h.words
-
--- ---- unpacking
-
-module _ (dictionary kernel : List ℕ) (bytes : are_bytes kernel ≡ true) (k : List Instr) (e : accepted long_and_short dictionary kernel ≡ good k) where
-  -- What is unpacked is accepted as a kernel of long words, with the same program.
-  pub unpacked-accepted : accepted long_only dictionary (unpacked k) ≡ good (relaid_by long_form k)
-  unpacked-accepted =
-      relay-accepted long_and_short long_only dictionary kernel k (kernel_of_lem long_and_short dictionary kernel bytes k e) long_form
-      (long_is_right long_only (dictionary_of dictionary))
-
-  pub unpacked-program : program (relaid_by long_form k) ≡ program k
-  unpacked-program =
-      let h = kernel_of_lem long_and_short dictionary kernel bytes k e in relaid_program long_form k h.sound.laid (end_bound long_form k h.few)
 
 -- ---- every word that can be shortened is, to its smallest short word
 

@@ -1,23 +1,13 @@
 -- A long kernel and one that was sent for it (02 §11): which pairs are accepted, that unpacking an accepted one gives the long kernel, that packing makes one,
 -- and how much there is to load. Assumes nothing.
-use Rattle.std.specs.Prelude.{Bool, true, false, cond, ◌&&◌, List, [], ◌∷◌, map, ◌≡◌, refl, ℕ, ◌^◌, ◌<◌, ◌≤◌, eqb, length}
-use Rattle.std.proofs.Common.{sym, ap, ◌∙◌, arith, eqb-true, eq-eqb}
+-- What follows from it is in proofs/PairsHold.
+use Rattle.std.specs.Prelude.{Bool, true, false, cond, ◌&&◌, List, ◌≡◌, refl, ℕ, eqb, length}
+use Rattle.std.proofs.Common.{sym, ◌∙◌, arith, eqb-true, eq-eqb}
 use Rattle.std.proofs.lemmas.List.{length-map}
-use Rattle.std.proofs.Math.Pow.{are_bytes}
-use Rattle.paper.specs.Limits.{instruction_limit}
-use Rattle.paper.specs.Dictionary.{dictionary_of}
-use Rattle.paper.specs.Shorten.{shorten}
 use Rattle.paper.specs.Kernel.{Instr, long_and_short, long_only, Parsed, bad, good}
-use Rattle.paper.specs.Packing.{packed, unpacked}
 use Rattle.paper.specs.Program.{line_of, program, agreed}
-use Rattle.paper.specs.Calls.{Answer, verdict, refusal, refusal_with, count_of, accepted, compared_as, paired_as, pair_call, loaded_by, load_part}
-use Rattle.laws.specs.Names.{relaid_by, new_end, long_form, AllLong}
-use Rattle.laws.specs.Moved.{relaid_sound}
-use Rattle.laws.specs.Unique.{relaid_long, long_one}
+use Rattle.paper.specs.Calls.{verdict, refusal_with, count_of, accepted, compared_as, paired_as, pair_call, loaded_by, load_part}
 use Rattle.laws.specs.Agreed.{agreed_same, agreed_one}
-use Rattle.laws.specs.Parse.{long_bytes, long_back}
-use Rattle.laws.specs.Relay.{new_end_near}
-use Rattle.laws.specs.Packing.{Kernel, kernel_of_lem, all_long, relay_long, packed-accepted, packed-program, unpacked-accepted, unpacked-program}
 use Rattle.laws.specs.Truth.{both_true}
 
 -- A pair that is accepted: both pass the bench, the long kernel with long words only, and they have one program. So each instruction of the sent kernel that is
@@ -70,50 +60,6 @@ told_paired dictionary long sent number count e =
     go (bad n o) f q g e = let z : ◌≡◌ {A = ℕ} 0 1 = cc in absurd (omega arith)
     go (good k) f (bad n o) g e = let z : ◌≡◌ {A = ℕ} 0 1 = cc in absurd (omega arith)
     go (good k) f (good l) g e = record { longer = k; shorter = l; given = f; taken = g; same = compared_told long sent k l number count e }
-
--- ---- unpacking
-
--- The sent kernel with every word long is sound and has its program.
-module _ (dictionary long sent : List ℕ) (bytes : are_bytes long ≡ true) (bytes' : are_bytes sent ≡ true) where
-  near : (l : List Instr) → length l ≤ instruction_limit → new_end long_form l < 2 ^ 15
-  near l few = let n = new_end_near long_form l few in omega arith
-
-  -- Unpacking the sent kernel of an accepted pair gives the long kernel's bytes.
-  pub paired_unpacks : (p : Paired dictionary long sent) → unpacked p.shorter ≡ long
-  paired_unpacks p =
-      let k = p.longer in
-      let l = p.shorter in
-      let h = kernel_of_lem long_only dictionary long bytes k p.given in
-      let g = kernel_of_lem long_and_short dictionary sent bytes' l p.taken in
-      let one : relaid_by long_form l ≡ k =
-      long_one (relaid_by long_form l) k (relaid_sound long_form l g.sound.laid (near l g.few)) h.sound (relaid_long l) (all_long long k h.words)
-      (unpacked-program dictionary sent bytes' l p.taken ∙ sym p.same) in
-      relay_long l ∙ ap long_bytes one ∙ long_back long 0 k h.sound.laid h.ends h.words
-
-  -- A pair of which both pass, and the sent kernel unpacks to the long one, is accepted.
-  pub unpacks_paired : (l : List Instr) → accepted long_and_short dictionary sent ≡ good l → unpacked l ≡ long → Paired dictionary long sent
-  unpacks_paired l e u =
-      record {
-        longer = relaid_by long_form l;
-        shorter = l;
-        given = ap (accepted long_only dictionary) (sym u) ∙ unpacked-accepted dictionary sent bytes' l e;
-        taken = e;
-        same = unpacked-program dictionary sent bytes' l e;
-      }
-
--- ---- packing
-
--- A kernel and what packing makes of it are accepted.
-pub packed_paired : (dictionary kernel : List ℕ) → are_bytes kernel ≡ true → (k : List Instr) → accepted long_only dictionary kernel ≡ good k
-    → Paired dictionary kernel (packed (dictionary_of dictionary) k)
-packed_paired dictionary kernel bytes k e =
-    record {
-      longer = k;
-      shorter = relaid_by (shorten (dictionary_of dictionary)) k;
-      given = e;
-      taken = packed-accepted dictionary kernel bytes k e;
-      same = sym (packed-program dictionary kernel bytes k e);
-    }
 
 -- ---- the part to load
 

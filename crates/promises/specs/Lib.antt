@@ -4,6 +4,7 @@
 -- Finishing states when a kernel must finish, and what a step may change; FinishingHolds proves it, of a step ChangesHold.
 -- Listings states what holds of a kernel's listing and of what is read, and ListingsHold proves it.
 -- Placements states where tiles go, by an order and by the fixed kernel, and PlacementsHold proves it.
+-- RefusalsHold, AlikeHolds, RunningHolds, PairsHold, ChangesHold, FinishingHolds and ListingsHold stand in proofs/; RefusalsHold ends what OutcomesHold begins.
 pub mod Promises
 pub mod Before
 pub mod Results
@@ -15,16 +16,10 @@ pub mod OutcomesHold
 pub mod WordsHold
 pub mod PackingHolds
 pub mod Starts
-pub mod AlikeHolds
-pub mod RunningHolds
-pub mod PairsHold
 pub mod PassedHolds
 pub mod LongerHolds
 pub mod Finishing
-pub mod ChangesHold
-pub mod FinishingHolds
 pub mod LogsHold
 pub mod Listings
-pub mod ListingsHold
 pub mod Placements
 pub mod PlacementsHold

@@ -1,21 +1,19 @@
 -- Demand 1 holds: one outcome for each call, an answer of the paper's list, and a refusal that changes nothing. Assumes nothing.
-use Rattle.std.specs.Prelude.{Bool, List, ◌≡◌, ℕ, ◌*◌, length, take, drop}
-use Rattle.std.proofs.Common.{inl, inr, sym, ap, ◌∙◌, arith}
-use Rattle.paper.specs.Calls.{Answer, as_number, Written, check_call, forward_call, pack_call, unpack_call, pair_call, shorten_call, expand_call, decode_call, decode_part, start_call, step_call, run_call, number_of}
-use Rattle.laws.specs.Calls.{Confined, pack_confined, unpack_confined, shorten_confined, expand_confined, start_confined, decode_refused, step-unchanged, run-unchanged, list_confined, read_confined, place_confined, place_kernel_confined, place_load_unchanged}
+-- What follows from it is in proofs/RefusalsHold.
+use Rattle.std.specs.Prelude.{Bool, List, ◌≡◌, ℕ, length, drop}
+use Rattle.std.proofs.Common.{sym, ap, ◌∙◌}
+use Rattle.paper.specs.Calls.{Answer, as_number, Written, check_call, forward_call, pack_call, unpack_call, pair_call, shorten_call, expand_call, decode_call, start_call, step_call, run_call, number_of}
+use Rattle.laws.specs.Calls.{Confined}
 use Rattle.paper.specs.Log.{entry, log_append_call, log_read_call, log_runs_call, log_run_call}
 use Rattle.paper.specs.Listing.{list_call, read_call}
-use Rattle.paper.specs.Placing.{Point, place_call, place_kernel_call, place_load_call}
-use Rattle.run_log.specs.Appends.{append_confined, run_confined}
+use Rattle.paper.specs.Placing.{place_call, place_kernel_call, place_load_call}
 use Rattle.answers.specs.Logs.{log_append_fine, log_read_fine, log_runs_fine, log_run_fine}
 use Rattle.answers.specs.Listings.{list_fine, read_fine}
 use Rattle.answers.specs.Placings.{place_fine, place_kernel_fine, place_load_fine}
 use Rattle.contracts.specs.Contracts.{number_in, offset_in, count_in, Wrote}
 use Rattle.answers.specs.Numbers.{check_numbers, forward_numbers, pack_numbers, unpack_numbers, pair_numbers, shorten_numbers, expand_numbers, decode_numbers, start_numbers, step_numbers, run_numbers, log_read_numbers, log_append_numbers, list_numbers, read_numbers, place_numbers, place_kernel_numbers, place_load_numbers}
-use Rattle.contracts.specs.OneOutcomeHolds.{one_outcome}
-use Rattle.promises.specs.Promises.{Told, Answers, Kept, Refusals, Demand1}
+use Rattle.promises.specs.Promises.{Told, Answers, Kept}
 use Rattle.answers.specs.Small.{number_back, offset_back, count_back}
-use Rattle.promises.specs.Results.{decode_inside, part_are, part_length}
 use Rattle.answers.specs.Calls.{Fine, check_fine, forward_fine, pack_fine, unpack_fine, pair_fine, shorten_fine, expand_fine, decode_fine, start_fine, step_fine, run_fine}
 
 -- ---- every answer is one of the paper's
@@ -64,7 +62,7 @@ answers =
 -- ---- a refusal changes nothing
 
 -- An output that the paper confines to the result is kept.
-kept : (numbers : ℕ → Bool) (w : Written) (out : List ℕ) (r : ℕ) (out' : List ℕ) → Fine numbers w.answer → Confined out w → Wrote w r out' → Kept out r out'
+pub kept : (numbers : ℕ → Bool) (w : Written) (out : List ℕ) (r : ℕ) (out' : List ℕ) → Fine numbers w.answer → Confined out w → Wrote w r out' → Kept out r out'
 kept numbers w out r out' f c p =
     let t = told numbers w.answer r f p.0 in
     record {
@@ -72,70 +70,4 @@ kept numbers w out r out' f c p =
       fits = rw t.count c.fits;
       rest = (λ i. drop (t.count i) (p.1 i)) ∙ c.rest ∙ ap (λ (n : ℕ). drop n out) (sym t.count);
       same = ap length p.1 ∙ c.same;
-    }
-
-refusals : Refusals
-refusals =
-    record {
-      pack = λ dictionary kernel out r out'.
-          kept pack_numbers (pack_call dictionary kernel out) out r out' (pack_fine dictionary kernel out) (pack_confined dictionary kernel out);
-      unpack = λ dictionary kernel out r out'.
-          kept unpack_numbers (unpack_call dictionary kernel out) out r out' (unpack_fine dictionary kernel out) (unpack_confined dictionary kernel out);
-      shorten = λ dictionary word out r out'.
-          kept shorten_numbers (shorten_call dictionary word out) out r out' (shorten_fine dictionary word out) (shorten_confined dictionary word out);
-      expand = λ dictionary word out r out'.
-          kept expand_numbers (expand_call dictionary word out) out r out' (expand_fine dictionary word out) (expand_confined dictionary word out);
-      start = λ mask flag0 flag1 state r state' p n.
-          let t = answers.start mask flag0 flag1 state r state' p in
-          p.1 ∙ (start_confined mask flag0 flag1 state).refused (λ e. n (t.number ∙ e));
-      step = λ dictionary kernel registers state r registers' state' p n.
-          let t = answers.step dictionary kernel registers state r registers' state' p in
-          let u = step-unchanged dictionary kernel registers state (λ e. n (t.number ∙ e)) in
-          (p.1 ∙ u.same_registers, p.2 ∙ u.same_state);
-      run = λ dictionary kernel budget registers state r registers' state' p n m a.
-          let t = answers.run dictionary kernel budget registers state r registers' state' p in
-          let u = run-unchanged dictionary kernel budget registers state (λ e. n (t.number ∙ e)) (λ e. m (t.number ∙ e)) (λ e. a (t.number ∙ e)) in
-          (p.1 ∙ u.same_registers, p.2 ∙ u.same_state);
-      log_append = λ log count v steps place awake r log'.
-          kept log_append_numbers (log_append_call log count (entry v steps place awake)) log r log' (log_append_fine log count (entry v steps place awake))
-          (append_confined log count (entry v steps place awake));
-      log_run = λ log count answer state r log'.
-          kept log_append_numbers (log_run_call log count answer state) log r log' (log_run_fine log count answer state) (run_confined log count answer state);
-      list = λ dictionary kernel out r out'.
-          kept list_numbers (list_call dictionary kernel out) out r out' (list_fine dictionary kernel out) (list_confined dictionary kernel out);
-      read = λ dictionary text out r out'.
-          kept read_numbers (read_call dictionary text out) out r out' (read_fine dictionary text out) (read_confined dictionary text out);
-      place = λ order six x y out r out'.
-          let at : Point = record { x = x; y = y } in
-          kept place_numbers (place_call order six at out) out r out' (place_fine order six at out) (place_confined order six at out);
-      place_kernel = λ out r out'. kept place_kernel_numbers (place_kernel_call out) out r out' (place_kernel_fine out) (place_kernel_confined out);
-      place_load = λ six registers r registers' p n.
-          let t = answers.place_load six registers r registers' p in
-          p.1 ∙ place_load_unchanged six registers (λ e. n (t.number ∙ e));
-    }
-
--- ---- the demand
-
-pub demand_1 : Demand1
-demand_1 =
-    record {
-      one_outcome = one_outcome;
-      answers = answers;
-      refusals = refusals;
-      decodes_inside = λ dictionary kernel place r p zero.
-          let t = answers.decode dictionary kernel place r p in
-          let i = decode_inside dictionary kernel place (sym t.number ∙ zero) in
-          rw t.count (i.size, i.ends);
-      decodes_part = λ dictionary kernel place r p.
-          let t = answers.decode dictionary kernel place r p in
-          let long : length (decode_part dictionary kernel place) ≡ count_in r = part_length dictionary kernel place ∙ sym t.count in
-          record {
-            are = part_are dictionary kernel place ∙ ap (λ (n : ℕ). take n (drop (8 * place) kernel)) (sym t.count);
-            counted = long;
-            empty = λ n. decode_refused dictionary kernel place (λ e. n (t.number ∙ e));
-            whole = λ none zero.
-                let i = decode_inside dictionary kernel place (sym t.number ∙ zero) in
-                let no : length (decode_part dictionary kernel place) ≡ 0 = ap length none in
-                elim i.size [ inl e ↦ omega (arith, t.count) | inr e ↦ omega (arith, t.count) ];
-          };
     }

@@ -13,9 +13,10 @@ use Rattle.laws.specs.Bytes.{bytes_append, bytes_bytes_of}
 use Rattle.paper.specs.Program.{line_of, program}
 use Rattle.laws.specs.Names.{relaid_by, long_form}
 use Rattle.laws.specs.Items.{Item, item_bytes, all_bytes, instrs_from}
-use Rattle.laws.specs.Packing.{kernel_of_lem, long_accepted, packed-accepted, packed-program, unpacked-accepted, unpacked-program, packed-items}
+use Rattle.laws.specs.Packing.{kernel_of_lem, long_accepted, packed-items}
+use Rattle.laws.proofs.PackingHolds.{packed-accepted, packed-program, unpacked-accepted, unpacked-program}
 use Rattle.laws.specs.Relay.{items_of, relay_items}
-use Rattle.laws.specs.Demands.{unpack_delivers}
+use Rattle.laws.proofs.DemandsHold.{unpack_delivers}
 use Rattle.contracts.specs.Contracts.{number_in, count_in, CheckPromise, PackPromise, UnpackPromise}
 use Rattle.promises.specs.Results.{check_accepts, accepted_checks, Writes, pack_writes, unpack_writes, pack_fits, unpack_fits, pack_full, unpack_full}
 use Rattle.promises.specs.Room.{relay_most, pack_most, unpack_most, all_long_accepted}

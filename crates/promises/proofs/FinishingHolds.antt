@@ -14,18 +14,19 @@ use Rattle.paper.specs.State.{state_of}
 use Rattle.paper.specs.Calls.{verdict, as_number, accepted, checked_as, check_call, forward_as, forward_call, number_of, offset_of, count_of}
 use Rattle.laws.specs.Names.{relaid_by, long_form}
 use Rattle.paper.specs.Program.{line_of, program}
-use Rattle.laws.specs.Forward.{forward_same}
-use Rattle.laws.specs.Finish.{ends_within}
-use Rattle.laws.specs.Packing.{kernel_of_lem, long_accepted, packed-accepted, packed-program, unpacked-accepted, unpacked-program}
+use Rattle.laws.proofs.ForwardHolds.{forward_same}
+use Rattle.laws.proofs.FinishHolds.{ends_within}
+use Rattle.laws.specs.Packing.{kernel_of_lem, long_accepted}
+use Rattle.laws.proofs.PackingHolds.{packed-accepted, packed-program, unpacked-accepted, unpacked-program}
 use Rattle.contracts.specs.Contracts.{number_in, offset_in, count_in, CheckPromise, ForwardPromise, PackPromise, UnpackPromise, StepPromise, RunPromise}
-use Rattle.contracts.specs.OneOutcomeHolds.{one_outcome}
+use Rattle.contracts.proofs.OneOutcomeHolds.{one_outcome}
 use Rattle.promises.specs.Promises.{result, Steps, nothing, onward, Legal}
 use Rattle.promises.specs.Finishing.{Ahead, Ends, EndsFromStart, Finishing}
 use Rattle.promises.specs.OutcomesHold.{answers}
 use Rattle.promises.specs.PackingHolds.{Relaid, check_counts, pack_wrote, unpack_wrote, relaid_bytes}
-use Rattle.promises.specs.AlikeHolds.{after_ran, start_legal}
-use Rattle.promises.specs.RunningHolds.{run_was_steps}
-use Rattle.promises.specs.ChangesHold.{step_changes}
+use Rattle.promises.proofs.AlikeHolds.{after_ran, start_legal}
+use Rattle.promises.proofs.RunningHolds.{run_was_steps}
+use Rattle.promises.proofs.ChangesHold.{step_changes}
 
 -- ---- what forward says
 

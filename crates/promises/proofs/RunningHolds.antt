@@ -12,7 +12,7 @@ use Rattle.promises.specs.Making.{run_made}
 use Rattle.promises.specs.Promises.{RunVerdict, WasSteps, Begun, Demand3}
 use Rattle.promises.specs.OutcomesHold.{answers}
 use Rattle.promises.specs.PackingHolds.{check_counts}
-use Rattle.promises.specs.AlikeHolds.{after_verdict, start_legal, packed_alike, unpacked_alike}
+use Rattle.promises.proofs.AlikeHolds.{after_verdict, start_legal, packed_alike, unpacked_alike}
 
 -- ---- a run is single steps
 

@@ -26,7 +26,7 @@ use Rattle.promises.specs.Listings.{ReadBack, Listings}
 use Rattle.promises.specs.Results.{near_no_zero, check_accepts, accepted_checks, wrote, result_is, deliver_fits, deliver_room}
 use Rattle.promises.specs.OutcomesHold.{answers}
 use Rattle.promises.specs.PackingHolds.{items_bytes}
-use Rattle.promises.specs.AlikeHolds.{program_alike}
+use Rattle.promises.proofs.AlikeHolds.{program_alike}
 
 -- A result is never answered with 30.
 deliver_thirty : (bytes out : List ℕ) → number_of (deliver bytes out).answer ≡ 30 → ⊥

@@ -12,7 +12,8 @@ use Rattle.paper.specs.Calls.{as_number, verdict, refusal_with, Changed, accepte
 use Rattle.paper.specs.Program.{program}
 use Rattle.laws.specs.Names.{named, named_outcome, relaid_by, long_form}
 use Rattle.laws.specs.Same.{same_runs}
-use Rattle.laws.specs.Packing.{kernel_of_lem, long_accepted, packed-accepted, packed-program, unpacked-accepted, unpacked-program, accepted_parts}
+use Rattle.laws.specs.Packing.{kernel_of_lem, long_accepted, accepted_parts}
+use Rattle.laws.proofs.PackingHolds.{packed-accepted, packed-program, unpacked-accepted, unpacked-program}
 use Rattle.laws.specs.Runs.{ended, spent, astray, verdict_says}
 use Rattle.laws.specs.Calls.{stopped_number, stopped_count}
 use Rattle.laws.specs.Demands.{Ready, run_ready}

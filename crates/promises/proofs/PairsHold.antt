@@ -11,14 +11,16 @@ use Rattle.paper.specs.Program.{program, agreed}
 use Rattle.paper.specs.Calls.{verdict, refusal_with, accepted, compared_as, paired_as, pair_call, loaded_by, load_part, number_of, count_of}
 use Rattle.laws.specs.Names.{long_form}
 use Rattle.laws.specs.Packing.{kernel_of_lem, long_accepted}
-use Rattle.laws.specs.Pairs.{Paired, paired_told, told_paired, paired_unpacks, unpacks_paired, packed_paired, load_counted}
+use Rattle.laws.specs.Pairs.{Paired, paired_told, told_paired, load_counted}
+use Rattle.laws.proofs.PairsHold.{paired_unpacks, unpacks_paired, packed_paired}
 use Rattle.contracts.specs.Contracts.{number_in, count_in, PackPromise, UnpackPromise, PairPromise}
 use Rattle.answers.specs.Kernels.{Near, accepted_near}
 use Rattle.promises.specs.Results.{near_no_zero, unpack_fits}
 use Rattle.promises.specs.Promises.{result, Alike, Loads, Pairs}
-use Rattle.promises.specs.OutcomesHold.{answers, demand_1}
+use Rattle.promises.specs.OutcomesHold.{answers}
+use Rattle.promises.proofs.RefusalsHold.{demand_1}
 use Rattle.promises.specs.PackingHolds.{pack_wrote, unpack_wrote, relaid_bytes}
-use Rattle.promises.specs.AlikeHolds.{program_alike}
+use Rattle.promises.proofs.AlikeHolds.{program_alike}
 
 -- ---- an answer of 0
 

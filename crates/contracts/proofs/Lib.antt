@@ -1,0 +1,2 @@
+-- Theorems: what follows from the definitions of specs/.
+pub mod OneOutcomeHolds
