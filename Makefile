@@ -7,19 +7,17 @@ place = $(DESTDIR)$(PREFIX)
 
 archive = target/staticlib/libspokeshaver.a
 checker = target/bin/checker
-sources := $(shell find crates.txt crates -type f)
+sources := $(shell find crates.txt crates -name out -prune -o -type f -print)
 version := $(shell sed -n 's/^\#define SPOKESHAVER_VERSION "\(.*\)"$$/\1/p' include/spokeshaver.h)
 programs = $(place)/libexec/spokeshaver
 
 all: $(archive) $(checker)
 
 $(archive): $(sources)
-	rt staticlib spokeshaver
-	touch $@
+	tools/build archive
 
 $(checker): $(sources)
-	rt check checker
-	touch $@
+	tools/build checker
 
 install: all
 	install -d "$(place)/bin" "$(place)/include" "$(place)/lib/pkgconfig" "$(programs)"
@@ -28,12 +26,12 @@ install: all
 	sed -e 's|@PREFIX@|$(abspath $(PREFIX))|' -e 's|@VERSION@|$(version)|' tools/spokeshaver.pc.in >"$(place)/lib/pkgconfig/spokeshaver.pc"
 	chmod 644 "$(place)/lib/pkgconfig/spokeshaver.pc"
 	install -m 755 $(checker) "$(programs)/checker"
-	install -m 644 tools/launch tools/verdict "$(programs)"
+	install -m 644 tools/verdict "$(programs)"
 	install -m 755 tools/spokeshaver-check "$(place)/bin/spokeshaver-check"
 
 uninstall:
 	rm -f "$(place)/bin/spokeshaver-check" "$(place)/include/spokeshaver.h" "$(place)/lib/libspokeshaver.a" "$(place)/lib/pkgconfig/spokeshaver.pc"
-	rm -f "$(programs)/checker" "$(programs)/launch" "$(programs)/verdict"
+	rm -f "$(programs)/checker" "$(programs)/verdict"
 	[ ! -d "$(programs)" ] || rmdir "$(programs)"
 
 .PHONY: all install uninstall

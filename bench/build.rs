@@ -1,4 +1,4 @@
-//! Links what bench/run made of the proved crate: the archive, or an object for this machine.
+//! Links the proved archive, or what bench/trial made of the code as it stands.
 
 fn main() {
     println!("cargo:rerun-if-env-changed=SPOKESHAVER_CODE");
