@@ -49,7 +49,8 @@ fn list_accepted(dictionary: &[u8], kernel: &[u8], out: &mut [u8]) -> Answer
     ensures { Wrote (deliver (listing (instrs_in dictionary.now kernel.now)) out.old) result out.new }
 {
     let n = text_length(dictionary, kernel);
-    if out.len() < n {
+    let room = out.len();
+    if room < n {
         return Answer::Refused(14, 0);
     }
     write_text(dictionary, kernel, out);

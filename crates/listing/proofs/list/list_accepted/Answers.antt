@@ -7,22 +7,22 @@ use Rattle.listing.specs.Passing.{instrs_in}
 use Rattle.listing.specs.Writing.{deliver_short, deliver_written}
 use Rattle.listing.proofs.list.list_accepted.Goals as goal
 
-pub returns-then-out-n : goal.returns-then-out-n
-returns-then-out-n c =
+pub returns-then-room-n : goal.returns-then-room-n
+returns-then-room-n c =
     let a = c.args in
     let e = c.text_length-n.ensures in
-    deliver_short (listing (instrs_in a.dictionary.now a.kernel.now)) a.out.now (omega (arith, e, c.if-out-n.true))
+    deliver_short (listing (instrs_in a.dictionary.now a.kernel.now)) a.out.now (omega (arith, e, c.if-room-n.true))
 
 pub write_text-requires : goal.write_text-requires
 write_text-requires c =
     let a = c.args in
     let e = c.text_length-n.ensures in
-    let h : length (listing (instrs_in a.dictionary.now a.kernel.now)) ≤ length a.out.now = omega (arith, e, c.if-out-n.false) in
+    let h : length (listing (instrs_in a.dictionary.now a.kernel.now)) ≤ length a.out.now = omega (arith, e, c.if-room-n.false) in
     record { listable = c.requires; kernel_in_bounds = h }
 
 pub returns : goal.returns
 returns c =
     let a = c.args in
     let e = c.text_length-n.ensures in
-    let h : length (listing (instrs_in a.dictionary.now a.kernel.now)) ≤ length a.out.now = omega (arith, e, c.if-out-n.false) in
+    let h : length (listing (instrs_in a.dictionary.now a.kernel.now)) ≤ length a.out.now = omega (arith, e, c.if-room-n.false) in
     deliver_written (listing (instrs_in a.dictionary.now a.kernel.now)) a.out.now _ _ h e c.write_text.ensures
