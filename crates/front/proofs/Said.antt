@@ -12,12 +12,12 @@ told_of (Ok x) A v w e h = subst A e h
 told_of (Err x) A v w e h = tt
 
 -- The first bytes of an input stand for all of it.
-pub told_by : {T E : Type 0} (known : Option (List ℕ)) (r : Result T E) (A : List ℕ → Type 0) (v : List ℕ)
-    → IfSome known (λ xs. v ≡ take 66049 xs) → OnOk r (A (input_text v)) → OnOk r (IfSome known (λ xs. A (input_text xs)))
-told_by None (Ok x) A v e h = tt
-told_by None (Err x) A v e h = tt
-told_by (Some xs) (Ok x) A v e h = subst A (ap input_text e ∙ input_cut xs) h
-told_by (Some xs) (Err x) A v e h = tt
+pub told_by : {T E : Type 0} (known : Option (List ℕ)) (r : Result T E) (A : List ℕ → Type 0) (v : List ℕ) (most : ℕ) → most ≡ 66049
+    → IfSome known (λ xs. v ≡ take most xs) → OnOk r (A (input_text v)) → OnOk r (IfSome known (λ xs. A (input_text xs)))
+told_by None (Ok x) A v most m e h = tt
+told_by None (Err x) A v most m e h = tt
+told_by (Some xs) (Ok x) A v most m e h = subst A (ap input_text (e ∙ ap (λ (k : ℕ). take k xs) m) ∙ input_cut xs) h
+told_by (Some xs) (Err x) A v most m e h = tt
 
 -- The lines in their buffer are the input's text.
 pub text_of : (input dictionary kernel rest written : List ℕ) (n : ℕ) → dictionary ≡ take (min dictionary_bytes (length input)) input

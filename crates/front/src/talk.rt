@@ -1,25 +1,16 @@
 // Reads a dictionary and a kernel, and writes the four lines.
-ghost use Rattle.std.specs.Prelude.{◌≡◌, IfOk, IfSome, OnOk, take};
+ghost use Rattle.std.specs.Prelude.{IfSome, OnOk};
 ghost use Rattle.std.specs.Io.KnownBytes.{Appends};
 ghost use Rattle.front.specs.Printed.{input_text};
 
+use crate::input::read_full;
 use crate::lines::{LINES_BYTES, lines_on};
-use std::alloc::Global;
 use std::io;
 use std::io::{Read, Write};
 use words::limits::{DICTIONARY_BYTES, KERNEL_BYTES};
 
 // As much as is read: a dictionary, and of a kernel one byte more than is allowed.
-pub const INPUT_BYTES: u64 = (DICTIONARY_BYTES + KERNEL_BYTES + 1) as u64;
-
-// The first bytes of what a reader has left, so many at the most.
-pub fn first_bytes<R: Read>(alloc: Global, reader: &mut R, most: u64) -> io::Result<Vec<u8>>
-    ensures { IfOk result (λ v. IfSome (R.remaining reader.old) (λ xs. v.items ≡ take most xs)) }
-{
-    let mut bytes = Vec::new(alloc);
-    reader.take(most).read_to_end(&mut bytes)?;
-    Ok(bytes)
-}
+pub const INPUT_BYTES: usize = DICTIONARY_BYTES + KERNEL_BYTES + 1;
 
 // Writes the four lines on an input.
 pub fn put_lines<W: Write>(writer: &mut W, input: &[u8]) -> io::Result<()>
@@ -33,12 +24,13 @@ pub fn put_lines<W: Write>(writer: &mut W, input: &[u8]) -> io::Result<()>
 
 // The first bytes are the dictionary, what follows is the kernel. Of a kernel that is too long, one byte more than is allowed is read, so that it is
 // refused as too long; what follows that byte changes nothing (`input_cut`) and stays unread.
-pub fn talk<R: Read, W: Write>(alloc: Global, reader: &mut R, writer: &mut W) -> io::Result<()>
+pub fn talk<R: Read, W: Write>(reader: &mut R, writer: &mut W) -> io::Result<()>
     ensures { OnOk result (IfSome (R.remaining reader.old)
         (λ xs. Appends (W.contents writer.old) (W.contents writer.new) (input_text xs))) }
 {
-    let input = first_bytes(alloc, reader, INPUT_BYTES)?;
-    put_lines(writer, input.as_slice())
+    let mut input = [0u8; INPUT_BYTES];
+    let n = read_full(reader, &mut input)?;
+    put_lines(writer, &input[..n])
 }
 
 #[cfg(test)]
@@ -54,7 +46,7 @@ mod tests {
         input[512] = 0x7E;
         input[528] = 0x7E;
         let mut written = Vec::new(rt.alloc());
-        talk(rt.alloc(), &mut input.as_slice(), &mut written)?;
+        talk(&mut input.as_slice(), &mut written)?;
         let text = b"verdict=0\nat=0\ninstructions=2\nbytes=32\n";
         assert_eq!(rt; written.as_slice(), text.as_slice());
         Ok(())

@@ -4,8 +4,8 @@ ghost use Rattle.std.specs.Io.KnownBytes.{Appends};
 ghost use Rattle.lister.specs.Shown.{input_shown};
 
 use crate::show::{TEXT_BYTES, show};
-use front::talk::{INPUT_BYTES, first_bytes};
-use std::alloc::Global;
+use front::input::read_full;
+use front::talk::INPUT_BYTES;
 use std::io;
 use std::io::{Read, Write};
 use words::limits::DICTIONARY_BYTES;
@@ -21,10 +21,11 @@ pub fn put_shown<W: Write>(writer: &mut W, input: &[u8]) -> io::Result<()>
 }
 
 // Of a kernel that is too long one byte more than is allowed is read, so that it is refused; what follows that byte changes nothing (`shown_input_cut`).
-pub fn talk<R: Read, W: Write>(alloc: Global, reader: &mut R, writer: &mut W) -> io::Result<()>
+pub fn talk<R: Read, W: Write>(reader: &mut R, writer: &mut W) -> io::Result<()>
     ensures { OnOk result (IfSome (R.remaining reader.old)
         (λ xs. Appends (W.contents writer.old) (W.contents writer.new) (input_shown xs))) }
 {
-    let input = first_bytes(alloc, reader, INPUT_BYTES)?;
-    put_shown(writer, input.as_slice())
+    let mut input = [0u8; INPUT_BYTES];
+    let n = read_full(reader, &mut input)?;
+    put_shown(writer, &input[..n])
 }

@@ -15,12 +15,12 @@ told_of (Ok x) A v w e h = subst A e h
 told_of (Err x) A v w e h = tt
 
 -- The first bytes of an input stand for all of it.
-pub told_by : {T E : Type 0} (known : Option (List ℕ)) (r : Result T E) (A : Written → Type 0) (v w : List ℕ)
-    → IfSome known (λ xs. v ≡ take 287233 xs) → w ≡ v → OnOk r (A (restored w)) → OnOk r (IfSome known (λ xs. A (restored xs)))
-told_by None (Ok x) A v w e k h = tt
-told_by None (Err x) A v w e k h = tt
-told_by (Some xs) (Ok x) A v w e k h = subst A (ap restored (k ∙ e) ∙ restored_cut xs) h
-told_by (Some xs) (Err x) A v w e k h = tt
+pub told_by : {T E : Type 0} (known : Option (List ℕ)) (r : Result T E) (A : Written → Type 0) (v : List ℕ) (most : ℕ) → most ≡ 287233
+    → IfSome known (λ xs. v ≡ take most xs) → OnOk r (A (restored v)) → OnOk r (IfSome known (λ xs. A (restored xs)))
+told_by None (Ok x) A v most m e h = tt
+told_by None (Err x) A v most m e h = tt
+told_by (Some xs) (Ok x) A v most m e h = subst A (ap restored (e ∙ ap (λ (k : ℕ). take k xs) m) ∙ restored_cut xs) h
+told_by (Some xs) (Err x) A v most m e h = tt
 
 -- Where nothing is written, the empty text is.
 pub unsaid : {T E : Type 0} (known : Option (List ℕ)) (r : Result T E) (w : List ℕ) → [] ≡ w → OnOk r (Appends known known w)

@@ -3,18 +3,17 @@ ghost use Rattle.std.specs.Prelude.{◌≡◌, ◌≤◌, IfSome, OnOk, length, 
 ghost use Rattle.std.specs.Io.KnownBytes.{Appends};
 ghost use Rattle.restorer.specs.Restored.{refusal_text, restored_output, restored_errors};
 
+use front::input::read_full;
 use front::lines::{LINES_BYTES, put_report};
 use front::report::refused;
-use front::talk::first_bytes;
 use listing::read::read;
-use std::alloc::Global;
 use std::io;
 use std::io::{Read, Write};
 use words::answer::Answer;
 use words::limits::{DICTIONARY_BYTES, KERNEL_BYTES};
 
 // As much as is read: a dictionary, and one byte more than a listing can have, which is 70 for each of 4,096 instructions.
-const INPUT_BYTES: u64 = DICTIONARY_BYTES as u64 + 286721;
+const INPUT_BYTES: usize = DICTIONARY_BYTES + 286721;
 
 // Writes the four lines of a refusal.
 fn say<E: Write>(errors: &mut E, number: u8, offset: u64) -> io::Result<()>
@@ -45,7 +44,6 @@ pub fn put_restored<W: Write, E: Write>(
 
 // What follows the bytes that are read changes nothing (`read_cut`) and stays unread.
 pub fn restore<R: Read, W: Write, E: Write>(
-    alloc: Global,
     reader: &mut R,
     output: &mut W,
     errors: &mut E,
@@ -55,6 +53,7 @@ pub fn restore<R: Read, W: Write, E: Write>(
     ensures errors { OnOk result (IfSome (R.remaining reader.old)
         (λ xs. Appends (E.contents errors.old) (E.contents errors.new) (restored_errors xs))) }
 {
-    let input = first_bytes(alloc, reader, INPUT_BYTES)?;
-    put_restored(output, errors, input.as_slice())
+    let mut input = [0u8; INPUT_BYTES];
+    let n = read_full(reader, &mut input)?;
+    put_restored(output, errors, &input[..n])
 }

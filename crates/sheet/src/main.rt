@@ -5,14 +5,22 @@
 mod call;
 mod obey;
 
+use front::input::read_full;
 use obey::run_rows;
 use std::rt::Files;
 use std::{fs, io};
 
-// Runs a file's cases. A file that cannot be read ends the run with its error.
-fn report<R: Files + Print + Alloc>(rt: &R, file: &str) -> io::Result<()> {
-    let text = fs::read(rt, file)?;
-    let desk = run_rows(rt, file, text.as_slice())?;
+// Room for a file, of which the last byte must stay free.
+const FILE_BYTES: usize = 262144;
+
+// Runs a file's cases. A file that cannot be read ends the run with its error; one that may be cut off has no line.
+fn report<R: Files + Print>(rt: &R, file: &str) -> io::Result<()> {
+    let mut text = [0u8; FILE_BYTES];
+    let n = read_full(&mut fs::open(rt, file)?, &mut text)?;
+    if n == FILE_BYTES {
+        return Ok(());
+    }
+    let desk = run_rows(rt, file, &text[..n])?;
     let right = desk.right;
     let total = desk.total;
     println!(rt; "{file}: {right} of {total} cases")

@@ -1,0 +1,21 @@
+// Reading into fixed memory.
+ghost use Rattle.std.specs.Prelude.{◌≡◌, ◌≤◌, IfOk, IfSome, length, take};
+
+use std::io;
+use std::io::Read;
+
+// Reads until the bytes are full or the input ends; how many were read.
+pub fn read_full<R: Read>(reader: &mut R, bytes: &mut [u8]) -> io::Result<usize>
+    ensures within { IfOk result (λ n. n ≤ length bytes.new) }
+    ensures first { IfOk result (λ n. IfSome (R.remaining reader.old) (λ xs. take n bytes.new ≡ take (length bytes.new) xs)) }
+{
+    let mut at = 0;
+    while at < bytes.len() {
+        let n = reader.read(&mut bytes[at..])?;
+        if n == 0 {
+            return Ok(at);
+        }
+        at += n;
+    }
+    Ok(at)
+}
