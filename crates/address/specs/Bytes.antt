@@ -1,7 +1,7 @@
 -- What an address names, in the paper's terms. Assumes nothing.
 use Rattle.std.specs.Prelude.{Bool, true, false, not, cond, ◌≡◌, refl, ℕ, ◌<◌, ltb, ℤ, pos, negsuc}
 use Rattle.std.proofs.lemmas.Bool.{false≢true}
-use Rattle.std.proofs.Common.{sym, ap, ◌∙◌, ltb-true}
+use Rattle.std.proofs.Common.{sym, ap, ltb-true}
 use Rattle.paper.specs.Limits.{register_bytes}
 use Rattle.paper.specs.Jump.{place_of}
 use Rattle.paper.specs.Address.{outside}

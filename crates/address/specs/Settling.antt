@@ -1,21 +1,18 @@
 -- What is said of a word whose operands by address are named directly one by one. Assumes nothing.
-use Rattle.std.specs.Prelude.{Bool, not, cond, ◌&&◌, ◌||◌, ◌≡◌, ℕ, ◌+◌, ◌*◌, ◌/◌, ◌%◌, ◌^◌, ◌<◌, eqb}
+use Rattle.std.specs.Prelude.{Bool, not, cond, ◌&&◌, ◌||◌, ◌≡◌, ℕ, ◌+◌, eqb}
 use Rattle.std.proofs.Math.Bool.{true, false}
 use mathlib.Core.List.{List, [], ◌∷◌, Memᴰ}
 use Rattle.std.proofs.Math.Path.{refl, sym, ap}
-use Rattle.std.proofs.Common.{ap₂, ◌∙◌, subst, arith, eqb-true}
-use Rattle.std.proofs.lemmas.Bool.{not-false}
+use Rattle.std.proofs.Common.{ap₂, ◌∙◌, subst}
 use Rattle.paper.specs.Bits.{bits}
-use Rattle.paper.specs.Word.{Source, src0, src1, shift_of, src_file, src_addr_mode, src_indirect, is_immediate, dst_by_address, src_by_address}
+use Rattle.paper.specs.Word.{Source, src0, src1, shift_of, src_file, src_addr_mode, src_indirect, dst_by_address, src_by_address}
 use Rattle.paper.specs.Operation.{Plain, sources}
 use Rattle.paper.specs.Jump.{place_of}
 use Rattle.paper.specs.Legal.{any_of, alignment_broken, reach_broken}
 use Rattle.paper.specs.Address.{address_of, outside, dst_address, src_address, named_directly, dst_direct, src_direct, all_direct, settled, some_outside, address_broken}
-use Rattle.laws.specs.Bits.{bits-high}
 use Rattle.laws.specs.Regions.{LegalPlain, Named, or-false, none_of}
 use Rattle.laws.specs.Settled.{spares, named_field, settled_none}
 use Rattle.laws.specs.Sources.{reads_two, one_or_two, sources_told}
-use Rattle.words.specs.Fields.{bits_within}
 use Rattle.words.specs.Words.{to_word}
 use Rattle.words.specs.declared.bytes.Word.{Word}
 use Rattle.judge.specs.Sources.{any_source, any_source_lem}

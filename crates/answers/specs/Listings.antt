@@ -1,6 +1,6 @@
 -- The answers of listing and reading fit too: an instruction has at most 70 bytes of lines and 16 of kernel, and 30 names one of the first 4,096 × 70 bytes. Assumes
 -- nothing.
-use Rattle.std.specs.Prelude.{Bool, not, ◌||◌, List, [], ◌∷◌, ◌≡◌, refl, ℕ, ◌*◌, ◌≤◌, eqb, length}
+use Rattle.std.specs.Prelude.{not, ◌||◌, List, [], ◌∷◌, ◌≡◌, refl, ℕ, ◌*◌, ◌≤◌, eqb, length}
 use Rattle.std.proofs.Common.{arith, length-append}
 use Rattle.paper.specs.Limits.{dictionary_bytes, kernel_bytes, instruction_limit}
 use Rattle.paper.specs.Dictionary.{dictionary_of, in_range}

@@ -1,18 +1,18 @@
 -- The answers of the calls on logs fit too, since a buffer has less than 2^32 bytes. Assumes nothing.
-use Rattle.std.specs.Prelude.{Bool, true, false, cond, ◌&&◌, List, ◌≡◌, ℕ, ◌+◌, ◌^◌, ◌≤◌, ◌<◌, leb, take}
+use Rattle.std.specs.Prelude.{Bool, true, ◌&&◌, List, ◌≡◌, ℕ, ◌+◌, ◌^◌, ◌≤◌, ◌<◌, leb, take}
 use Rattle.std.proofs.Math.Path.{refl}
 use Rattle.std.proofs.Common.{arith}
 use Rattle.std.proofs.Math.Dec.{eqb}
 use Rattle.paper.specs.Limits.{state_length}
 use Rattle.std.proofs.Math.ListN.{length}
 use borrow.Author.Tests.{leb-true}
-use Rattle.paper.specs.Calls.{Answer, verdict, refusal, refusal_with, number_of, Written}
+use Rattle.paper.specs.Calls.{verdict, refusal, refusal_with, Written}
 use Rattle.paper.specs.Log.{Entry, entry_legal, record_text, Reading, readable, unreadable, reading, log_sized, bytes_read, runs_read, log_read_call, log_runs_call, added_at, appended_to, appended, log_append_call, entry_of, log_run_call}
 use Rattle.laws.specs.Truth.{both_true}
 use Rattle.run_log.specs.Logs.{read_within}
 use Rattle.run_log.specs.Calls.{sized_count, sized_bits, part_most}
 use Rattle.answers.specs.Numbers.{log_read_numbers, log_append_numbers}
-use Rattle.answers.specs.Small.{Small, small_refusal, small_verdict, small_counts}
+use Rattle.answers.specs.Small.{small_refusal, small_verdict, small_counts}
 use Rattle.answers.specs.Calls.{Fine, by_cond}
 
 no : (numbers : ℕ → Bool) (number : ℕ) → numbers number ≡ true → number ≤ 32 → Fine numbers (refusal number 0)

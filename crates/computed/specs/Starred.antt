@@ -1,7 +1,7 @@
 -- The bench sheet's starred rows A, B, H and I: calls that are lent a dictionary; and the smallest index among repeats. Assumes nothing.
 use Rattle.std.specs.Prelude.{List, [], ◌∷◌, ◌++◌, refl, ℕ, ◌+◌, ◌-◌, ◌^◌, take, set}
 use Rattle.paper.specs.Bits.{◌at◌, bytes_of}
-use Rattle.paper.specs.Calls.{Changed, check_call, pack_call, unpack_call, shorten_call, expand_call, run_call}
+use Rattle.paper.specs.Calls.{check_call, pack_call, unpack_call, shorten_call, expand_call, run_call}
 use Rattle.paper.specs.Assembler.{dwords, structured_to, nop_word, long, numbers, zeros, blank_dictionary, dictionary_a, clear, begin}
 use Rattle.paper.specs.Sheet.{Row, ◌gives◌, shown, written, room, long_a, short_a, kernel_i}
 use Rattle.paper.specs.SheetHolds.{Hold}

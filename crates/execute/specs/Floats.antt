@@ -1,14 +1,14 @@
 -- What an instruction on floats makes of the patterns that its sources read. Assumes nothing.
-use Rattle.std.specs.Prelude.{◌≡◌, Bool, true, ◌&&◌, ◌||◌, List, ℕ, ◌+◌, ◌*◌, ◌%◌, ◌^◌, ◌<◌, eqb, ℤ, length, get_or}
+use Rattle.std.specs.Prelude.{◌≡◌, Bool, true, ◌||◌, List, ℕ, ◌+◌, ◌*◌, ◌%◌, ◌^◌, ◌<◌, eqb, ℤ, length, get_or}
 use Rattle.std.proofs.Math.Path.{refl, ap}
-use Rattle.std.proofs.Common.{sym, ◌∙◌, subst, true≢false}
-use Rattle.std.proofs.Math.Bool.{false, cond, or-true}
+use Rattle.std.proofs.Common.{sym, ◌∙◌, true≢false}
+use Rattle.std.proofs.Math.Bool.{false, cond}
 use Rattle.std.proofs.lemmas.Bool.{false≢true}
 use Rattle.std.proofs.Math.IntN.{pos}
 use Rattle.paper.specs.Bits.{bit}
-use Rattle.paper.specs.Word.{src0, src1, cond_modifier, saturate, is_null, dst_type, dst_stride, src_type}
+use Rattle.paper.specs.Word.{src0, src1, cond_modifier, is_null, dst_type, dst_stride, src_type}
 use Rattle.paper.specs.Operation as paper
-use Rattle.paper.specs.Value.{type_f, width, size_of, mod_z, stored}
+use Rattle.paper.specs.Value.{type_f, size_of, mod_z, stored}
 use Rattle.paper.specs.Element.{Element, one_if, is_float, meaning, result, float_result, result_of, made}
 use Rattle.paper.specs.Region.{src_is_vector, src_kind, channels, stride_of, dst_origin}
 use Rattle.paper.specs.Effect.{operand, scattered}

@@ -1,7 +1,7 @@
 -- What a legal word gives whose operands are named directly: sources that can be read, a destination that can be written. Assumes nothing.
 use Rattle.std.specs.Prelude.{◌≡◌, Bool, cond, ◌&&◌, ◌||◌, ℕ, ◌+◌, ◌≤◌, ◌<◌, eqb, ltb, leb}
 use Rattle.std.proofs.Math.Path.{refl, ap}
-use Rattle.std.proofs.Common.{sym, ◌∙◌, true≢false, arith, pow_mono}
+use Rattle.std.proofs.Common.{sym, ◌∙◌, true≢false, arith}
 use Rattle.std.proofs.Math.Bool.{true, false, not}
 use Rattle.std.proofs.lemmas.Bool.{false≢true}
 use mathlib.Core.List.{List, Memᴰ}
@@ -16,7 +16,7 @@ use Rattle.laws.specs.Settled.{settled_none}
 use Rattle.paper.specs.Value.{type_f, type_vf, IsType}
 use Rattle.paper.specs.Region.{src_is_vector, channels, dst_size, dst_element}
 use Rattle.paper.specs.Word.{is_null, dst_is_a0, src_is_a0}
-use Rattle.paper.specs.Legal.{any_of, misplaced, unequal_halves, bad_modifier, own_rule_broken, mixed, vector_too_short, quarter_served, predicate_served, condition_served, control_served, register_type, immediate_type, dst_served, src_served, uses_a0, moves_words, dst_is_float, src_is_float, uses_floats, floats_served, plain_served, operand_rule_broken, bytes_in}
+use Rattle.paper.specs.Legal.{any_of, misplaced, unequal_halves, bad_modifier, own_rule_broken, mixed, quarter_served, predicate_served, condition_served, control_served, register_type, immediate_type, dst_served, src_served, uses_a0, moves_words, dst_is_float, src_is_float, uses_floats, floats_served, plain_served, operand_rule_broken, bytes_in}
 use Rattle.paper.specs.Enable.{channel_of}
 use Rattle.laws.specs.Truth.{both_true}
 use Rattle.laws.specs.Values.{IsWhole, register_type_lem}

@@ -1,5 +1,5 @@
 -- One channel's result as the sixteen of an array, of which the others are 0. Assumes nothing.
-use Rattle.std.specs.Prelude.{◌≡◌, refl, Bool, true, false, List, ℕ, zero, suc, ◌+◌, ◌*◌, ◌%◌, ◌^◌, ◌≤◌, ◌<◌, eqb}
+use Rattle.std.specs.Prelude.{◌≡◌, refl, Bool, false, List, ℕ, zero, suc, ◌+◌, ◌%◌, ◌^◌, ◌≤◌, ◌<◌, eqb}
 use Rattle.std.proofs.Common.{sym, ◌∙◌, subst, arith, lit<}
 use Rattle.std.proofs.Math.Path.{ap}
 use Rattle.std.proofs.Math.Bool.{cond}
@@ -9,7 +9,7 @@ use Rattle.paper.specs.Bits.{bit, put_at}
 use Rattle.paper.specs.Word.{src0, cond_modifier, saturate, dst_type, is_null, dst_is_a0}
 use Rattle.paper.specs.Value.{width, stored}
 use Rattle.paper.specs.Element.{result}
-use Rattle.paper.specs.Region.{Region, channels, dst_origin, dst_size, dst_element}
+use Rattle.paper.specs.Region.{Region, channels, dst_size, dst_element}
 use Rattle.paper.specs.Enable.{of_bits}
 use Rattle.paper.specs.Effect.{scattered}
 use Rattle.words.specs.Operations.{plain_is}

@@ -1,6 +1,6 @@
 -- A store takes as many low bytes of a number as it has, and no more. Assumes nothing.
 use Rattle.std.specs.Prelude.{◌≡◌, refl, Bool, List, ℕ, zero, suc, ◌+◌, ◌*◌, ◌/◌, ◌%◌, ◌^◌, ◌<◌, set}
-use Rattle.std.proofs.Common.{ap, ◌∙◌, arith, pow-suc, lit<, pow_pos}
+use Rattle.std.proofs.Common.{arith, pow-suc, lit<}
 use Rattle.std.proofs.Math.Arith.{mod-mul}
 use Rattle.paper.specs.Bits.{put_at}
 use Rattle.paper.specs.Effect.{scattered}

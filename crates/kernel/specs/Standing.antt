@@ -2,7 +2,7 @@
 use Rattle.std.specs.Prelude.{Bool}
 use Rattle.std.proofs.Math.Bool.{true, false, cond}
 use mathlib.Core.List.{List, [], ◌∷◌}
-use Rattle.std.proofs.Math.Option.{none, some, none-ne-some, some-injective}
+use Rattle.std.proofs.Math.Option.{some, none-ne-some, some-injective}
 use Rattle.std.proofs.Math.Path.{◌≡◌, refl, ap, subst}
 use Rattle.std.proofs.Common.{sym, ◌∙◌, arith}
 use Prim.Native.Nat.{ℕ, zero, suc, ◌+◌, ◌*◌, ◌/◌, ◌%◌, ◌<◌, ◌≤◌}
@@ -15,7 +15,7 @@ use Rattle.paper.specs.Expand.{is_short, expand}
 use Rattle.paper.specs.Kernel.{Instr, Forms, Judged, refused, passed, judge_at, Parsed, bad, good, prepend, enter, walk}
 use Rattle.paper.specs.Jump.{fetch}
 use Rattle.laws.specs.Judged.{Passed, as_long, as_short, judge_passed}
-use Rattle.laws.specs.Places.{At, here, there, at, fetch-here, fetch-there}
+use Rattle.laws.specs.Places.{here, there, at, fetch-here, fetch-there}
 
 -- ---- one instruction's size and word, by its first eight bytes
 

@@ -1,6 +1,6 @@
 -- Masks: numbers of 16 bits, bit m being channel m's. Predicates and enabled channels as masks, by the numbers that a word's fields hold.
 -- Assumes nothing.
-use Rattle.std.specs.Prelude.{Bool, true, not, cond, ◌&&◌, ◌||◌, List, [], ◌∷◌, ℕ, zero, suc, ◌+◌, ◌-◌, ◌*◌, ◌/◌, ◌%◌, ◌^◌, eqb}
+use Rattle.std.specs.Prelude.{Bool, not, cond, ◌&&◌, ◌||◌, List, [], ◌∷◌, ℕ, zero, suc, ◌+◌, ◌-◌, ◌*◌, ◌/◌, ◌%◌, ◌^◌, eqb}
 use Rattle.paper.specs.Bits.{bit}
 use Rattle.paper.specs.Enable.{any_bit, group_start, vote, predicate, of_bits}
 

@@ -1,7 +1,7 @@
 -- a0's bytes stay bytes, whatever is run (02 §7): so a state that was lent as bytes is left as bytes. Assumes nothing.
-use Rattle.std.specs.Prelude.{Bool, true, false, cond, List, [], ◌∷◌, map, ◌≡◌, refl, ℕ, zero, suc, ◌+◌, ◌/◌, ◌%◌, ◌<◌, set}
+use Rattle.std.specs.Prelude.{Bool, true, List, [], ◌∷◌, ◌≡◌, refl, ℕ, zero, suc, ◌+◌, ◌/◌, ◌%◌, ◌<◌, set}
 use Rattle.std.proofs.Math.Option.{Option, none, some}
-use Rattle.std.proofs.Common.{sym, ap, ◌∙◌, subst, mod-lt, arith}
+use Rattle.std.proofs.Common.{sym, subst, mod-lt, arith}
 use Rattle.std.proofs.Math.Pow.{are_bytes}
 use Rattle.paper.specs.Bits.{put_at}
 use Rattle.paper.specs.Word.{dst_is_a0}

@@ -1,12 +1,12 @@
 -- What an instruction may change of a0 (02 §7, §14): bytes of the destination elements of its enabled channels, and only if it is a mov to a0. Assumes nothing.
-use Rattle.std.specs.Prelude.{Bool, true, false, not, cond, ◌&&◌, ◌||◌, ◌≡◌, eqb, leb, get_or}
+use Rattle.std.specs.Prelude.{Bool, true, false, cond, ◌&&◌, ◌||◌, ◌≡◌, eqb, get_or}
 use Rattle.std.proofs.lemmas.Bool.{false≢true}
-use mathlib.Core.List.{List, Memᴰ}
+use mathlib.Core.List.{List}
 use Rattle.std.proofs.Math.Path.{refl}
 use Rattle.std.proofs.Common.{sym, ap, ◌∙◌, subst, eqb-true}
 use Prim.Native.Nat.{ℕ, ◌+◌, ◌*◌, ◌<◌, ◌≤◌}
 use Rattle.paper.specs.Bits.{bits}
-use Rattle.paper.specs.Word.{Source, src0, src1, shift_of, dst_file, dst_type, dst_register, dst_addr_mode, grf, arf, a0, is_null, dst_is_a0, dst_by_address}
+use Rattle.paper.specs.Word.{Source, src0, src1, shift_of, dst_file, dst_addr_mode, grf, arf, a0, is_null, dst_is_a0, dst_by_address}
 use Rattle.paper.specs.Value.{size_of}
 use Rattle.paper.specs.Operation.{Plain, Operation, plain, nop, branch, unlisted, operation, traits}
 use Rattle.paper.specs.Region.{stride_of, channels, register_at, dst_size, dst_element}

@@ -1,6 +1,6 @@
 -- The bench as it stood before 02 §7, when every operand was named directly and there was no a0: 7, 10 and 11, what an instruction does, the state, start, step and run. Where the paper has
 -- changed a definition, the one that stood is written out here under its name with `direct` before it. Assumes nothing.
-use Rattle.std.specs.Prelude.{Bool, true, false, not, cond, ◌&&◌, ◌||◌, List, [], ◌++◌, map, ℕ, ◌+◌, ◌-◌, ◌*◌, ◌/◌, eqb, ltb, leb, length}
+use Rattle.std.specs.Prelude.{Bool, not, cond, ◌&&◌, ◌||◌, List, [], ◌++◌, map, ℕ, ◌+◌, ◌-◌, ◌*◌, ◌/◌, eqb, ltb, leb, length}
 use Rattle.std.proofs.Math.Option.{Option, none, some}
 use Rattle.paper.specs.Bits.{bytes_of}
 use Rattle.paper.specs.Limits.{register_bytes, budget_limit}

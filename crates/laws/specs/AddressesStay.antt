@@ -2,7 +2,7 @@
 -- and a start leaves what it left, and zeros. Assumes nothing.
 use Rattle.std.specs.Prelude.{Bool, true, false, not, cond, ◌≡◌, eqb, ltb, length, take, drop, replicate}
 use Rattle.std.proofs.Math.Bool.{◌&&◌}
-use mathlib.Core.List.{List, [], ◌∷◌, ◌++◌, map, append_assoc}
+use mathlib.Core.List.{List, [], ◌∷◌, ◌++◌, map}
 use Rattle.std.proofs.Math.Option.{Option, none, some}
 use Rattle.std.proofs.Math.Path.{refl, sym, ap₂}
 use Rattle.std.proofs.Common.{ap, ◌∙◌, arith, take-append-drop, length-take-le, eq-eqb, ne_eqb}
@@ -12,11 +12,10 @@ use Rattle.paper.specs.Limits.{register_bytes, address_bytes, state_length, budg
 use Rattle.paper.specs.Operation.{Branch, jmpi, if, else, endif, while, break, cont, Operation, plain, nop, branch, unlisted, operation}
 use Rattle.paper.specs.Store.{Store}
 use Rattle.paper.specs.Enable.{holds, enabled}
-use Rattle.paper.specs.Address.{address_stops}
 use Rattle.paper.specs.Kernel.{Instr, long_and_short, good}
 use Rattle.paper.specs.Jump.{fetch}
-use Rattle.paper.specs.Machine.{Channel, State, Ways, wake, is_awake, park, each, someone, act, ways_of, step_on, step, stops_on, stops, or_spent, Outcome, run, start}
-use Rattle.paper.specs.State.{half, awake_bit, waiting_bit, waiting_place, channel_in, one_of_three, channels_in, all_three, state_lands, addresses_in, state_of, state_legal, state_bytes}
+use Rattle.paper.specs.Machine.{Channel, State, Ways, wake, is_awake, park, each, someone, act, ways_of, step, stops_on, stops, or_spent, Outcome, run, start}
+use Rattle.paper.specs.State.{half, channel_in, one_of_three, channels_in, all_three, state_lands, addresses_in, state_of, state_legal, state_bytes}
 use Rattle.paper.specs.Calls.{Answer, verdict, refusal, refusal_with, Changed, unchanged, sized, judged_kernel, start_call, all_sized, stopped_as, stepped_as, step_call, ran_as, run_call}
 use Rattle.laws.specs.Adding.{each_fetched, accepted_each, accepted_stays, steps_same}
 use Rattle.laws.specs.Bytes.{number_at-append}

@@ -1,9 +1,9 @@
 -- How far two programs are the same: the comparison finds their first difference, and it finds none exactly where they are one. Assumes nothing.
-use Rattle.std.specs.Prelude.{◌≡◌, refl, Bool, true, false, cond, ◌&&◌, ℕ, zero, suc, ◌≤◌, eqb, length}
+use Rattle.std.specs.Prelude.{◌≡◌, refl, Bool, true, false, cond, ℕ, zero, suc, ◌≤◌, eqb, length}
 use Rattle.std.proofs.Common.{ap, ap₂, sym, ◌∙◌, arith, eqb-true, eq-eqb}
 use Rattle.std.proofs.lemmas.Bool.{false≢true}
-use mathlib.Core.List.{List, [], ◌∷◌, head-eq_of_cons-eq, tail-eq_of_cons-eq}
-use Rattle.std.proofs.Math.Option.{Option, none, some, none-ne-some, some-ne-none, some-injective}
+use mathlib.Core.List.{List, [], ◌∷◌}
+use Rattle.std.proofs.Math.Option.{none, some, none-ne-some, some-ne-none, some-injective}
 use Rattle.std.proofs.Math.ListN.{get_elem?}
 use Rattle.paper.specs.Program.{Line, same_numbers, same_line, agreed}
 use Rattle.laws.specs.Truth.{both_true}

@@ -28,7 +28,7 @@ use Rattle.laws.specs.Places.{of_fetched}
 use Rattle.laws.specs.Regions.{LegalPlain, or-false}
 use Rattle.laws.specs.Settled.{field_stays, channels-settled, enabled-settled}
 use Rattle.laws.specs.Relay.{Sane, AllSane}
-use Rattle.laws.specs.Scatter.{registers_length, registers_changed, addresses_kept, element_kept}
+use Rattle.laws.specs.Scatter.{registers_length, registers_changed, element_kept}
 use Rattle.laws.specs.Truth.{both_true}
 
 -- ---- registers

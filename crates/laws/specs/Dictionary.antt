@@ -1,6 +1,6 @@
 -- Laws of the dictionary's rule 2: the test says that each number fits its table. Assumes nothing.
-use Rattle.std.specs.Prelude.{Bool, true, false, ◌&&◌, ◌≡◌, refl, ℕ, zero, suc, ◌^◌, ◌<◌}
-use Rattle.std.proofs.Common.{true≢false, sym, subst, arith, ltb-true, lt-ltb}
+use Rattle.std.specs.Prelude.{true, ◌≡◌, refl, ℕ, zero, suc, ◌^◌, ◌<◌}
+use Rattle.std.proofs.Common.{subst, arith, ltb-true, lt-ltb}
 use Rattle.std.proofs.Math.Decide.{dec_lt}
 use Rattle.paper.specs.Dictionary.{Dictionary, table_width, fit_below, in_range}
 use Rattle.laws.specs.Truth.{both_true}

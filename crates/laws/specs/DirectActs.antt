@@ -1,5 +1,5 @@
 -- An operation that uses neither a0 nor an address has the effect that it had, and leaves a0 alone; and no address of it is broken. Assumes nothing.
-use Rattle.std.specs.Prelude.{Bool, not, ◌&&◌, ◌||◌, ◌≡◌, ℕ, ◌-◌, eqb}
+use Rattle.std.specs.Prelude.{Bool, ◌&&◌, ◌||◌, ◌≡◌, ℕ, ◌-◌, eqb}
 use Rattle.std.proofs.Math.Bool.{true, false, cond}
 use Rattle.std.proofs.lemmas.Bool.{false≢true}
 use mathlib.Core.List.{List, Memᴰ}
@@ -7,8 +7,8 @@ use Rattle.std.proofs.Math.Path.{refl, sym, ap}
 use Rattle.std.proofs.Common.{◌∙◌}
 use Rattle.paper.specs.Word.{Source, src0, src1, cond_modifier, saturate, flag_choice, dst_type}
 use Rattle.paper.specs.Word.{src_type, src_modifier, immediate}
-use Rattle.paper.specs.Word.{a0, is_null, is_immediate, src_by_address}
-use Rattle.paper.specs.Operation.{Plain, operation, traits, sources}
+use Rattle.paper.specs.Word.{is_null, is_immediate, src_by_address}
+use Rattle.paper.specs.Operation.{Plain, traits, sources}
 use Rattle.paper.specs.Value.{type_vf, width}
 use Rattle.paper.specs.Element.{Element, made, meets, result, float_result, result_of}
 use Rattle.paper.specs.Store.{Store}

@@ -1,6 +1,6 @@
 -- An operation without a float among its operands has the effect that it had (02 §8). Assumes nothing.
 use Rattle.std.proofs.Math.Bool.{Bool, true, cond}
-use Rattle.std.specs.Prelude.{false, ◌&&◌, ◌||◌, ◌≡◌, ℕ, ◌-◌, eqb, ℤ}
+use Rattle.std.specs.Prelude.{false, ◌&&◌, ◌||◌, ◌≡◌, ℕ, ◌-◌, eqb}
 use Rattle.std.proofs.lemmas.Bool.{false≢true}
 use mathlib.Core.List.{List, Memᴰ}
 use Rattle.std.proofs.Math.Path.{refl, ap, ap₂}
@@ -9,7 +9,7 @@ use Rattle.paper.specs.Word.{Source, src0, src1, cond_modifier, saturate, flag_c
 use Rattle.paper.specs.Operation.{Plain, traits, sources}
 use Rattle.paper.specs.Value.{type_f, type_vf, width}
 use Rattle.paper.specs.Element.{Element, is_float, meaning, result, result_of, made, meets}
-use Rattle.paper.specs.Region.{channels, Operand, fixed, vector, direct, src_region, src_kind, operand_of, dst_element, dst_size}
+use Rattle.paper.specs.Region.{channels, fixed, vector, direct, src_region, src_kind, operand_of, dst_element, dst_size}
 use Rattle.paper.specs.Store.{Store}
 use Rattle.paper.specs.Enable.{chosen_flag, holds, channel_of, enabled, flag_after}
 use Rattle.paper.specs.Effect.{pattern_at, operand, file_in, source_at, channel_stores, scattered, is_on, written_to, registers_after, addresses_after, finds, compared_flag, plain_effect}

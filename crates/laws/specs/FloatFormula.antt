@@ -1,11 +1,11 @@
 -- A value that was written as a pattern is read back as itself, so a chain of operations on patterns is the chain on values, written at its end. Assumes nothing.
-use Rattle.std.specs.Prelude.{◌≡◌, refl, Bool, true, ℕ, T, Float}
-use Rattle.std.proofs.Common.{sym, ap, ◌∙◌, subst}
+use Rattle.std.specs.Prelude.{◌≡◌, true, ℕ, T, Float}
+use Rattle.std.proofs.Common.{sym, ◌∙◌, subst}
 use Rattle.std.specs.Float.{binary32}
 use Rattle.std.specs.Float.Ieee.{fits, add, mul}
 use Rattle.std.specs.Float.Ieee.Bits.{of_bits-to_bits}
 use Rattle.std.specs.Float.Ieee.Fits.{add-fits, mul-fits}
-use Rattle.paper.specs.Single.{float, pattern, sum, product}
+use Rattle.paper.specs.Single.{float, pattern, sum}
 use Rattle.paper.specs.Placing.{placed_value, placed}
 
 -- What a single float holds: every value of Rattle's f32 is such a one, a NaN too.

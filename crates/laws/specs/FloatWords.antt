@@ -1,11 +1,11 @@
 -- What 02 §8 added to the rules of a word: one without a float among the operands that it reads is judged as it was; one with a float was 7. Assumes nothing.
 use Rattle.std.proofs.Math.Bool.{Bool, true, false, not}
 use Rattle.std.specs.Prelude.{cond, ◌&&◌, ◌||◌, ◌⊎◌, ◌≡◌}
-use Rattle.std.proofs.lemmas.Bool.{false≢true, not-true, not-false}
-use Rattle.std.proofs.Common.{true≢false, inl, inr, sym, ◌∙◌, arith, eqb-true, lt-ltb}
-use mathlib.Core.List.{List, [], ◌∷◌, Memᴰ}
+use Rattle.std.proofs.lemmas.Bool.{not-true, not-false}
+use Rattle.std.proofs.Common.{inl, inr, sym, ◌∙◌, arith, eqb-true, lt-ltb}
+use mathlib.Core.List.{Memᴰ}
 use Rattle.std.proofs.Math.Path.{refl, ap, ap₂}
-use Prim.Native.Nat.{ℕ, ◌%◌, ◌≤◌, ◌<◌}
+use Prim.Native.Nat.{ℕ, ◌≤◌}
 use Rattle.std.proofs.Math.Dec.{eqb, ltb, leb}
 use Rattle.paper.specs.Bits.{bits}
 use Rattle.paper.specs.Word.{Source, dst_file, dst_type, dst_addr_mode, src_file, src_type, src_addr_mode, grf, is_null, dst_is_a0, src_is_a0, is_immediate}

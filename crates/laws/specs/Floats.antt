@@ -3,7 +3,7 @@
 use Rattle.std.specs.Prelude.{Bool, true, false, List, map, ◌⊎◌, ◌≡◌, refl, ℕ}
 use Rattle.std.proofs.lemmas.Bool.{false≢true}
 use Rattle.std.proofs.Common.{inl, inr, sym, ap, ◌∙◌, arith}
-use Rattle.paper.specs.Operation.{Plain, Operation, plain, nop, branch, unlisted, operation}
+use Rattle.paper.specs.Operation.{Operation, plain, nop, branch, unlisted, operation}
 use Rattle.paper.specs.Store.{Store}
 use Rattle.paper.specs.Address.{settled}
 use Rattle.paper.specs.Effect.{plain_effect, effect}

@@ -1,7 +1,7 @@
 -- The rules as they stood before floats were served (02 §8): 7, 8, and what an instruction does. A definition of the paper that the request changed is written out here as it
 -- stood, under its name with `whole` before it, every number being whole then. What it names without `whole` is the paper's of today. Of that, `size_of` and `is_signed` gained
 -- code 7, and are what they were at codes 0 to 5 (`sizes_stay` and `signs_stay` of FloatWords), the only ones that passed 7. Assumes nothing.
-use Rattle.std.specs.Prelude.{Bool, true, false, not, cond, ◌&&◌, ◌||◌, List, map, ℕ, ◌-◌, ◌%◌, eqb, ltb, leb, ℤ, ◌-ℤ◌}
+use Rattle.std.specs.Prelude.{Bool, not, cond, ◌&&◌, ◌||◌, List, map, ℕ, ◌-◌, ◌%◌, eqb, ltb, leb, ℤ, ◌-ℤ◌}
 use Rattle.paper.specs.Bits.{bits}
 use Rattle.paper.specs.Word.{Source, src0, src1, cond_modifier, saturate, dst_file, dst_type, dst_addr_mode, src_file, src_type, src_modifier, src_addr_mode}
 use Rattle.paper.specs.Word.{grf, is_null, dst_is_a0, src_is_a0, is_immediate, immediate}

@@ -1,13 +1,12 @@
 -- Bytes that were laid out parse to the instructions that they were laid out from. Assumes nothing.
-use Rattle.std.specs.Prelude.{Bool, true, false, not, cond, ◌||◌, ◌≡◌, refl, eqb, ltb}
+use Rattle.std.specs.Prelude.{true, false, ◌≡◌, eqb}
 use mathlib.Core.List.{List, [], ◌∷◌, ◌++◌, append_assoc}
 use Rattle.std.proofs.Math.Option.{Option, none, some}
 use Rattle.std.proofs.Math.Path.{sym, ap}
-use Rattle.std.proofs.Common.{ap₂, ◌∙◌, subst, mod-eq_of_lt, length-drop, drop-drop, drop_at, lt-ltb, le-ltb}
+use Rattle.std.proofs.Common.{◌∙◌, subst, mod-eq_of_lt, length-drop, drop-drop, drop_at, lt-ltb, le-ltb}
 use Prim.Native.Nat.{ℕ, zero, suc, ◌+◌, ◌-◌, ◌*◌, ◌/◌, ◌%◌, ◌^◌, ◌<◌, ◌≤◌}
 use native.Mathlib.Omega.{arith}
 use Rattle.std.proofs.Math.ListN.{length, drop, length-append}
-use Rattle.std.proofs.Math.Seq.{drop-append-add}
 use Rattle.paper.specs.Bits.{bits, number, number_at, bytes_of}
 use Rattle.paper.specs.Limits.{instruction_limit}
 use Rattle.paper.specs.Dictionary.{Dictionary}
@@ -15,7 +14,7 @@ use Rattle.paper.specs.Expand.{expand, is_short}
 use Rattle.paper.specs.Shorten.{Shortens}
 use Rattle.paper.specs.Operation.{operation, is_listed, is_branch}
 use Rattle.paper.specs.Legal.{refusal_of}
-use Rattle.paper.specs.Kernel.{Instr, Forms, takes_short, Judged, refused, passed, judge_at, Parsed, bad, good, enter, prepend, walk, parse}
+use Rattle.paper.specs.Kernel.{Instr, Forms, takes_short, passed, judge_at, good, walk, parse}
 use Rattle.paper.specs.Packing.{places_taken, encode}
 use Rattle.laws.specs.Bytes.{length-bytes_of, number-bytes_of, bytes_of-add}
 use Rattle.laws.specs.Judged.{Passed, as_long, as_short, passed_judge}

@@ -1,16 +1,16 @@
 -- What it takes for one instruction to pass, read off the judgement; and the other way, that it passes where all that is given. Assumes nothing.
-use Rattle.std.specs.Prelude.{Bool, ◌||◌, List, [], ◌∷◌, ◌≡◌, ℕ, ◌+◌, ◌-◌, ◌*◌, ◌<◌, ◌≤◌, eqb, length}
+use Rattle.std.specs.Prelude.{Bool, ◌||◌, List, ◌≡◌, ℕ, ◌+◌, ◌-◌, ◌<◌, ◌≤◌, eqb, length}
 use Rattle.std.proofs.Math.Bool.{true, false, not, cond}
 use Rattle.std.proofs.Math.Path.{refl}
-use Rattle.std.proofs.Common.{sym, ap, ◌∙◌, arith}
+use Rattle.std.proofs.Common.{arith}
 use Rattle.std.proofs.Math.Dec.{ltb}
-use borrow.Author.Tests.{ltb-true, ltb-false, lt-ltb, le-ltb, eqb-true, eq-eqb}
+use borrow.Author.Tests.{ltb-false, le-ltb, eqb-true, eq-eqb}
 use Rattle.paper.specs.Bits.{number_at}
 use Rattle.paper.specs.Dictionary.{Dictionary}
 use Rattle.paper.specs.Expand.{expand, is_short}
 use Rattle.paper.specs.Operation.{operation, is_listed, is_branch}
 use Rattle.paper.specs.Legal.{refusal_of}
-use Rattle.paper.specs.Kernel.{Forms, takes_short, Judged, refused, passed, judge_word, judge_short, judge_long, judge_at}
+use Rattle.paper.specs.Kernel.{Forms, takes_short, refused, passed, judge_word, judge_short, judge_long, judge_at}
 
 -- The two ways to pass: as a long word, the 16 bytes at the offset; or as a short word that expands to the word.
 pub data Passed (forms : Forms) (D : Dictionary) (kernel : List ℕ) (from : ℕ) : ℕ → ℕ → Type 0 where

@@ -1,10 +1,10 @@
 -- A branch is judged by its bits below 48 alone: with another distance it is judged as before. Assumes nothing.
-use Rattle.std.specs.Prelude.{Bool, true, not, cond, ◌||◌, ◌≡◌, refl, ℕ, ◌+◌, ◌≤◌, eqb, leb}
+use Rattle.std.specs.Prelude.{Bool, ◌≡◌, ℕ, ◌+◌, ◌≤◌}
 use Rattle.std.proofs.Math.Bool.{false, ◌&&◌}
-use Rattle.std.proofs.Common.{sym, ap, ◌∙◌, arith}
+use Rattle.std.proofs.Common.{ap, ◌∙◌, arith}
 use Rattle.std.proofs.Math.Path.{ap₂}
 use Rattle.paper.specs.Bits.{bits}
-use Rattle.paper.specs.Operation.{Branch, jmpi, if, else, endif, while, break, cont, Operation, branch, operation_of, operation, is_branch}
+use Rattle.paper.specs.Operation.{Branch, jmpi, if, else, endif, while, break, cont, branch, operation_of, operation}
 use Rattle.paper.specs.Legal.{reserved_set, control_served, branch_served, own_needs, later, refusal_of}
 
 -- Two words have the same fields below bit 48.

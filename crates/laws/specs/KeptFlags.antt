@@ -1,5 +1,5 @@
 -- What 02 §4 changed, exactly: the clause as it stood, written out beside the new one, and where the two differ. Assumes nothing.
-use Rattle.std.specs.Prelude.{Bool, true, not, cond, ◌&&◌, List, ℕ, ◌+◌, ◌≤◌, ◌<◌, eqb, leb}
+use Rattle.std.specs.Prelude.{Bool, true, not, cond, ◌&&◌, List, ℕ, ◌+◌, ◌<◌, eqb, leb}
 use Rattle.std.proofs.Math.Bool.{false}
 use Rattle.std.proofs.Common.{true≢false, ◌∙◌, ltb-true, ltb-false}
 use Rattle.std.proofs.Math.Path.{◌≡◌, refl, sym, ap}

@@ -1,28 +1,28 @@
 -- What every step keeps: sixteen channels, flags of 16 bits, as many register bytes and bytes of a0, and places that name an instruction or the end. So a state
 -- that can be stored in the lent bytes stays one. Assumes nothing.
-use Rattle.std.specs.Prelude.{Bool, true, false, not, cond, ◌&&◌, ◌||◌, List, [], ◌∷◌, map, ◌≡◌, refl, ℕ, zero, suc, ◌+◌, ◌*◌, ◌^◌, ◌<◌, ◌≤◌, eqb, length, get_or}
+use Rattle.std.specs.Prelude.{Bool, true, cond, ◌&&◌, List, [], ◌∷◌, map, ◌≡◌, refl, ℕ, zero, suc, ◌^◌, ◌<◌, ◌≤◌, eqb, length, get_or}
 use Rattle.std.proofs.Math.Bool.{or-true}
-use Rattle.std.proofs.Math.Option.{Option, none, some, none-ne-some, some-injective}
-use Rattle.std.proofs.Common.{sym, ap, ap₂, ◌∙◌, subst, arith, eq-eqb, eqb-true}
+use Rattle.std.proofs.Math.Option.{Option, none, some, none-ne-some}
+use Rattle.std.proofs.Common.{sym, ap, ◌∙◌, arith, eq-eqb, eqb-true}
 use Rattle.std.proofs.lemmas.List.{length-map}
 use Rattle.paper.specs.Limits.{address_bytes}
 use Rattle.paper.specs.Word.{flag_choice}
 use Rattle.paper.specs.Operation.{Plain, Branch, jmpi, if, else, endif, while, break, cont, Operation, plain, nop, branch, unlisted, operation, traits}
 use Rattle.paper.specs.Store.{Store}
-use Rattle.paper.specs.Enable.{chosen_flag, holds, of_bits, flag_after}
+use Rattle.paper.specs.Enable.{chosen_flag, holds, flag_after}
 use Rattle.paper.specs.Address.{settled}
-use Rattle.paper.specs.Effect.{registers_after, compared_flag, plain_effect, effect}
+use Rattle.paper.specs.Effect.{compared_flag, plain_effect, effect}
 use Rattle.paper.specs.Kernel.{Instr}
 use Rattle.paper.specs.Jump.{next_of, fetch, found, end_from, end_of, lands}
-use Rattle.paper.specs.Machine.{Channel, off, awake, waiting, State, Ways, wake, park, is_awake, each, someone, onward, fork, act, perform, step_on, step, stops, Outcome, run_with, run, start_from, start}
+use Rattle.paper.specs.Machine.{Channel, off, awake, waiting, State, Ways, wake, is_awake, each, someone, act, perform, step_on, step, stops, run}
 use Rattle.paper.specs.State.{place_in, waits_land, state_lands}
 use Rattle.laws.specs.Masks.{of_bits_less}
 use Rattle.laws.specs.Scatter.{registers_length, addresses_length}
 use Rattle.laws.specs.Names.{Laid, Sound}
-use Rattle.laws.specs.Rename.{cond_at, AtChannel, AtChannels, AtState}
-use Rattle.laws.specs.Places.{At, here, there, at, fetch-here, fetch-there, Names, none-length, lands_names, end_after}
+use Rattle.laws.specs.Rename.{cond_at, AtChannels, AtState}
+use Rattle.laws.specs.Places.{here, there, at, fetch-there, Names, none-length, end_after}
 use Rattle.laws.specs.Runs.{iterate, ran}
-use Rattle.laws.specs.Same.{step_names, state_names}
+use Rattle.laws.specs.Same.{step_names}
 use Rattle.laws.specs.StateBytes.{Storable}
 
 -- ---- places

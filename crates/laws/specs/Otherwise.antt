@@ -11,10 +11,9 @@ use Rattle.paper.specs.Operation.{operation, is_listed, is_branch}
 use Rattle.paper.specs.Legal.{refusal_of}
 use Rattle.paper.specs.Kernel.{Instr, Forms, long_and_short, long_only, takes_short, Judged, refused, passed, judge_short, judge_long, judge_at, Parsed, bad, walk, parse}
 use Rattle.paper.specs.Jump.{fetch, with_jumps}
-use Rattle.paper.specs.Machine.{State, Ways, ways_of, step_at, step_on, step, stops, Outcome, run_with, run}
+use Rattle.paper.specs.Machine.{State, Ways, ways_of, step_at, step_on, stops, Outcome, run_with}
 use Rattle.paper.specs.Calls.{Answer, refusal, Written, Changed, sized, judged_kernel, accepted, checked_as, check_call, relaid, pack_call, unpack_call}
 use Rattle.paper.specs.Calls.{all_sized, unchanged, on_state, stepped_as, step_call, ran_as, run_call}
-use Rattle.laws.specs.Walk.{Each}
 
 -- ---- an instruction's judgement, by a rule in the place of 6 to 11
 

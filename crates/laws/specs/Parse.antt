@@ -1,22 +1,21 @@
 -- What a kernel of bytes that parses holds: legal words of 128 bits with bit 29 clear, in instructions of one or two places that stand one after
 -- the other and fill the kernel; and where long words only are taken, the bytes of those words and no others. Assumes nothing.
-use Rattle.std.specs.Prelude.{Bool, true, false, not, cond, ◌||◌, List, [], ◌∷◌, ◌++◌, ◌≡◌, ℕ, zero, suc, ◌+◌, ◌-◌, ◌*◌, ◌/◌, ◌%◌, ◌^◌, ◌<◌, ◌≤◌, eqb, ltb, leb, length, take, drop}
-use Rattle.std.proofs.Common.{true≢false, sym, ap, ap₂, ◌∙◌, subst, arith, length-drop, take-append-drop, drop-drop, eq-eqb, ne_eqb, eqb-true}
+use Rattle.std.specs.Prelude.{Bool, true, false, cond, List, [], ◌∷◌, ◌++◌, ◌≡◌, ℕ, ◌+◌, ◌*◌, ◌^◌, ◌<◌, ◌≤◌, eqb, length, take, drop}
+use Rattle.std.proofs.Common.{true≢false, sym, ap, ap₂, ◌∙◌, subst, arith, length-drop, take-append-drop, drop-drop}
 use Rattle.std.proofs.Math.Option.{Option, none, some}
 use Rattle.std.proofs.Math.Path.{refl}
 use Rattle.std.proofs.Math.Seq.{drop-length}
 use Rattle.std.proofs.Math.Pow.{are_bytes}
-use Rattle.std.proofs.lemmas.Bool.{eqb-false}
-use Rattle.paper.specs.Bits.{bits, number, number_at, bytes_of}
+use Rattle.paper.specs.Bits.{bits, number_at, bytes_of}
 use Rattle.paper.specs.Limits.{instruction_limit}
 use Rattle.paper.specs.Dictionary.{Dictionary}
-use Rattle.paper.specs.Expand.{expand, is_short}
-use Rattle.paper.specs.Operation.{operation, is_listed}
-use Rattle.paper.specs.Kernel.{Instr, Forms, long_only, takes_short, Judged, passed, judge_at, Parsed, bad, good, walk, parse}
-use Rattle.paper.specs.Jump.{next_of, end_from, end_of, targets_of, targets_land, first_astray, astray, with_jumps}
+use Rattle.paper.specs.Expand.{is_short}
+use Rattle.paper.specs.Operation.{is_listed}
+use Rattle.paper.specs.Kernel.{Instr, Forms, long_only, takes_short, judge_at, Parsed, bad, good, parse}
+use Rattle.paper.specs.Jump.{next_of, end_from, targets_of, targets_land, first_astray, astray, with_jumps}
 use Rattle.laws.specs.Bytes.{number_lt, bytes_of-number, bytes_drop, number_at_halves}
 use Rattle.laws.specs.Expand.{expand_fits, expand-operation, expand_reserved}
-use Rattle.laws.specs.Names.{Laid, AllLand, Sound}
+use Rattle.laws.specs.Names.{Laid, AllLand}
 use Rattle.laws.specs.Walk.{Each, Walked, Brings, walked}
 use Rattle.laws.specs.Judged.{Passed, as_long, as_short, judge_passed}
 use Rattle.laws.specs.Items.{Legal}

@@ -1,29 +1,27 @@
 -- A kernel laid out anew, as bytes: they parse to the instructions that `relaid_by` lists, whatever form each word gets. Assumes nothing.
-use Rattle.std.specs.Prelude.{Bool, true, false, not, cond, ◌||◌, ◌&&◌, ◌≡◌}
+use Rattle.std.specs.Prelude.{true, false, ◌≡◌}
 use mathlib.Core.List.{List, [], ◌∷◌, ◌++◌, map}
 use Rattle.std.proofs.Math.Option.{Option, none, some}
 use Rattle.std.proofs.Math.Path.{refl, ap}
-use Rattle.std.proofs.Common.{sym, ap₂, ◌∙◌, subst}
-use Prim.Native.Nat.{ℕ, zero, suc, ◌+◌, ◌-◌, ◌*◌, ◌/◌, ◌%◌, ◌^◌, ◌<◌, ◌≤◌}
+use Rattle.std.proofs.Common.{sym, ◌∙◌, subst}
+use Prim.Native.Nat.{ℕ, suc, ◌+◌, ◌*◌, ◌^◌, ◌<◌, ◌≤◌}
 use native.Mathlib.Omega.{arith}
 use Rattle.std.proofs.Math.Dec.{eqb}
 use Rattle.std.proofs.Math.ListN.{length, length-append}
 use Rattle.std.proofs.lemmas.List.{length-map}
-use Rattle.paper.specs.Bits.{bits, bytes_of}
-use Rattle.paper.specs.Limits.{instruction_limit, kernel_bytes, last_place}
+use Rattle.paper.specs.Limits.{instruction_limit, last_place}
 use Rattle.paper.specs.Dictionary.{Dictionary}
-use Rattle.paper.specs.Expand.{expand, is_short}
-use Rattle.paper.specs.Shorten.{Shortens, Least, Shortest, shorten}
-use Rattle.paper.specs.Operation.{Branch, Operation, plain, nop, branch, unlisted, operation, is_listed, is_branch}
+use Rattle.paper.specs.Expand.{is_short}
+use Rattle.paper.specs.Shorten.{Shortens}
+use Rattle.paper.specs.Operation.{Operation, plain, nop, branch, unlisted, operation, is_listed, is_branch}
 use Rattle.paper.specs.Legal.{refusal_of}
-use Rattle.paper.specs.Kernel.{Instr, Forms, long_and_short, long_only, takes_short, Parsed, bad, good, parse}
-use Rattle.paper.specs.Packing.{Piece, Form, piece, new_size, places_taken, start_of, rewritten, encode, lay_from, relay}
+use Rattle.paper.specs.Kernel.{Instr, Forms, takes_short, good, parse}
+use Rattle.paper.specs.Packing.{Piece, Form, piece, new_size, start_of, rewritten, encode, lay_from, relay}
 use Rattle.laws.specs.Expand.{expand-operation}
-use Rattle.laws.specs.Shorten.{shorten-some, shorten-none}
 use Rattle.laws.specs.Names.{moved_to, moved, relaid_by, new_end, pieces_of}
 use Rattle.laws.specs.Moved.{rewritten-operation, rewritten-plain, rewritten_fits, rewritten_below, end_near}
 use Rattle.laws.specs.Kept.{refusal_kept}
-use Rattle.laws.specs.Items.{Item, item_size, item_bytes, all_bytes, instrs_from, Legal, Formed, is_long, is_shortened, AllFormed, length-encode, parse_items}
+use Rattle.laws.specs.Items.{Item, all_bytes, instrs_from, Legal, Formed, is_long, is_shortened, AllFormed, length-encode, parse_items}
 
 -- A word as it stands in an accepted kernel: legal, of 128 bits, bit 29 clear.
 pub record Sane (w : ℕ) : Type 0 where

@@ -1,9 +1,9 @@
 -- Stricter regions: 9 as it stood before it refused four shapes more, beside 9 as it is; and 9 held to source document 000. Assumes nothing.
-use Rattle.std.specs.Prelude.{Bool, true, false, not, cond, ◌&&◌, ◌||◌, List, [], ◌∷◌, ◌≡◌, refl, ℕ, zero, suc, ◌≤◌, ◌<◌, eqb, ltb, leb}
+use Rattle.std.specs.Prelude.{Bool, true, false, not, cond, ◌&&◌, ◌||◌, List, [], ◌∷◌, ◌≡◌, refl, ℕ, zero, suc, ◌<◌, eqb, ltb, leb}
 use Rattle.std.proofs.Common.{⊎_elim, sym, ap, ◌∙◌, arith, eq-or-lt_of_le, le_of_suc-le-suc}
 use Rattle.paper.specs.Bits.{bits}
 use Rattle.paper.specs.Word.{Source, exec_size, src_field, dst_stride, is_null, is_immediate}
-use Rattle.paper.specs.Operation.{Plain, Branch, Operation, plain, nop, branch, unlisted, operation, sources}
+use Rattle.paper.specs.Operation.{Plain, Operation, plain, nop, branch, unlisted, operation, sources}
 use Rattle.paper.specs.Legal.{any_of, some_operand, reserved_set, plain_served, branch_served, operand_rule_broken, field_hangs, shape_refused, shape_broken}
 use Rattle.paper.specs.Legal.{alignment_broken, reach_broken, or_else, later, refusal_of}
 use Rattle.paper.specs.Restrictions.{allowed, same, below, agree, swept}

@@ -1,15 +1,15 @@
 -- A kernel of long words is told by its program: two that are sound and have one program are one kernel, and so are two of their instructions that have one
 -- line. Assumes nothing.
-use Rattle.std.specs.Prelude.{◌≡◌, Bool, true, false, ℕ, zero, suc, ◌+◌, ◌*◌, ◌^◌, ◌<◌, ◌≤◌, ℤ, length}
+use Rattle.std.specs.Prelude.{◌≡◌, true, ℕ, zero, suc, ◌+◌, ◌*◌, ◌^◌, ◌<◌, ℤ, length}
 use Rattle.std.proofs.Math.Path.{refl, ap₂, sym}
 use Rattle.std.proofs.Common.{ap, ◌∙◌, subst, pow_pos}
 use mathlib.Core.List.{List, [], ◌∷◌, map, head-eq_of_cons-eq, tail-eq_of_cons-eq, cons-ne-nil}
-use Rattle.std.proofs.Math.Option.{Option, none, some, none-ne-some, some-injective}
+use Rattle.std.proofs.Math.Option.{some, none-ne-some, some-injective}
 use native.Mathlib.Omega.{arith}
 use Rattle.std.proofs.Math.ListN.{get_elem?}
 use Rattle.std.proofs.lemmas.List.{length-map}
 use Rattle.paper.specs.Bits.{bits, put}
-use Rattle.paper.specs.Operation.{Operation, operation_of, operation}
+use Rattle.paper.specs.Operation.{operation_of, operation}
 use Rattle.paper.specs.Kernel.{Instr}
 use Rattle.paper.specs.Jump.{next_of, Distance, distances, base_of, targets_of, place_of, lands, jump_lands, targets_land}
 use Rattle.paper.specs.Packing.{index, Piece, aimed, start_of, new_size}

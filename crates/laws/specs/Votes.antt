@@ -8,7 +8,6 @@ use Rattle.std.proofs.Math.Path.{refl, ap}
 use Rattle.paper.specs.Bits.{bit}
 use Rattle.paper.specs.Word.{access_mode, acc_wr_ctrl, exec_size, pred_ctrl}
 use Rattle.paper.specs.Operation.{Plain, jmpi, Operation, plain, nop, branch, unlisted, operation, traits}
-use Rattle.paper.specs.Region.{channels}
 use Rattle.paper.specs.Store.{Store}
 use Rattle.paper.specs.Enable.{chosen_flag, group_of, any_bit, all_bits, group_start, vote, predicate, holds}
 use Rattle.paper.specs.Effect.{effect}

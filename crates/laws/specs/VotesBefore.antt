@@ -8,7 +8,7 @@ use Rattle.paper.specs.Operation.{Plain, Branch, jmpi, if, else, endif, while, b
 use Rattle.paper.specs.Element.{made}
 use Rattle.paper.specs.Region.{channels, dst_element, dst_size}
 use Rattle.paper.specs.Store.{Store}
-use Rattle.paper.specs.Enable.{chosen_flag, predicate, holds, channel_of, unmasked, enabled, flag_after}
+use Rattle.paper.specs.Enable.{chosen_flag, holds, channel_of, unmasked, enabled, flag_after}
 use Rattle.paper.specs.Effect.{source_at, channel_stores, scattered, registers_after, addresses_after, finds, compared_flag, with_flag, plain_effect, effect}
 use Rattle.paper.specs.Legal.{any_of, reserved_set, quarter_served, condition_served, dst_served, src_served, uses_a0, moves_words, uses_floats, floats_served, own_needs}
 use Rattle.paper.specs.Legal.{misplaced, unequal_halves, bad_modifier, own_rule_broken, mixed, vector_too_short, shape_broken, alignment_broken, reach_broken, or_else}

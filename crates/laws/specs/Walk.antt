@@ -8,9 +8,9 @@ use Rattle.std.proofs.Common.{sym, ◌∙◌}
 use Prim.Native.Nat.{ℕ, zero, suc, ◌+◌, ◌*◌, ◌/◌, ◌%◌, ◌<◌, ◌≤◌}
 use native.Mathlib.Omega.{arith}
 use Rattle.std.proofs.Math.Dec.{ltb}
-use borrow.Author.Tests.{ltb-true, ltb-false, lt-ltb, le-ltb}
+use borrow.Author.Tests.{ltb-true, ltb-false}
 use Rattle.paper.specs.Kernel.{Instr, Judged, refused, passed, Parsed, bad, good, prepend, enter, walk}
-use Rattle.paper.specs.Jump.{end_from, next_of}
+use Rattle.paper.specs.Jump.{end_from}
 use Rattle.laws.specs.Names.{Laid}
 
 -- P of the byte offset, size and word of each instruction.

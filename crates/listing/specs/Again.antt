@@ -1,7 +1,7 @@
 -- A second pass over a text that can be read: the instructions that are still to come, and what they say of all. Assumes nothing.
-use Rattle.std.specs.Prelude.{Bool, cond, ◌≡◌, ℕ, zero, suc, ◌+◌, ◌-◌, ◌*◌, ◌<◌, ◌≤◌}
+use Rattle.std.specs.Prelude.{◌≡◌, ℕ, ◌+◌, ◌*◌, ◌<◌, ◌≤◌}
 use Rattle.std.proofs.Math.Bool.{true, false}
-use mathlib.Core.List.{List, [], ◌∷◌, ◌++◌}
+use mathlib.Core.List.{List, [], ◌∷◌}
 use Rattle.std.proofs.Math.Option.{Option, none, some}
 use Rattle.std.proofs.Math.Path.{refl, sym, ap, subst}
 use Rattle.std.proofs.Common.{◌∙◌}
@@ -11,16 +11,15 @@ use Rattle.paper.specs.Limits.{instruction_limit}
 use Rattle.paper.specs.Dictionary.{Dictionary, dictionary_of}
 use Rattle.paper.specs.Kernel.{Instr}
 use Rattle.paper.specs.Jump.{next_of, lands, targets_of, targets_land}
-use Rattle.paper.specs.Text.{decimal}
-use Rattle.paper.specs.Listing.{form_of, instr_text, listing, candidate, Listing, faulty, listed, lines_from, astray_lines}
+use Rattle.paper.specs.Listing.{instr_text, listing, candidate, Listing, faulty, listed, lines_from, astray_lines}
 use Rattle.laws.specs.Names.{Laid}
 use Rattle.text.specs.Reading.{after_text}
 use Rattle.kernel.specs.Marks.{place_count, marked}
 use Rattle.kernel.specs.Jumps.{land_by, instr_of, all_same}
 use Rattle.listing.specs.declared.jumps.Astray.{Astray}
 use Rattle.listing.specs.declared.jumps.Astray.TheVariants.{Nowhere, Branch}
-use Rattle.listing.specs.Lines.{Shaped, candidate_is, lines_length}
-use Rattle.listing.specs.Texts.{Readable, ReadFrom, size_some, size_most}
+use Rattle.listing.specs.Lines.{candidate_is, lines_length}
+use Rattle.listing.specs.Texts.{Readable, ReadFrom, size_most}
 
 -- The instructions of a text, before its jumps are judged; none of one that is faulty.
 abbrev pub read_of : Listing → List Instr

@@ -1,5 +1,5 @@
 -- What was listed and is read again: the same instructions always, and the same bytes where each short word is the smallest. Assumes nothing.
-use Rattle.std.specs.Prelude.{Bool, cond, ◌≡◌, ℕ, zero, suc, ◌+◌, ◌-◌, ◌*◌, ◌/◌, ◌%◌, ◌<◌, ◌≤◌, ◌^◌, eqb}
+use Rattle.std.specs.Prelude.{Bool, cond, ◌≡◌, ℕ, ◌+◌, ◌*◌, ◌%◌, ◌<◌, ◌≤◌, ◌^◌, eqb}
 use Rattle.std.proofs.Math.Bool.{true, false}
 use Rattle.std.proofs.lemmas.Bool.{false≢true}
 use mathlib.Core.List.{List, [], ◌∷◌, ◌++◌}
@@ -13,7 +13,6 @@ use Rattle.std.proofs.Math.Pow.{are_bytes}
 use Rattle.paper.specs.Bits.{number, number_at, bytes_of}
 use Rattle.paper.specs.Limits.{instruction_limit}
 use Rattle.paper.specs.Dictionary.{Dictionary, dictionary_of}
-use Rattle.paper.specs.Expand.{expand}
 use Rattle.paper.specs.Shorten.{Shortens, Least, shorten}
 use Rattle.paper.specs.Kernel.{Instr, long_and_short, judge_at, good, parse}
 use Rattle.paper.specs.Jump.{next_of, end_from}
@@ -25,13 +24,13 @@ use Rattle.laws.specs.Bytes.{number_lt, bytes_of-number, number-bytes_of, bytes_
 use Rattle.laws.specs.Names.{Laid}
 use Rattle.laws.specs.Shorten.{shorten-some, shorten-none, shorten_only}
 use Rattle.laws.specs.Items.{length-encode}
-use Rattle.laws.specs.Walk.{Each, Walked, Brings, walked}
+use Rattle.laws.specs.Walk.{Each, Brings, walked}
 use Rattle.laws.specs.Judged.{Passed, as_long, as_short, judge_passed}
 use Rattle.laws.specs.Parse.{WordAt}
-use Rattle.laws.specs.Packing.{Kernel, kernel_of_lem}
+use Rattle.laws.specs.Packing.{kernel_of_lem}
 use Rattle.listing.specs.Lines.{Shaped}
 use Rattle.listing.specs.Texts.{Readable}
-use Rattle.listing.specs.Kernels.{Takes, takes_taken, taken_takes, one_form, Text, text_read}
+use Rattle.listing.specs.Kernels.{takes_taken, taken_takes, one_form, Text, text_read}
 
 -- ---- an accepted kernel can be listed and read
 

@@ -17,7 +17,7 @@ use Rattle.paper.specs.Jump.{next_of, end_from, targets_of, targets_land}
 use Rattle.paper.specs.Listing.{instr_text, listing, taken, instr_at, Listing, faulty, listed, lined, lines_from, astray_lines, landed, with_targets, read_listing}
 use Rattle.laws.specs.Names.{Laid, AllLand}
 use Rattle.listing.specs.Lines.{Shaped, ReadAt, instr_only, instr_there, lines_most}
-use Rattle.listing.specs.Texts.{Readable, clash, same_fault, follow-faulty, size_some, size_most, fault_near, ReadFrom, lines_only}
+use Rattle.listing.specs.Texts.{Readable, clash, same_fault, follow-faulty, size_some, size_most, ReadFrom, lines_only}
 
 -- No instruction that can be read at place p has its lines at that byte.
 abbrev pub NoneAt : Dictionary → List ℕ → ℕ → ℕ → Type 0

@@ -1,8 +1,7 @@
 -- From the first pass over a text to what the other two ask, how long its kernel is, and what the call then answers. Assumes nothing.
-use Rattle.std.specs.Prelude.{Bool, true, false, not, cond, List, [], ◌∷◌, ◌++◌, ◌≡◌, ℕ, zero, suc, ◌+◌, ◌*◌, ◌<◌, ◌≤◌, eqb, length}
-use Rattle.std.proofs.Math.Option.{Option, none, some}
+use Rattle.std.specs.Prelude.{true, false, List, [], ◌∷◌, ◌≡◌, ℕ, ◌+◌, ◌*◌, ◌≤◌, length}
 use Rattle.std.proofs.Math.Path.{refl, ap}
-use Rattle.std.proofs.Common.{sym, ◌∙◌, subst, arith, eq-eqb, ne_eqb}
+use Rattle.std.proofs.Common.{sym, ◌∙◌, arith, eq-eqb, ne_eqb}
 use Rattle.paper.specs.Limits.{dictionary_bytes, instruction_limit}
 use Rattle.paper.specs.Dictionary.{Dictionary, dictionary_of, in_range}
 use Rattle.paper.specs.Kernel.{Instr}

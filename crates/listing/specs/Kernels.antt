@@ -1,7 +1,7 @@
 -- The kernel that is read: the bench accepts it, with the instructions that were listed; and listing it gives the text. Assumes nothing.
-use Rattle.std.specs.Prelude.{Bool, not, cond, ◌&&◌, List, [], ◌∷◌, ◌++◌, map, ◌≡◌, ℕ, zero, suc, ◌+◌, ◌-◌, ◌*◌, ◌<◌, ◌≤◌, ◌^◌, eqb, leb, length, drop}
+use Rattle.std.specs.Prelude.{Bool, not, cond, ◌&&◌, List, [], ◌∷◌, ◌++◌, map, ◌≡◌, ℕ, ◌+◌, ◌*◌, ◌<◌, ◌≤◌, ◌^◌, eqb, length}
 use Rattle.std.proofs.Math.Bool.{true, false}
-use Rattle.std.proofs.Common.{true≢false, sym, ap, ap₂, ◌∙◌, subst, arith, length-append, eqb-true, eq-eqb, le-leb}
+use Rattle.std.proofs.Common.{sym, ap, ap₂, ◌∙◌, subst, arith, length-append, eqb-true, eq-eqb, le-leb}
 use Rattle.std.proofs.lemmas.Bool.{false≢true}
 use Rattle.std.proofs.Math.Option.{Option, none, some}
 use Rattle.std.proofs.Math.Path.{refl}
@@ -9,11 +9,11 @@ use Rattle.std.proofs.lemmas.List.{length-map}
 use Rattle.paper.specs.Limits.{instruction_limit, dictionary_bytes, kernel_bytes}
 use Rattle.paper.specs.Dictionary.{Dictionary, dictionary_of, in_range}
 use Rattle.paper.specs.Expand.{is_short}
-use Rattle.paper.specs.Shorten.{Shortens, shorten}
+use Rattle.paper.specs.Shorten.{shorten}
 use Rattle.paper.specs.Operation.{operation, is_listed}
 use Rattle.paper.specs.Legal.{refusal_of}
-use Rattle.paper.specs.Kernel.{Instr, long_and_short, Parsed, bad, good, parse}
-use Rattle.paper.specs.Jump.{next_of, end_from, targets_of, targets_land, with_jumps}
+use Rattle.paper.specs.Kernel.{Instr, long_and_short, good, parse}
+use Rattle.paper.specs.Jump.{next_of, end_from, targets_of, targets_land}
 use Rattle.paper.specs.Packing.{places_taken, encode}
 use Rattle.paper.specs.Calls.{judged_kernel, accepted}
 use Rattle.paper.specs.Listing.{instr_text, listing, word_taken, present, form_taken, taken, Listing, faulty, listed, lines_from, astray_lines, landed, with_targets, read_listing, short_of, kernel_of}
@@ -21,10 +21,10 @@ use Rattle.laws.specs.Truth.{both_true}
 use Rattle.laws.specs.Names.{Laid, AllLand}
 use Rattle.laws.specs.Expand.{expand-operation}
 use Rattle.laws.specs.Shorten.{shorten-some}
-use Rattle.laws.specs.Items.{Item, item_size, all_bytes, instrs_from, Legal, Formed, is_long, is_shortened, AllFormed, length-encode, parse_items}
+use Rattle.laws.specs.Items.{Item, all_bytes, instrs_from, Legal, Formed, is_long, is_shortened, AllFormed, length-encode, parse_items}
 use Rattle.laws.specs.Parse.{good_jumps}
 use Rattle.listing.specs.Lines.{Shaped}
-use Rattle.listing.specs.Texts.{Readable, clash, same_list, ReadFrom, lines_there, lines_only}
+use Rattle.listing.specs.Texts.{Readable, clash, same_list, lines_there, lines_only}
 
 -- ---- one instruction
 

@@ -1,7 +1,7 @@
 -- A pass over a text that can be read that lays down its kernel's bytes. Assumes nothing.
-use Rattle.std.specs.Prelude.{Bool, true, false, cond, ◌≡◌, refl, ℕ, zero, suc, ◌+◌, ◌-◌, ◌*◌, ◌/◌, ◌%◌, ◌<◌, ◌≤◌, eqb, length, set}
-use mathlib.Core.List.{List, [], ◌∷◌, ◌++◌}
-use Rattle.std.proofs.Math.Option.{Option, none, some}
+use Rattle.std.specs.Prelude.{cond, ◌≡◌, refl, ℕ, zero, suc, ◌+◌, ◌*◌, ◌/◌, ◌%◌, ◌<◌, ◌≤◌, eqb, length, set}
+use mathlib.Core.List.{List, ◌∷◌, ◌++◌}
+use Rattle.std.proofs.Math.Option.{Option, none}
 use Rattle.std.proofs.Math.Path.{sym, ap, subst}
 use Rattle.std.proofs.Common.{◌∙◌, arith, add-one, length-append, eq-eqb, ne_eqb}
 use Rattle.std.proofs.Math.Seq.{sets}
@@ -9,12 +9,11 @@ use Rattle.paper.specs.Bits.{put_at, bytes_of}
 use Rattle.paper.specs.Dictionary.{Dictionary, dictionary_of}
 use Rattle.paper.specs.Shorten.{shorten}
 use Rattle.paper.specs.Kernel.{Instr}
-use Rattle.paper.specs.Packing.{places_taken, encode}
-use Rattle.paper.specs.Listing.{instr_text, taken, candidate, short_of, kernel_of}
+use Rattle.paper.specs.Packing.{encode}
+use Rattle.paper.specs.Listing.{instr_text, candidate, short_of, kernel_of}
 use Rattle.text.specs.Written.{sets-append}
 use Rattle.laws.specs.Items.{length-encode}
 use Rattle.kernel.specs.Jumps.{instr_of}
-use Rattle.listing.specs.Lines.{Shaped}
 use Rattle.listing.specs.Texts.{Readable}
 use Rattle.listing.specs.Kernels.{one_form}
 use Rattle.listing.specs.Again.{lines_in, CanRead, Coming, coming_all, none-coming, Next, next_coming}

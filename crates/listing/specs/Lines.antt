@@ -1,13 +1,13 @@
 -- An instruction's six lines: what was listed is read, nothing else is, and how long they are. Assumes nothing.
 use Rattle.std.specs.Prelude.{Bool, true, false, cond, ◌&&◌, List, [], ◌∷◌, ◌++◌, ◌≡◌, refl, ℕ, zero, suc, ◌+◌, ◌-◌, ◌*◌, ◌/◌, ◌%◌, ◌^◌, ◌<◌, ◌≤◌, eqb, ltb, leb, length, drop, get_or}
 use Rattle.std.proofs.lemmas.Bool.{false≢true}
-use Rattle.std.proofs.Common.{append_assoc, sym, ap, ap₂, ◌∙◌, subst, arith, mod-lt, mul_assoc, length-append, get_or-drop, drop-drop, pow_pos, shr_lt, ltb-true}
-use Rattle.std.proofs.Math.Option.{Option, none, some}
+use Rattle.std.proofs.Common.{append_assoc, sym, ap, ◌∙◌, subst, arith, mod-lt, mul_assoc, length-append, get_or-drop, drop-drop, pow_pos, shr_lt, ltb-true}
+use Rattle.std.proofs.Math.Option.{none, some}
 use Rattle.std.proofs.Math.Nat.{div-div-eq-div-mul, pow-succ'}
-use Rattle.paper.specs.Bits.{bits, ◌at◌}
+use Rattle.paper.specs.Bits.{◌at◌}
 use Rattle.paper.specs.Dictionary.{Dictionary}
 use Rattle.paper.specs.Kernel.{Instr}
-use Rattle.paper.specs.Text.{decimal, hexes, line, Found, whole, torn, other, found, hex_from, hex_value, Number, value, short, strange, answered, hex_at}
+use Rattle.paper.specs.Text.{decimal, hexes, line, Found, whole, torn, other, found, hex_from, hex_value, value, answered, hex_at}
 use Rattle.paper.specs.Log.{place_name}
 use Rattle.paper.specs.Listing.{form_name, long_name, short_name, form_of, dword_name, dword, dword_line, instr_text, taken, dword_at, word_at, candidate, is_whole, instr_at}
 use Rattle.text.specs.Decimals.{decimal_most}

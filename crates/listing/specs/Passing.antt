@@ -1,6 +1,6 @@
 -- A pass over an accepted kernel that lists its instructions: how it begins, goes on and ends. Assumes nothing.
-use mathlib.Core.List.{List, [], ◌∷◌, ◌++◌}
-use Rattle.std.specs.Prelude.{◌≡◌, refl, ℕ, zero, suc, ◌+◌, ◌*◌, ◌/◌, ◌<◌, ◌≤◌}
+use mathlib.Core.List.{List, ◌∷◌, ◌++◌}
+use Rattle.std.specs.Prelude.{◌≡◌, refl, ℕ, ◌+◌, ◌*◌, ◌/◌, ◌<◌, ◌≤◌}
 use Rattle.std.proofs.Math.Path.{sym, ap}
 use Rattle.std.proofs.Common.{◌∙◌, subst, arith}
 use Rattle.std.proofs.Math.ListN.{length, length-append}
@@ -11,7 +11,7 @@ use Rattle.paper.specs.Text.{decimal}
 use Rattle.paper.specs.Calls.{accepted}
 use Rattle.paper.specs.Listing.{form_of, instr_text, listing}
 use Rattle.text.specs.Written.{sets-append}
-use Rattle.kernel.specs.Standing.{Whole, Fetches, Stands, Next, stands_next, stands_end}
+use Rattle.kernel.specs.Standing.{Whole, Fetches, Stands, stands_next, stands_end}
 use Rattle.kernel.specs.Marks.{instrs_of}
 use Rattle.kernel.specs.Jumps.{instr_of}
 use Rattle.kernel.specs.Accepting.{AcceptedKernel}

@@ -5,7 +5,7 @@ use Rattle.std.proofs.lemmas.List.Edits.{sets}
 use Rattle.paper.specs.Dictionary.{dictionary_of}
 use Rattle.paper.specs.Text.{decimal}
 use Rattle.paper.specs.Listing.{form_of, instr_text, listing}
-use Rattle.kernel.specs.Standing.{Whole, Fetches}
+use Rattle.kernel.specs.Standing.{Fetches}
 use Rattle.kernel.specs.Jumps.{instr_of}
 use Rattle.listing.specs.Passing.{instrs_in, next_stands, Counting, counting_next, Writing, writing_room, writing_next}
 

@@ -1,18 +1,17 @@
 -- Reading one instruction, as the code does it. Assumes nothing.
-use Rattle.std.specs.Prelude.{Bool, true, false, not, cond, ◌&&◌, List, [], ◌∷◌, ◌++◌, ◌≡◌, refl, ℕ, ◌+◌, ◌-◌, ◌*◌, ◌/◌, ◌%◌, ◌^◌, ◌≤◌, ◌<◌, eqb, length, drop, get_or}
+use Rattle.std.specs.Prelude.{Bool, true, false, cond, ◌&&◌, List, ◌≡◌, refl, ℕ, ◌+◌, ◌-◌, ◌*◌, ◌^◌, ◌≤◌, ◌<◌, eqb, length, drop, get_or}
 use Rattle.std.proofs.Math.Option.{Option, none, some}
 use Rattle.std.proofs.Common.{sym, ap, ◌∙◌, subst, arith, drop_of_length-le, eq-eqb, ne_eqb}
 use Rattle.std.proofs.Math.ListN.{get_or-eq_default}
-use Rattle.paper.specs.Bits.{◌at◌}
 use Rattle.paper.specs.Dictionary.{Dictionary}
 use Rattle.paper.specs.Expand.{is_short}
 use Rattle.paper.specs.Shorten.{shorten}
 use Rattle.paper.specs.Operation.{operation, is_listed}
 use Rattle.paper.specs.Legal.{refusal_of}
 use Rattle.paper.specs.Kernel.{Instr}
-use Rattle.paper.specs.Text.{decimal, line, hex_from, Found, whole, torn, other, found}
+use Rattle.paper.specs.Text.{decimal, line, hex_from, whole, torn, other, found}
 use Rattle.paper.specs.Log.{place_name}
-use Rattle.paper.specs.Listing.{form_name, form_of, instr_text, word_taken, present, form_taken, taken, dword_at, word_at, candidate, is_whole, instr_at}
+use Rattle.paper.specs.Listing.{form_name, form_of, instr_text, word_taken, present, form_taken, taken, word_at, candidate, instr_at}
 use Rattle.text.specs.Decimals.{decimal_most}
 use Rattle.words.specs.declared.bytes.Word.{Word}
 use Rattle.words.specs.Words.{to_word}

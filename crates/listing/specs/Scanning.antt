@@ -1,9 +1,9 @@
 -- What is left of a text from where the code's first pass stands, and that it says of the whole what the pass says in the end. Assumes nothing.
-use Rattle.std.specs.Prelude.{Bool, true, false, cond, ◌||◌, List, [], ◌∷◌, ◌++◌, ◌≡◌, eqb, length, drop, set}
+use Rattle.std.specs.Prelude.{Bool, true, false, cond, ◌||◌, List, [], ◌≡◌, eqb, length, drop, set}
 use Rattle.std.proofs.Math.Option.{Option, none, some}
 use Rattle.std.proofs.Math.Path.{refl}
-use Rattle.std.proofs.Common.{sym, ap, ap₂, ◌∙◌, subst, length-append, length-drop, lt-ltb, le-ltb, eqb-true, eq-eqb, ne_eqb}
-use Prim.Native.Nat.{ℕ, zero, suc, ◌+◌, ◌-◌, ◌*◌, ◌<◌, ◌≤◌}
+use Rattle.std.proofs.Common.{sym, ap, ◌∙◌, subst, length-append, length-drop, lt-ltb, le-ltb, eqb-true, eq-eqb, ne_eqb}
+use Prim.Native.Nat.{ℕ, zero, suc, ◌+◌, ◌-◌, ◌<◌, ◌≤◌}
 use native.Mathlib.Omega.{arith}
 use Rattle.std.proofs.lemmas.Bool.{eqb-false}
 use Rattle.paper.specs.Limits.{instruction_limit}
@@ -14,8 +14,8 @@ use Rattle.paper.specs.Listing.{instr_text, instr_at, Listing, faulty, listed, f
 use Rattle.kernel.specs.Marks.{place_count, marked, mark_more}
 use Rattle.listing.specs.declared.scan.Scanned.{Scanned}
 use Rattle.listing.specs.declared.scan.Scanned.TheVariants.{Whole, Faulty}
-use Rattle.listing.specs.Lines.{Shaped, instr_only, lines_length}
-use Rattle.listing.specs.Texts.{size_some, size_most}
+use Rattle.listing.specs.Lines.{instr_only, lines_length}
+use Rattle.listing.specs.Texts.{size_most}
 
 -- What is said of a text that is read so: the place of its end, and the marks; or where it is faulty.
 unfoldable pub Scans : Listing → Scanned → List ℕ → Type 0

@@ -4,17 +4,16 @@ use Rattle.std.proofs.Math.Bool.{true, false, cond}
 use mathlib.Core.List.{List, [], ◌∷◌, ◌++◌}
 use Rattle.std.proofs.Math.Option.{Option, none, some}
 use Rattle.std.proofs.Math.Path.{refl, ap, subst}
-use Rattle.std.proofs.Common.{sym, ◌∙◌, length-append, length-drop, ltb-true, ltb-false, lt-ltb, le-ltb}
-use Prim.Native.Nat.{ℕ, zero, suc, ◌+◌, ◌-◌, ◌*◌, ◌<◌, ◌≤◌, ◌^◌}
+use Rattle.std.proofs.Common.{sym, ◌∙◌, length-append, length-drop, ltb-false, lt-ltb, le-ltb}
+use Prim.Native.Nat.{ℕ, zero, suc, ◌+◌, ◌*◌, ◌<◌, ◌≤◌}
 use native.Mathlib.Omega.{arith}
 use Rattle.std.proofs.Math.Dec.{ltb}
 use Rattle.std.proofs.Math.ListN.{length, drop_of_length-le}
-use Rattle.paper.specs.Limits.{instruction_limit}
 use Rattle.paper.specs.Dictionary.{Dictionary}
 use Rattle.paper.specs.Kernel.{Instr}
-use Rattle.paper.specs.Jump.{next_of, targets_of, targets_land}
-use Rattle.paper.specs.Listing.{instr_text, listing, taken, instr_at, Listing, faulty, listed, follow, lined, lines_from, astray_lines, landed, with_targets, read_listing}
-use Rattle.laws.specs.Names.{Laid, AllLand}
+use Rattle.paper.specs.Jump.{next_of}
+use Rattle.paper.specs.Listing.{instr_text, listing, taken, instr_at, Listing, faulty, listed, follow, lined, lines_from}
+use Rattle.laws.specs.Names.{Laid}
 use Rattle.text.specs.Reading.{after_text}
 use Rattle.listing.specs.Lines.{Shaped, ReadAt, instr_only, instr_there, lines_length, lines_most}
 

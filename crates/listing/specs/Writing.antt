@@ -1,5 +1,5 @@
 -- Laws of writing: lines that follow each other, an instruction's dwords by the halves of its word, and what the call answers. Assumes nothing.
-use Rattle.std.specs.Prelude.{Bool, true, false, cond, List, [], ◌∷◌, ◌++◌, ◌≡◌, refl, ℕ, ◌+◌, ◌-◌, ◌*◌, ◌/◌, ◌%◌, ◌^◌, ◌≤◌, ◌<◌, eqb, set}
+use Rattle.std.specs.Prelude.{List, [], ◌∷◌, ◌++◌, ◌≡◌, refl, ℕ, ◌+◌, ◌*◌, ◌/◌, ◌%◌, ◌^◌, ◌≤◌, ◌<◌, set}
 use Rattle.std.proofs.Common.{append_assoc, sym, ◌∙◌, length-append, lt-ltb, le-ltb, eq-eqb, ne_eqb}
 use Rattle.std.proofs.Math.Path.{ap}
 use native.Mathlib.Omega.{arith}
@@ -10,7 +10,7 @@ use Rattle.paper.specs.Text.{decimal, hexes, line}
 use Rattle.paper.specs.Log.{place_name}
 use Rattle.paper.specs.Kernel.{long_and_short, good}
 use Rattle.paper.specs.Calls.{verdict, refusal, deliver, accepted}
-use Rattle.paper.specs.Listing.{form_name, form_of, dword_name, dword, dword_line, instr_text, listing, list_call}
+use Rattle.paper.specs.Listing.{form_name, form_of, dword_name, dword, instr_text, listing, list_call}
 use Rattle.text.specs.Written.{sets-append}
 use Rattle.text.specs.Steps.{length-hexes}
 use Rattle.laws.specs.Bits.{bits-low}

@@ -1,7 +1,7 @@
 -- The branches as the code makes them: the predicate is asked by a mask's bits, channels are masks by place. Assumes nothing.
 use Rattle.std.specs.Prelude.{◌≡◌, refl, Bool, true, false, ◌&&◌, ◌||◌, ℕ, ◌-◌, ◌<◌, eqb, length, set}
 use Rattle.std.proofs.Math.Path.{ap, sym}
-use Rattle.std.proofs.Common.{◌∙◌, subst, arith, length-set, ext_get_or}
+use Rattle.std.proofs.Common.{◌∙◌, subst, arith, ext_get_or}
 use Rattle.std.proofs.Math.Bool.{not, cond}
 use mathlib.Core.List.{List}
 use borrow.Author.Tests.{ne_eqb}

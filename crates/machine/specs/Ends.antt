@@ -1,11 +1,10 @@
 -- The two ends of a run, over the state's bytes. Assumes nothing.
-use Rattle.std.specs.Prelude.{◌≡◌, refl, Bool, true, cond, List, ℕ, ◌<◌, length, get_or}
-use Rattle.std.proofs.Common.{ap, sym, ◌∙◌, subst}
+use Rattle.std.specs.Prelude.{◌≡◌, Bool, true, cond, List, ℕ, ◌<◌, get_or}
+use Rattle.std.proofs.Common.{ap, ◌∙◌}
 use Rattle.paper.specs.Bits.{bit}
-use Rattle.paper.specs.Store.{Store}
 use Rattle.paper.specs.Machine as paper
 use Rattle.paper.specs.Machine.{Channel, off, awake, waiting}
-use Rattle.paper.specs.State.{channels_in, addresses_in, state_of, state_bytes}
+use Rattle.paper.specs.State.{addresses_in, state_of}
 use Rattle.machine.specs.declared.channels.Channels.{Channels}
 use Rattle.machine.specs.declared.state.State.{State}
 use Rattle.machine.specs.declared.step.Stand.{Stand}

@@ -1,15 +1,14 @@
 -- Channels by place: a mask of the awake ones, and for each place a mask of those that wait there. Assumes nothing.
-use Rattle.std.specs.Prelude.{◌≡◌, Bool, true, not, cond, ◌&&◌, ◌||◌, List, [], ◌∷◌, map, ℕ, zero, suc, ◌+◌, ◌-◌, ◌^◌, ◌≤◌, ◌<◌, eqb, length, get_or, set}
+use Rattle.std.specs.Prelude.{◌≡◌, Bool, true, not, cond, ◌&&◌, ◌||◌, List, [], ◌∷◌, map, ℕ, zero, suc, ◌+◌, ◌<◌, eqb, length, get_or, set}
 use Rattle.std.proofs.Math.Path.{refl, ap}
-use Rattle.std.proofs.Common.{sym, ◌∙◌, true≢false, add-zero, zero-add, suc-add, add-suc, arith, lit<, get_or-set_same, get_or-set_other, eqb-true, eq-eqb, ne_eqb}
+use Rattle.std.proofs.Common.{sym, ◌∙◌, true≢false, add-zero, zero-add, suc-add, add-suc, arith, lit<, get_or-set_same, get_or-set_other, eqb-true, eq-eqb}
 use Rattle.std.proofs.Math.Bool.{false}
 use Rattle.std.proofs.lemmas.Bool.{false≢true, eqb-false}
 use Rattle.std.proofs.Math.ListN.{length-map, get_or-map}
 use Rattle.std.proofs.Math.Seq.{ext_get_or}
 use Rattle.paper.specs.Bits.{bit}
-use Rattle.paper.specs.Machine.{Channel, off, awake, waiting, is_awake, waits_at, wake, park, each, someone}
-use Rattle.laws.specs.Masks.{same_bits}
-use Rattle.machine.specs.Together.{bit_zero, both_mask, either_mask, without_mask, bit_both, bit_either, bit_without, both_mask_less, either_mask_less, without_mask_less}
+use Rattle.paper.specs.Machine.{Channel, off, awake, waiting, is_awake, waits_at, wake, park, each}
+use Rattle.machine.specs.Together.{bit_zero, both_mask, either_mask, without_mask, bit_both, bit_either, bit_without, either_mask_less, without_mask_less}
 
 -- Channel n is awake where its bit of the awake mask is 1, and waits at place p where its bit of that place's mask is.
 pub record Posted (up : ℕ) (here : List ℕ) (cs : List Channel) : Type 0 where

@@ -11,10 +11,10 @@ use Rattle.paper.specs.Bits.{number_at}
 use Rattle.paper.specs.Value.{type_f, type_vf, width, size_of, value, modified}
 use Rattle.paper.specs.Word.{Source, exec_size, src_type, src_modifier, src_is_a0, is_immediate, immediate}
 use Rattle.paper.specs.Legal.{src_is_float, bytes_in}
-use Rattle.paper.specs.Region.{src_is_vector, src_kind, Region, channels, element_at, src_region}
+use Rattle.paper.specs.Region.{src_is_vector, Region, channels, element_at, src_region}
 use Rattle.paper.specs.Restricted.{vector_float}
 use Rattle.paper.specs.Single.{sign_modified}
-use Rattle.paper.specs.Element.{Element, meaning}
+use Rattle.paper.specs.Element.{meaning}
 use Rattle.paper.specs.Effect.{pattern_at, operand}
 use Rattle.laws.specs.Regions.{Inside}
 use Rattle.lanes.specs.Mapped.{Mapped, mapped_weaker}

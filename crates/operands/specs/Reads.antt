@@ -1,5 +1,5 @@
 -- Elements of the registers read as numbers. Assumes nothing.
-use Rattle.std.specs.Prelude.{◌≡◌, refl, List, ℕ, zero, suc, ◌+◌, ◌*◌, ◌^◌, ◌≤◌, ◌<◌, get_or}
+use Rattle.std.specs.Prelude.{◌≡◌, List, ℕ, zero, suc, ◌+◌, ◌*◌, ◌^◌, ◌≤◌, ◌<◌, get_or}
 use Rattle.std.proofs.Common.{ap, ◌∙◌, subst, arith, pow-suc, lit<}
 use Rattle.paper.specs.Bits.{number, number_at}
 use Rattle.paper.specs.Value.{width, size_of, value}

@@ -1,8 +1,8 @@
 -- What the call answers, as the code comes to it. Assumes nothing.
-use Rattle.std.specs.Prelude.{Bool, true, false, List, ◌≡◌, refl, ℕ, length}
+use Rattle.std.specs.Prelude.{Bool, List, ◌≡◌, ℕ, length}
 use Rattle.std.proofs.Common.{sym, ◌∙◌, eq-eqb, ne_eqb}
 use Rattle.std.proofs.Math.Path.{ap}
-use Rattle.paper.specs.Kernel.{Instr, long_and_short, long_only, Parsed, good, bad}
+use Rattle.paper.specs.Kernel.{Instr, long_and_short, long_only, good, bad}
 use Rattle.paper.specs.Program.{program, agreed}
 use Rattle.paper.specs.Calls.{verdict, refusal, refusal_with, accepted, compared_as, paired_as, pair_call, load_part, loaded_by}
 use Rattle.paper.specs.Calls as paper

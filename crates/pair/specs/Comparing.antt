@@ -1,27 +1,27 @@
 -- One pass over a long kernel and one that was sent for it: what is known after n instructions that are the same, and what the next one tells. Assumes nothing.
-use Rattle.std.specs.Prelude.{Bool, true, false, List, [], ◌∷◌, map, ◌≡◌, refl, ℕ, zero, suc, ◌+◌, ◌*◌, ◌/◌, ◌^◌, ◌<◌, ◌≤◌, length}
+use Rattle.std.specs.Prelude.{true, List, [], ◌∷◌, map, ◌≡◌, refl, ℕ, zero, suc, ◌+◌, ◌*◌, ◌/◌, ◌^◌, ◌<◌, ◌≤◌, length}
 use Rattle.std.proofs.Math.Option
-use Rattle.std.proofs.Math.Option.{Option, none, some, some-injective}
+use Rattle.std.proofs.Math.Option.{none, some, some-injective}
 use Rattle.std.proofs.Common.{sym, ap, ◌∙◌, subst, arith, add-one}
 use Rattle.std.proofs.Math.ListN.{get_elem?}
 use Rattle.paper.specs.Bits.{number_at}
 use Rattle.paper.specs.Dictionary.{dictionary_of}
 use Rattle.paper.specs.Operation.{operation}
 use Rattle.paper.specs.Kernel.{Instr, long_and_short, long_only}
-use Rattle.paper.specs.Jump.{distances, targets_of, targets_land, fetch}
-use Rattle.paper.specs.Packing.{index, Piece, piece, start_of, aimed}
+use Rattle.paper.specs.Jump.{distances, targets_of, targets_land}
+use Rattle.paper.specs.Packing.{index, piece, start_of, aimed}
 use Rattle.paper.specs.Program.{Line, line_of, program, agreed}
 use Rattle.laws.specs.Names.{AllLong, Sound, long_form, pieces_of, new_end, moved_to, relaid_by}
-use Rattle.laws.specs.Places.{fetch-index, start_zero, index_le}
+use Rattle.laws.specs.Places.{fetch-index, start_zero}
 use Rattle.laws.specs.Moved.{relaid_program, relaid_sound}
 use Rattle.laws.specs.Relay.{new_end_near}
-use Rattle.laws.specs.Unique.{long_at, land_at, word_line, line_word, relaid_long, moved_at}
+use Rattle.laws.specs.Unique.{land_at, word_line, line_word, relaid_long, moved_at}
 use Rattle.laws.specs.Agreed.{Common, common_none, common_more, common_differs, common_ends, common_stops}
 use Rattle.kernel.specs.Standing.{Whole, Fetches}
 use Rattle.kernel.specs.Marks.{place_count}
 use Rattle.kernel.specs.Jumps.{instr_of}
 use Rattle.kernel.specs.Accepting.{AcceptedKernel}
-use Rattle.packer.specs.Stages.{Placed, new_places, Stage, stage_start, stage_inside, stage_room, stage_end, stage_whole, stage_fetch, stage_piece, stage_next, next_index, end_few, targets_are, Reaches, targets_reach}
+use Rattle.packer.specs.Stages.{Placed, new_places, Stage, stage_start, stage_room, stage_end, stage_whole, stage_fetch, stage_piece, stage_next, next_index, end_few, targets_are, Reaches, targets_reach}
 use Rattle.pair.specs.Straight.{stands_long, stands_at, stands_none}
 
 -- An element of a list, after a map.

@@ -1,5 +1,5 @@
 -- A kernel of long words in its bytes: instruction n is the sixteen bytes from 16 × n on. Assumes nothing.
-use Rattle.std.specs.Prelude.{Bool, true, false, ◌≡◌, length}
+use Rattle.std.specs.Prelude.{◌≡◌, length}
 use Rattle.std.proofs.lemmas.Bool.{false≢true}
 use mathlib.Core.List.{List, [], ◌∷◌}
 use Rattle.std.proofs.Math.Option.{none, some}

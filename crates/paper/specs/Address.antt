@@ -3,7 +3,7 @@ use Rattle.std.specs.Prelude.{Bool, true, false, not, cond, ◌&&◌, ◌||◌, 
 use Rattle.paper.specs.Bits.{bits, number_at, put}
 use Rattle.paper.specs.Limits.{register_bytes}
 use Rattle.paper.specs.Word.{Source, shift_of, dst_indirect, src_indirect, addr_imm, addr_element, dst_by_address, src_by_address}
-use Rattle.paper.specs.Operation.{Plain, Operation, plain, nop, branch, unlisted, operation, sources}
+use Rattle.paper.specs.Operation.{Plain, plain, nop, branch, unlisted, operation, sources}
 use Rattle.paper.specs.Legal.{any_of, alignment_broken, reach_broken}
 use Rattle.paper.specs.Jump.{signed_of, place_of}
 

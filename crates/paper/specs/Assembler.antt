@@ -1,8 +1,8 @@
 -- Words, kernels and states written out for the bench sheet's rows. Assumes nothing.
-use Rattle.std.specs.Prelude.{List, [], ◌∷◌, ◌++◌, ℕ, zero, suc, ◌+◌, ◌*◌, replicate, set}
+use Rattle.std.specs.Prelude.{List, [], ◌∷◌, ◌++◌, ℕ, zero, suc, ◌+◌, replicate, set}
 use Rattle.paper.specs.Bits.{◌at◌, bytes_of, put_at}
 use Rattle.paper.specs.Limits.{register_bytes, state_length}
-use Rattle.paper.specs.Calls.{Written, start_call}
+use Rattle.paper.specs.Calls.{start_call}
 
 -- ---- words
 

@@ -1,17 +1,17 @@
 -- What every exported call answers and leaves in what it was lent, for all inputs: refusals in the table's order, a refusal changes nothing
 -- (the paper, "When the bench says no", "How tightly an answer is held"). Assumes nothing.
-use Rattle.std.specs.Prelude.{Bool, true, false, not, cond, ◌&&◌, ◌||◌, List, [], ◌∷◌, ◌++◌, ℕ, ◌+◌, ◌*◌, ◌^◌, eqb, ltb, leb, length, take, drop, replicate}
+use Rattle.std.specs.Prelude.{Bool, not, cond, ◌&&◌, ◌||◌, List, [], ◌++◌, ℕ, ◌+◌, ◌*◌, ◌^◌, eqb, ltb, leb, length, take, drop, replicate}
 use Rattle.std.proofs.Math.Option.{Option, none, some}
 use Rattle.paper.specs.Bits.{bytes_of, number_at}
 use Rattle.paper.specs.Limits.{register_bytes, dictionary_bytes, address_bytes, state_length, kernel_bytes, budget_limit}
-use Rattle.paper.specs.Dictionary.{Dictionary, dictionary_of, in_range}
+use Rattle.paper.specs.Dictionary.{dictionary_of, in_range}
 use Rattle.paper.specs.Expand.{is_short, expand}
 use Rattle.paper.specs.Shorten.{shorten}
 use Rattle.paper.specs.Operation.{operation, is_listed, is_branch}
 use Rattle.paper.specs.Store.{Store}
 use Rattle.paper.specs.Enable.{digit}
 use Rattle.paper.specs.Kernel.{Instr, Forms, long_and_short, long_only, Judged, refused, passed, judge_at, Parsed, bad, good, parse}
-use Rattle.paper.specs.Jump.{with_jumps, fetch}
+use Rattle.paper.specs.Jump.{with_jumps}
 use Rattle.paper.specs.Forward.{forward}
 use Rattle.paper.specs.Machine.{State, step, stops, Outcome, run, start}
 use Rattle.paper.specs.State.{state_of, state_legal, state_bytes}

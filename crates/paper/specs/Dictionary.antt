@@ -1,5 +1,5 @@
 -- The dictionary: 128 numbers, 32 each for control, datatype, subregister and source. Repeats are legal. Assumes nothing.
-use Rattle.std.specs.Prelude.{Bool, true, false, cond, ◌&&◌, List, ℕ, zero, suc, ◌+◌, ◌*◌, ◌^◌, ltb}
+use Rattle.std.specs.Prelude.{Bool, true, cond, ◌&&◌, List, ℕ, zero, suc, ◌+◌, ◌*◌, ◌^◌, ltb}
 use Rattle.paper.specs.Bits.{number_at}
 
 -- A dictionary as the numbers that it holds, by their place in it.

@@ -1,9 +1,9 @@
 -- What an instruction that is no branch does to registers, flags and a0 (the paper, "Operations"). Every value is read from the store as it was
 -- before: all sources are read before anything is written. Assumes nothing.
-use Rattle.std.specs.Prelude.{Bool, true, false, not, cond, ◌||◌, List, ℕ, zero, suc, ◌+◌, ◌*◌, ◌-◌, eqb}
+use Rattle.std.specs.Prelude.{Bool, cond, ◌||◌, List, ℕ, zero, suc, ◌-◌, eqb}
 use Rattle.paper.specs.Bits.{number_at, put_at}
 use Rattle.paper.specs.Word.{Source, src0, src1, cond_modifier, saturate, dst_type, src_modifier, flag_choice, is_null, dst_is_a0, src_is_a0, is_immediate}
-use Rattle.paper.specs.Operation.{Plain, Operation, plain, nop, branch, unlisted, operation, traits}
+use Rattle.paper.specs.Operation.{Plain, plain, nop, branch, unlisted, operation, traits}
 use Rattle.paper.specs.Element.{Element, made, meets}
 use Rattle.paper.specs.Restricted.{vector_float}
 use Rattle.paper.specs.Region.{channels, element_at, Operand, fixed, vector, direct, src_kind, operand_of, dst_size, dst_element}

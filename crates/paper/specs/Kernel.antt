@@ -1,6 +1,6 @@
 -- A kernel of bytes as a list of instructions: rules 17 and 3 to 11, instruction by instruction (the paper, "When the bench says no").
 -- Assumes nothing.
-use Rattle.std.specs.Prelude.{Bool, true, false, not, cond, ◌&&◌, ◌||◌, List, [], ◌∷◌, ℕ, zero, suc, ◌+◌, ◌-◌, ◌*◌, ◌/◌, eqb, ltb, leb, length}
+use Rattle.std.specs.Prelude.{Bool, true, false, not, cond, ◌||◌, List, [], ◌∷◌, ℕ, zero, suc, ◌+◌, ◌-◌, ◌*◌, ◌/◌, eqb, ltb, length}
 use Rattle.paper.specs.Bits.{number_at}
 use Rattle.paper.specs.Limits.{instruction_limit}
 use Rattle.paper.specs.Dictionary.{Dictionary}

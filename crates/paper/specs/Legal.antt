@@ -1,9 +1,9 @@
 -- Rules 6 to 11 over an expanded word, each by itself and then in the table's order (the paper, "When the bench says no"). Assumes nothing.
-use Rattle.std.specs.Prelude.{Bool, true, false, not, cond, ◌&&◌, ◌||◌, List, [], ◌∷◌, ℕ, ◌+◌, ◌-◌, ◌*◌, ◌/◌, ◌%◌, eqb, ltb, leb, length}
+use Rattle.std.specs.Prelude.{Bool, false, not, cond, ◌&&◌, ◌||◌, List, [], ◌∷◌, ℕ, ◌+◌, ◌-◌, ◌*◌, ◌/◌, ◌%◌, eqb, ltb, leb, length}
 use Rattle.paper.specs.Bits.{bits, bit}
 use Rattle.paper.specs.Limits.{register_bytes, address_bytes}
 use Rattle.paper.specs.Word.{Source, src0, src1, access_mode, we_ctrl, qtr_ctrl, pred_ctrl, exec_size, cond_modifier, acc_wr_ctrl, saturate}
-use Rattle.paper.specs.Word.{dst_file, dst_type, dst_subregister, dst_register, dst_stride, dst_addr_mode}
+use Rattle.paper.specs.Word.{dst_file, dst_type, dst_subregister, dst_stride, dst_addr_mode}
 use Rattle.paper.specs.Word.{src_file, src_type, src_subregister, src_modifier, src_addr_mode, src_field}
 use Rattle.paper.specs.Word.{grf, is_null, dst_is_a0, src_is_a0, is_immediate, immediate_form, dst_by_address, src_by_address}
 use Rattle.paper.specs.Operation.{Plain, Branch, jmpi, if, else, endif, while, break, cont, Operation, plain, nop, branch, unlisted, operation, is_branch, is_mov, traits, sources}

@@ -1,6 +1,6 @@
 -- A log of finished runs in the first bytes of a lent buffer (02 §12): a record's text, a log, what is read of a log that was cut off at any byte, what
 -- appending leaves, and the full outcome of each call. Assumes nothing.
-use Rattle.std.specs.Prelude.{Bool, true, false, not, cond, ◌&&◌, ◌||◌, List, [], ◌∷◌, ◌++◌, ◌≡◌, ℕ, zero, suc, ◌+◌, ◌/◌, ◌%◌, ◌^◌, eqb, ltb, leb, length, take, drop}
+use Rattle.std.specs.Prelude.{Bool, true, cond, ◌&&◌, List, [], ◌∷◌, ◌++◌, ◌≡◌, ℕ, zero, suc, ◌+◌, ◌/◌, ◌%◌, ◌^◌, eqb, ltb, leb, length, take, drop}
 use Rattle.paper.specs.Limits.{budget_limit, last_place, state_length}
 use Rattle.paper.specs.Enable.{how_many}
 use Rattle.paper.specs.Machine.{Channel, is_awake}

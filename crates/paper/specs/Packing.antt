@@ -1,6 +1,6 @@
 -- Packing and unpacking: the instructions laid out anew in their order, without gaps, each distance rewritten to reach the same instruction, the
 -- end counting as one past the last. Assumes nothing.
-use Rattle.std.specs.Prelude.{List, [], ◌∷◌, ◌++◌, map, Bool, true, false, cond, ℕ, zero, suc, ◌+◌, ◌-◌, ◌*◌, ◌%◌, ◌^◌, eqb}
+use Rattle.std.specs.Prelude.{List, [], ◌∷◌, ◌++◌, map, true, false, ℕ, zero, suc, ◌+◌, ◌-◌, ◌%◌, ◌^◌, eqb}
 use Rattle.std.proofs.Math.Option.{Option, none, some}
 use Rattle.paper.specs.Bits.{put, bytes_of}
 use Rattle.paper.specs.Dictionary.{Dictionary}

@@ -1,6 +1,6 @@
 -- Source document 000's restrictions on a source's region (5.3.10, rules 3 to 8), written apart from 9 in 000's words, and 9 held to them at every value of
 -- the twelve source bits and every size. Assumes nothing.
-use Rattle.std.specs.Prelude.{Bool, true, false, not, cond, ◌&&◌, ◌||◌, List, [], ◌∷◌, ◌≡◌, refl, ℕ, zero, suc, ◌*◌, eqb, ltb, leb, length, get_or}
+use Rattle.std.specs.Prelude.{Bool, true, not, cond, ◌&&◌, ◌||◌, List, [], ◌∷◌, ◌≡◌, refl, ℕ, zero, suc, ◌*◌, eqb, ltb, leb, length, get_or}
 use Rattle.paper.specs.Bits.{bits}
 use Rattle.paper.specs.Legal.{hangs, shape_refused}
 

@@ -13,7 +13,7 @@ use Rattle.paper.specs.Machine.{Channel, off, awake, waiting, State, wake, Ways,
 use Rattle.paper.specs.State.{state_of}
 use Rattle.paper.specs.Packing.{aimed, relay}
 use Rattle.paper.specs.Program.{blanked, program, same_numbers, agreed}
-use Rattle.paper.specs.Calls.{Changed, deliver, paired_as, fresh_store, stepped_as}
+use Rattle.paper.specs.Calls.{deliver, paired_as, fresh_store, stepped_as}
 use Rattle.paper.specs.Assembler.{op, structured_to, jmpi_to, leave_to, nop_word}
 use Rattle.paper.specs.Sheet.{Row, ◌gives◌, shown, written, room, long_a, short_a, kernel_i}
 use Rattle.paper.specs.SheetMore.{state_is}

@@ -4,7 +4,7 @@ use Rattle.std.specs.Prelude.{Bool, true, false, not, cond, List, [], ◌∷◌,
 use Rattle.std.proofs.Math.Option.{Option, none, some}
 use Rattle.paper.specs.Bits.{bits}
 use Rattle.paper.specs.Rows.{Row, row, assemble}
-use Rattle.paper.specs.Word.{opcode, immediate_form}
+use Rattle.paper.specs.Word.{immediate_form}
 use Rattle.paper.specs.Dictionary.{Dictionary, control, datatype, subregister, source}
 use Rattle.paper.specs.Expand.{expand, is_short}
 use Rattle.paper.specs.Operation.{operation, is_branch}

@@ -1,8 +1,7 @@
 -- The lent state's bytes: f0.0, f0.1, place, awake mask, waiting mask, each 16 bits, then sixteen 16-bit waiting places, then a0's eight numbers of 16 bits. A
 -- channel is awake (its awake bit alone), waiting (its waiting bit alone) or off (neither), and one that is not waiting has place 0. Assumes nothing.
-use Rattle.std.specs.Prelude.{Bool, true, false, not, cond, ◌&&◌, ◌||◌, List, [], ◌∷◌, ◌++◌, map, ℕ, zero, suc, ◌+◌, ◌*◌, eqb, get_or, drop}
+use Rattle.std.specs.Prelude.{Bool, true, false, not, cond, ◌&&◌, List, [], ◌∷◌, ◌++◌, ℕ, zero, suc, ◌+◌, ◌*◌, eqb, get_or, drop}
 use Rattle.paper.specs.Bits.{bit, number_at, bytes_of}
-use Rattle.paper.specs.Store.{Store}
 use Rattle.paper.specs.Enable.{of_bits}
 use Rattle.paper.specs.Kernel.{Instr}
 use Rattle.paper.specs.Jump.{lands}

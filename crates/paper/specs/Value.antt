@@ -1,6 +1,6 @@
 -- Types, and the whole numbers that elements hold (the paper, "Operations"). An element's pattern is the unsigned number that its bits write;
 -- its value is a whole number: `pos n` is n, `negsuc n` is −(n + 1), `sub_ℕ a b` is a − b. Assumes nothing.
-use Rattle.std.specs.Prelude.{Bool, true, false, cond, ◌&&◌, ℕ, ◌+◌, ◌-◌, ◌*◌, ◌/◌, ◌%◌, ◌^◌, ◌<◌, leb, ltb, eqb, ℤ, pos, negsuc, neg_ℤ, nat_abs}
+use Rattle.std.specs.Prelude.{Bool, cond, ◌&&◌, ℕ, ◌-◌, ◌*◌, ◌/◌, ◌%◌, ◌^◌, ◌<◌, leb, ltb, eqb, ℤ, pos, negsuc, neg_ℤ, nat_abs}
 use Rattle.std.proofs.Math.IntN.{sub_ℕ}
 use Rattle.std.specs.Int.Signed.{lt_z}
 

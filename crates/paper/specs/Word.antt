@@ -1,5 +1,5 @@
 -- The fields of the long word (the paper, "The long word"; source document 000, figure 5-1). Assumes nothing.
-use Rattle.std.specs.Prelude.{Bool, true, false, not, ◌&&◌, ◌||◌, ℕ, ◌+◌, eqb}
+use Rattle.std.specs.Prelude.{Bool, not, ◌&&◌, ◌||◌, ℕ, ◌+◌, eqb}
 use Rattle.paper.specs.Bits.{bits}
 
 -- ---- control

@@ -1,6 +1,6 @@
 -- Six numbers stored one after the other in 24 bytes are the bytes of each, in their order. Assumes nothing.
 use mathlib.Core.List.{List, ◌++◌}
-use mathlib.Core.Path.{◌≡◌, refl, ap, ◌∙◌}
+use mathlib.Core.Path.{◌≡◌, refl}
 use Prim.Native.Nat.{ℕ}
 use lib.ListN.{replicate}
 use Rattle.paper.specs.Bits.{bytes_of, put_at}

@@ -1,8 +1,7 @@
 -- What is promised of listings holds. Assumes nothing.
-use Rattle.std.specs.Prelude.{Bool, not, cond, ◌⊎◌, ◌≡◌, ℕ, ◌*◌, ◌≤◌, ltb, length, take, drop}
+use Rattle.std.specs.Prelude.{Bool, not, cond, ◌≡◌, ℕ, ◌*◌, ◌≤◌, ltb, length}
 use Rattle.std.proofs.Math.Bool.{true, false}
-use Rattle.std.proofs.lemmas.Bool.{false≢true, not-false}
-use mathlib.Core.List.{List, [], ◌∷◌, ◌++◌}
+use mathlib.Core.List.{List}
 use Rattle.std.proofs.Math.Path.{refl, ap}
 use Rattle.std.proofs.Common.{sym, ◌∙◌, subst, arith, eqb-true, eq-eqb}
 use Rattle.std.proofs.Math.Dec.{eqb}
@@ -10,18 +9,17 @@ use Rattle.std.proofs.Math.Pow.{are_bytes}
 use Rattle.paper.specs.Limits.{dictionary_bytes, kernel_bytes, instruction_limit}
 use Rattle.paper.specs.Dictionary.{Dictionary, dictionary_of, in_range}
 use Rattle.paper.specs.Kernel.{Instr, long_and_short, Parsed, bad, good}
-use Rattle.paper.specs.Program.{program}
-use Rattle.paper.specs.Calls.{Answer, verdict, refusal, as_number, number_of, offset_of, count_of, Written, kept, deliver, accepted, checked_as, check_call}
+use Rattle.paper.specs.Calls.{refusal, as_number, number_of, offset_of, count_of, Written, kept, deliver, accepted, checked_as, check_call}
 use Rattle.paper.specs.Listing.{listing, listed_as, list_call, Listing, faulty, listed, read_listing, kernel_of, read_as, read_call}
 use Rattle.laws.specs.Truth.{both_true}
 use Rattle.laws.specs.Packing.{kernel_of_lem}
-use Rattle.listing.specs.Kernels.{Text, read_text, read_accepted, kernel_length, kernel_items, items_of}
+use Rattle.listing.specs.Kernels.{read_text, read_accepted, kernel_length, kernel_items, items_of}
 use Rattle.listing.specs.Back.{Smallest, listed_text, listed_read, same_bytes, read_smallest}
-use Rattle.listing.specs.Faults.{FaultyLines, FaultyJump, fault_told}
-use Rattle.answers.specs.Kernels.{Near, near_few, near_inside, accepted_near}
+use Rattle.listing.specs.Faults.{fault_told}
+use Rattle.answers.specs.Kernels.{Near, near_inside, accepted_near}
 use Rattle.answers.specs.Listings.{listing_most}
-use Rattle.contracts.specs.Contracts.{number_in, offset_in, count_in, CheckPromise, ListPromise, ReadPromise}
-use Rattle.promises.specs.Promises.{result, Alike}
+use Rattle.contracts.specs.Contracts.{number_in, offset_in, count_in, ListPromise, ReadPromise}
+use Rattle.promises.specs.Promises.{result}
 use Rattle.promises.specs.Listings.{ReadBack, Listings}
 use Rattle.promises.specs.Results.{near_no_zero, check_accepts, accepted_checks, wrote, result_is, deliver_fits, deliver_room}
 use Rattle.promises.specs.OutcomesHold.{answers}

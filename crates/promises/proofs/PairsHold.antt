@@ -1,10 +1,9 @@
 -- A long kernel and one that was sent for it: what an answer of pair says of them. Assumes nothing.
-use Rattle.std.specs.Prelude.{Bool, true, false, cond, ◌&&◌, List, [], ◌++◌, ◌≡◌, refl, ℕ, ◌≤◌, eqb, length}
+use Rattle.std.specs.Prelude.{Bool, true, false, cond, ◌&&◌, List, [], ◌≡◌, refl, ℕ, ◌≤◌, eqb, length}
 use Rattle.std.proofs.Math.Path.{sym, ap}
 use Rattle.std.proofs.Common.{◌∙◌, subst, arith, length-take}
 use Rattle.std.proofs.Math.Pow.{are_bytes}
 use Rattle.paper.specs.Limits.{kernel_bytes, instruction_limit}
-use Rattle.paper.specs.Dictionary.{dictionary_of}
 use Rattle.paper.specs.Kernel.{Instr, long_and_short, long_only, Parsed, good, bad}
 use Rattle.paper.specs.Packing.{relay}
 use Rattle.paper.specs.Program.{program, agreed}

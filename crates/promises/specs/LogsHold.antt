@@ -3,15 +3,14 @@ use Rattle.std.specs.Prelude.{Bool, true, false, cond, List, [], ◌∷◌, ◌+
 use Rattle.std.proofs.Math.Path.{refl, ap}
 use Rattle.std.proofs.Common.{sym, ◌∙◌, subst, arith}
 use Rattle.std.proofs.Math.ListN.{take}
-use Rattle.paper.specs.Limits.{state_length}
-use Rattle.paper.specs.Calls.{Answer, verdict, refusal, number_of, count_of, Written}
-use Rattle.paper.specs.Log.{Entry, entry, record_text, log_text, Beginning, Reading, readable, unreadable, reading, log_sized, bytes_read, runs_read, log_read_call, log_runs_call, part_read, log_part, log_append_call, entry_of}
-use Rattle.contracts.specs.Contracts.{number_in, count_in, Wrote, LogReadPromise, LogRunsPromise, LogAppendPromise}
+use Rattle.paper.specs.Calls.{verdict, refusal, number_of, count_of, Written}
+use Rattle.paper.specs.Log.{Entry, entry, record_text, log_text, Beginning, Reading, readable, unreadable, reading, log_sized, bytes_read, log_read_call, log_runs_call, part_read, log_part, log_append_call, entry_of}
+use Rattle.contracts.specs.Contracts.{number_in, count_in, Wrote, LogReadPromise, LogRunsPromise}
 use Rattle.run_log.specs.Records.{Legal, legal-is}
 use Rattle.run_log.specs.Logs.{CutAt}
 use Rattle.run_log.specs.Beginnings.{all_are, cut_reading, begins_reads, reads_begins}
 use Rattle.run_log.specs.Appends.{whole_first, goes_on, awake_counted}
-use Rattle.run_log.specs.Calls.{read_is, runs_is, part_is, run_is}
+use Rattle.run_log.specs.Calls.{read_is, runs_is, run_is}
 use Rattle.promises.specs.Promises.{CutLog, Logs, result}
 use Rattle.promises.specs.OutcomesHold.{answers}
 

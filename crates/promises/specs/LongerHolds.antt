@@ -1,5 +1,4 @@
 -- What passed under the limits before they were raised is answered as it was: each law of Longer, through the contract of its call. Assumes nothing.
-use Rattle.std.specs.Prelude.{List}
 use Rattle.std.proofs.Common.{ap, ◌∙◌, subst, arith}
 use Rattle.paper.specs.Calls.{as_number, Written, Changed}
 use Rattle.contracts.specs.Contracts.{Wrote, Left}

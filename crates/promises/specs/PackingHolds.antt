@@ -8,7 +8,7 @@ use Rattle.paper.specs.Dictionary.{Dictionary, dictionary_of}
 use Rattle.paper.specs.Shorten.{shorten}
 use Rattle.paper.specs.Kernel.{Instr, Forms, long_and_short, long_only, good}
 use Rattle.paper.specs.Packing.{Form, encode, relay}
-use Rattle.paper.specs.Calls.{Answer, as_number, verdict, Written, accepted, pack_call, unpack_call, number_of, count_of}
+use Rattle.paper.specs.Calls.{as_number, verdict, Written, accepted, pack_call, unpack_call, number_of, count_of}
 use Rattle.laws.specs.Bytes.{bytes_append, bytes_bytes_of}
 use Rattle.paper.specs.Program.{line_of, program}
 use Rattle.laws.specs.Names.{relaid_by, long_form}

@@ -1,23 +1,20 @@
 -- What is promised of placements holds. Assumes nothing.
-use Rattle.std.specs.Prelude.{Bool, true, false, not, cond, ◌&&◌, ◌≡◌, refl, eqb, ltb, length}
+use Rattle.std.specs.Prelude.{Bool, true, false, not, cond, ◌&&◌, ◌≡◌, refl, eqb, length}
 use mathlib.Core.List.{List, ◌++◌}
 use Rattle.std.proofs.Math.Path.{sym, ap}
 use Rattle.std.proofs.Common.{◌∙◌, subst, mod-eq_of_lt, arith, eqb-true, eq-eqb, lt-ltb}
-use Prim.Native.Nat.{ℕ, ◌%◌, ◌^◌, ◌<◌, ◌≤◌}
+use Prim.Native.Nat.{ℕ, ◌^◌, ◌<◌, ◌≤◌}
 use Rattle.std.proofs.Math.ListN.{drop}
 use Rattle.paper.specs.Bits.{bytes_of, number, number_at}
-use Rattle.paper.specs.Limits.{register_bytes, dictionary_bytes}
-use Rattle.paper.specs.Dictionary.{dictionary_of, in_range}
-use Rattle.paper.specs.Placing.{Point, record_bytes, Placement, placement_of, placed_by, point_bytes, order_of, is_order, answered, place_kernel, loaded_with, place_call, place_kernel_call, place_load_call}
+use Rattle.paper.specs.Limits.{register_bytes}
+use Rattle.paper.specs.Placing.{Point, record_bytes, placement_of, placed_by, point_bytes, order_of, is_order, answered, place_kernel, loaded_with, place_call, place_kernel_call, place_load_call}
 use Rattle.paper.specs.Calls.{verdict, refusal, number_of, count_of, Written, kept, deliver, check_call, start_call, Changed, run_call}
-use Rattle.laws.specs.Truth.{both_true}
 use Rattle.laws.specs.Bytes.{number-bytes_of}
 use Rattle.laws.specs.FloatResults.{sum_lt}
 use Rattle.laws.specs.PlacedWords.{kernel_length, kernel_checked}
 use Rattle.laws.specs.PlacedTiles.{tile_in, tile_out, Placed, kernel_places}
-use Rattle.contracts.specs.Contracts.{number_in, count_in, PlacePromise, PlaceKernelPromise}
+use Rattle.contracts.specs.Contracts.{number_in, count_in, PlacePromise}
 use Rattle.answers.specs.Placings.{point_length}
-use Rattle.promises.specs.Promises.{result, Begun}
 use Rattle.promises.specs.Placements.{Given, Loaded, TilesPlaced, Placements}
 use Rattle.promises.specs.Results.{wrote, result_is, deliver_fits, deliver_room, start_fits}
 use Rattle.promises.specs.OutcomesHold.{answers}

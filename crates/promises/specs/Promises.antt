@@ -15,7 +15,7 @@ use Rattle.paper.specs.Kernel.{Instr, long_and_short, long_only, good, bad}
 use Rattle.paper.specs.State.{half, addresses_in, channels_in, all_three, state_legal}
 use Rattle.paper.specs.Packing.{index}
 use Rattle.paper.specs.Calls.{Answer, accepted, check_call, forward_call, pack_call, unpack_call, pair_call, load_part, shorten_call, expand_call, decode_call, decode_part, start_call, step_call, run_call, number_of, offset_of, count_of}
-use Rattle.paper.specs.Log.{Entry, entry, entry_legal, record_text, log_text, all_legal, Beginning, log_sized, log_read_call, log_runs_call, log_part, log_append_call, log_run_call, awake_among, awake_count, entry_of}
+use Rattle.paper.specs.Log.{Entry, entry, entry_legal, record_text, log_text, all_legal, Beginning, log_sized, log_read_call, log_runs_call, log_part, log_append_call, log_run_call, awake_among, awake_count}
 use Rattle.paper.specs.Listing.{list_call, read_call}
 use Rattle.paper.specs.Placing.{place_call, place_kernel_call, place_load_call}
 use Rattle.paper.specs.Program.{program}

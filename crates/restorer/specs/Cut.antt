@@ -13,8 +13,8 @@ use Rattle.paper.specs.Limits.{instruction_limit}
 use Rattle.paper.specs.Dictionary.{Dictionary, dictionary_of}
 use Rattle.paper.specs.Kernel.{Instr}
 use Rattle.paper.specs.Jump.{next_of}
-use Rattle.paper.specs.Listing.{instr_text, instr_at, Listing, follow, lined, lines_from, with_targets, read_listing, read_call}
-use Rattle.listing.specs.Lines.{ReadAt, instr_only, instr_there, lines_most}
+use Rattle.paper.specs.Listing.{instr_text, instr_at, follow, lined, lines_from, with_targets, read_listing, read_call}
+use Rattle.listing.specs.Lines.{instr_only, instr_there, lines_most}
 use Rattle.listing.specs.Texts.{size_most}
 
 -- The most bytes that a listing can have: 70 for each instruction.

@@ -1,5 +1,5 @@
 -- What the text of a row means. Assumes nothing.
-use Rattle.std.specs.Prelude.{ℕ, ◌+◌, ◌-◌, ◌*◌, ◌^◌, cond, List, [], ◌∷◌, ◌==◌, nat_le, nat_lt, slice_index}
+use Rattle.std.specs.Prelude.{ℕ, ◌+◌, ◌-◌, ◌*◌, cond, List, [], ◌∷◌, ◌==◌, nat_le, nat_lt, slice_index}
 
 -- The digit that a byte writes, 0 to 9 or a to f; 16 for any other byte.
 unfoldable pub digit_of : ℕ → ℕ

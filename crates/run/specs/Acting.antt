@@ -13,10 +13,9 @@ use Rattle.paper.specs.Legal.{uses_a0, dst_is_float, uses_floats, refusal_of}
 use Rattle.paper.specs.Address.{settled, address_broken, address_stops}
 use Rattle.paper.specs.Effect.{plain_effect, effect}
 use Rattle.paper.specs.Machine.{Channel, State, Ways, is_awake, wake, pass, perform, step_at}
-use Rattle.laws.specs.Regions.{LegalPlain, Named, legal_plain, or-false}
-use Rattle.laws.specs.Settled.{settled_named, settled_none, operation-settled}
+use Rattle.laws.specs.Regions.{legal_plain, or-false}
+use Rattle.laws.specs.Settled.{settled_named, operation-settled}
 use Rattle.laws.specs.SettledLegal.{settled_legal}
-use Rattle.words.specs.declared.bytes.Word.{Word}
 use Rattle.words.specs.declared.operation.Plain as words
 use Rattle.words.specs.Operations.{plain_is}
 use Rattle.words.specs.Words.{to_word}

@@ -1,5 +1,5 @@
 -- A run in the midst of a kernel's instructions: what each step needs, what it makes, and that it leaves such a run. Assumes nothing.
-use Rattle.std.specs.Prelude.{Bool, true, false, cond, List, [], ◌∷◌, map, ◌⊎◌, ◌≡◌, refl, ℕ, ◌+◌, ◌<◌, ◌≤◌, ℤ, length}
+use Rattle.std.specs.Prelude.{Bool, true, false, cond, List, [], ◌∷◌, map, ◌⊎◌, ◌≡◌, refl, ℕ, ◌<◌, ◌≤◌, ℤ, length}
 use Rattle.std.proofs.Common.{inl, inr, ◌∙◌, subst, arith, eqb-true}
 use Rattle.std.proofs.Math.Option.{Option, none, some}
 use Rattle.std.proofs.Math.Path.{sym, ap}

@@ -3,24 +3,23 @@ use Rattle.std.specs.Prelude.{◌≡◌, Bool, true, false, not, cond, ◌&&◌,
 use Rattle.std.proofs.Math.Path.{refl, ap, sym}
 use Rattle.std.proofs.Common.{◌∙◌, ⊎_elim, add-zero, length-drop, take-append-drop, length-take-le}
 use mathlib.Core.List.{List, [], ◌∷◌, ◌++◌, append_assoc}
-use Prim.Native.Nat.{ℕ, zero, suc, ◌+◌, ◌-◌, ◌≤◌, ◌<◌}
+use Prim.Native.Nat.{ℕ, zero, suc, ◌+◌, ◌≤◌, ◌<◌}
 use native.Mathlib.Omega.{arith}
 use Rattle.std.proofs.Math.Dec.{eqb}
 use Rattle.paper.specs.Limits.{state_length}
 use Rattle.std.proofs.Math.ListN.{length, take, drop, length-append}
-use Rattle.std.proofs.lemmas.List.{take-append-le}
 use Rattle.std.proofs.Math.Seq.{take-append_seam, drop-append_seam}
 use borrow.Author.Tests.{leb-true, le-leb}
-use Rattle.paper.specs.Calls.{Answer, verdict, refusal, refusal_with, number_of, count_of, Written, kept}
+use Rattle.paper.specs.Calls.{verdict, refusal, Written, kept}
 use Rattle.paper.specs.Enable.{digit, how_many}
-use Rattle.paper.specs.Machine.{Channel, off, awake, waiting, is_awake}
+use Rattle.paper.specs.Machine.{off, awake, waiting, is_awake}
 use Rattle.paper.specs.State.{awake_bit, waiting_bit, channel_in, one_of_three, all_three, channels_in, waiting_place}
 use Rattle.paper.specs.Log.{Entry, entry_legal, record_text, log_text, Reading, readable, unreadable, reading, log_sized, added_at, appended_to, appended, log_append_call, entry_of, log_run_call, awake_count, awake_among}
 use Rattle.laws.specs.Calls.{Confined}
 use Rattle.laws.specs.Truth.{both_true}
 use Rattle.text.specs.Decimals.{below}
 use Rattle.run_log.specs.Records.{Legal, is-legal}
-use Rattle.run_log.specs.Logs.{AllLegal, CutAt}
+use Rattle.run_log.specs.Logs.{CutAt}
 use Rattle.run_log.specs.Beginnings.{log_more, cut_reading}
 
 -- ---- nothing else changes

@@ -1,18 +1,18 @@
 -- A beginning of a log is exactly what reads; and what an append leaves is the log of the whole records and the new one. Assumes nothing.
-use Rattle.std.specs.Prelude.{◌≡◌, refl, Bool, true, false, cond, ◌&&◌, drop}
+use Rattle.std.specs.Prelude.{◌≡◌, refl, true, drop}
 use Rattle.std.proofs.Math.Path.{ap, sym}
-use Rattle.std.proofs.Common.{◌∙◌, subst, ⊎_elim, length-append, take-append-drop, take_all, take_at}
+use Rattle.std.proofs.Common.{◌∙◌, ⊎_elim, take-append-drop}
 use mathlib.Core.List.{List, [], ◌∷◌, ◌++◌, append_assoc, append-nil}
-use Prim.Native.Nat.{ℕ, zero, suc, ◌+◌, ◌-◌, ◌≤◌, ◌<◌}
+use Prim.Native.Nat.{ℕ, suc, ◌+◌, ◌≤◌, ◌<◌}
 use native.Mathlib.Omega.{arith}
 use Rattle.std.proofs.Math.Nat.{add-zero}
 use Rattle.std.proofs.Math.ListN.{length, take}
 use Rattle.std.proofs.Math.Seq.{take-append-le, take-append_seam, drop-append_seam}
-use Rattle.paper.specs.Log.{Entry, entry_legal, record_text, log_text, all_legal, Beginning, Reading, readable, unreadable, reading}
+use Rattle.paper.specs.Log.{Entry, entry_legal, record_text, log_text, all_legal, Beginning, readable, reading}
 use Rattle.text.specs.Decimals.{below}
 use Rattle.laws.specs.Truth.{both_true}
 use Rattle.run_log.specs.Records.{Legal, legal-is, is-legal, record_some}
-use Rattle.run_log.specs.Logs.{AllLegal, some_entry, some_legal, CutAt, ReadAs, log_cut, log_reads}
+use Rattle.run_log.specs.Logs.{AllLegal, some_entry, some_legal, CutAt, log_cut, log_reads}
 
 -- ---- legal entries
 

@@ -1,13 +1,13 @@
 -- What the calls answer, by the buffer's size, the entry, and what was read. Assumes nothing.
-use Rattle.std.specs.Prelude.{◌≡◌, refl, Bool, true, false, cond, ◌&&◌, List, [], ◌∷◌, ℕ, ◌+◌, ◌/◌, ◌%◌, ◌^◌, ◌≤◌, ◌<◌, eqb, ltb, leb, length, take}
-use Rattle.std.proofs.Common.{ap, ◌∙◌, sym, subst, arith, length-take, length-take-le}
+use Rattle.std.specs.Prelude.{◌≡◌, refl, Bool, true, false, ◌&&◌, List, [], ℕ, ◌/◌, ◌%◌, ◌^◌, ◌≤◌, ◌<◌, leb, length, take}
+use Rattle.std.proofs.Common.{sym, subst, arith, length-take, length-take-le}
 use borrow.Author.Tests.{leb-true, ltb-true, eq-eqb, ne_eqb}
 use Rattle.paper.specs.Bits.{bit}
 use Rattle.paper.specs.Limits.{state_length}
 use Rattle.paper.specs.Enable.{how_many}
-use Rattle.paper.specs.State.{half, awake_bit}
-use Rattle.paper.specs.Calls.{Answer, verdict, refusal, Written}
-use Rattle.paper.specs.Log.{Entry, entry_legal, record_text, Reading, readable, unreadable, reading, log_sized, bytes_read, runs_read, log_read_call, log_runs_call, part_read, log_part, added_at, appended_to, appended, log_append_call, awake_count, entry_of, log_run_call}
+use Rattle.paper.specs.State.{half}
+use Rattle.paper.specs.Calls.{Answer, refusal, Written}
+use Rattle.paper.specs.Log.{Entry, entry_legal, Reading, readable, unreadable, reading, log_sized, bytes_read, runs_read, log_read_call, log_runs_call, part_read, log_part, appended_to, appended, log_append_call, awake_count, entry_of, log_run_call}
 use Rattle.laws.specs.Truth.{both_true}
 use Rattle.run_log.specs.Meaning.{Within}
 

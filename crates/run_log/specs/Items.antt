@@ -1,13 +1,13 @@
 -- Lines that stand are read, nothing else is, and lines that are torn off anywhere are told: for one line, and for a list of lines. Assumes nothing.
-use Rattle.std.specs.Prelude.{◌≡◌, refl, Bool, true, false, cond, List, [], ◌∷◌, ◌++◌, ℕ, zero, suc, ◌+◌, ◌-◌, ◌≤◌, ◌<◌, leb, length, take, drop}
-use Rattle.std.proofs.Common.{ap, ◌∙◌, sym, ⊎_elim, append_assoc, arith, length-append, drop-drop, le-leb, leb-true}
+use Rattle.std.specs.Prelude.{◌≡◌, refl, Bool, true, false, cond, List, [], ◌∷◌, ◌++◌, ℕ, ◌+◌, ◌-◌, ◌≤◌, ◌<◌, leb, length, take, drop}
+use Rattle.std.proofs.Common.{ap, ◌∙◌, sym, ⊎_elim, append_assoc, arith, length-append, drop-drop, leb-true}
 use Rattle.std.proofs.lemmas.List.{take-append-le}
 use Rattle.std.proofs.Math.Seq.{take-append-add, take-append_seam}
 use Rattle.paper.specs.Text.{decimal, line, Found, whole, torn, other, found, digits_from}
-use Rattle.paper.specs.Log.{Reach, upto, torn_off, astray, reached_to, exactly_at, Item, exactly, at_most, item_at, further, read_items}
+use Rattle.paper.specs.Log.{Reach, upto, torn_off, astray, reached_to, exactly_at, Item, exactly, at_most, item_at, read_items}
 use Rattle.text.specs.Decimals.{below}
 use Rattle.text.specs.Written.{length-line}
-use Rattle.text.specs.Reading.{found-whole, found_start, whole_is, cut_is, after_text, line-digits, TornLine, line-torn}
+use Rattle.text.specs.Reading.{found-whole, found_start, whole_is, cut_is, after_text, line-digits, line-torn}
 use Rattle.run_log.specs.Rooms.{most_reads}
 
 -- ---- the numbers that a line may have

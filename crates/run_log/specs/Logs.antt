@@ -1,10 +1,7 @@
 -- A log that was cut off at any byte reads as exactly the records that are whole in it; what reads is a beginning of a log. Assumes nothing.
-use Rattle.std.specs.Prelude.{◌≡◌, refl, List, [], ◌∷◌, ◌++◌, ℕ, zero, suc, ◌+◌, ◌-◌, ◌≤◌, ◌<◌, length, take, drop}
-use Rattle.std.proofs.Common.{ap, ◌∙◌, sym, subst₂, ⊎_elim, append_assoc, append-nil, arith, add-zero, add-suc, length-append, length-drop, length-take, drop_of_length-le}
-use Rattle.std.proofs.lemmas.List.{take-append-le}
-use Rattle.std.proofs.Math.Seq.{take-append-add, take-append_seam, drop-append_seam}
-use Rattle.paper.specs.Log.{Entry, record_text, log_text, Reach, upto, torn_off, astray, record_at, Reading, readable, unreadable, onward, read_from, reading}
-use Rattle.text.specs.Decimals.{below}
+use Rattle.std.specs.Prelude.{◌≡◌, refl, List, [], ◌∷◌, ◌++◌, ℕ, zero, suc, ◌+◌, ◌≤◌, ◌<◌, length, take, drop}
+use Rattle.std.proofs.Common.{ap, ◌∙◌, sym, subst₂, append_assoc, arith, add-zero, length-append, drop_of_length-le}
+use Rattle.paper.specs.Log.{Entry, record_text, log_text, Reach, upto, torn_off, astray, record_at, readable, onward, read_from, reading}
 use Rattle.text.specs.Reading.{after_text}
 use Rattle.run_log.specs.Items.{Stands, Tears}
 use Rattle.run_log.specs.Records.{Legal, record_some, record_read, record_torn, record_stands, record_tears}

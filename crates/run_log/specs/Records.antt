@@ -1,12 +1,12 @@
 -- A record that stands is read, nothing else is, and a record that is torn off anywhere is told. Assumes nothing.
-use Rattle.std.specs.Prelude.{◌≡◌, refl, Bool, true, false, cond, ◌&&◌, ℕ, zero, suc, ◌+◌, ◌-◌, ◌/◌, ◌%◌, ◌≤◌, ◌<◌, leb, take, drop}
+use Rattle.std.specs.Prelude.{◌≡◌, refl, true, ℕ, ◌+◌, ◌-◌, ◌/◌, ◌%◌, ◌≤◌, ◌<◌, take, drop}
 use Rattle.std.proofs.Math.Path.{ap, sym, subst}
 use Rattle.std.proofs.Common.{◌∙◌, arith, length-append, le-leb, leb-true}
-use mathlib.Core.List.{List, [], ◌∷◌, ◌++◌, append_assoc, append-nil}
+use mathlib.Core.List.{List, [], ◌∷◌, ◌++◌, append-nil}
 use Rattle.std.proofs.Math.ListN.{length}
 use Rattle.paper.specs.Limits.{budget_limit, last_place}
 use Rattle.paper.specs.Text.{decimal, line}
-use Rattle.paper.specs.Log.{Entry, entry_legal, run_name, verdict_name, steps_name, place_name, awake_name, end_name, record_text, Reach, upto, torn_off, Item, exactly, at_most, read_items, items, record_at}
+use Rattle.paper.specs.Log.{Entry, entry_legal, run_name, verdict_name, steps_name, place_name, awake_name, end_name, record_text, upto, torn_off, exactly, items, record_at}
 use Rattle.text.specs.Decimals.{decimal_one, decimal_more}
 use Rattle.laws.specs.Truth.{both_true}
 use Rattle.run_log.specs.Items.{AllAllowed, AllModest, item_text, items_text, item_some, Stands, Tears, items_read, items_torn, items_stand, items_tear}

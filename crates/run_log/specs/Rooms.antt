@@ -1,12 +1,12 @@
 -- What code that reads a log rests on: a turn of its loop, and that what is read lies within. Assumes nothing.
-use Rattle.std.specs.Prelude.{◌≡◌, refl, Bool, true, false, cond, List, [], ◌∷◌, ◌++◌, ℕ, zero, suc, ◌+◌, ◌-◌, ◌≤◌, ◌<◌, leb, length, take, drop}
+use Rattle.std.specs.Prelude.{◌≡◌, refl, List, [], ◌∷◌, ◌++◌, ℕ, zero, suc, ◌+◌, ◌-◌, ◌≤◌, ◌<◌, length, drop}
 use Rattle.std.proofs.Common.{ap, ◌∙◌, sym, arith}
 use borrow.Author.Tests.{le-leb, lt-leb}
 use Rattle.paper.specs.Text.{decimal, line, Found, whole, torn, other, found, digits_from}
-use Rattle.paper.specs.Log.{Reach, upto, torn_off, astray, reached_to, exactly_at, Item, exactly, at_most, item_at, further, read_items, items, record_at, Reading, onward, read_from, run_name, verdict_name, steps_name, place_name, awake_name, end_name}
+use Rattle.paper.specs.Log.{Reach, upto, torn_off, astray, reached_to, exactly_at, Item, exactly, at_most, item_at, further, read_items, record_at, onward, read_from, run_name, verdict_name, steps_name, place_name, awake_name, end_name}
 use Rattle.paper.specs.Limits.{budget_limit, last_place}
 use Rattle.text.specs.Written.{length-line}
-use Rattle.text.specs.Reading.{whole_room, TornLine, past_torn}
+use Rattle.text.specs.Reading.{whole_room, past_torn}
 
 -- ---- one line
 

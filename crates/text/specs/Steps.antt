@@ -1,5 +1,5 @@
 -- A turn of each loop that writes or reads a text. Assumes nothing.
-use Rattle.std.specs.Prelude.{◌≡◌, refl, Bool, true, false, ◌&&◌, List, [], ◌∷◌, ◌++◌, length, set, drop, get_or}
+use Rattle.std.specs.Prelude.{◌≡◌, refl, Bool, true, false, ◌&&◌, List, length, set, drop, get_or}
 use Rattle.std.proofs.Common.{ap, ◌∙◌, sym, length-append}
 use Prim.Native.Nat.{ℕ, zero, suc, ◌+◌, ◌-◌, ◌*◌, ◌/◌, ◌%◌, ◌<◌, ◌≤◌}
 use native.Mathlib.Omega.{arith}
@@ -7,7 +7,7 @@ use Rattle.std.proofs.Math.ListN.{drop_of_length-le}
 use Rattle.std.proofs.lemmas.List.Edits.{sets}
 use Rattle.std.proofs.Math.Seq.{drop-cons}
 use borrow.Author.Tests.{eq-eqb, ne_eqb, lt-ltb, le-ltb, le-leb, lt-leb}
-use Rattle.paper.specs.Text.{whole, torn, other, decimal, hex_digit, hexes, found, is_digit, digits_from}
+use Rattle.paper.specs.Text.{whole, torn, other, decimal, hex_digit, hexes, found, digits_from}
 use Rattle.text.specs.Written.{sets_last}
 use Rattle.text.specs.Decimals.{decimal_one, decimal_more}
 

@@ -1,6 +1,6 @@
 -- Stores of whole texts. Assumes nothing.
-use Rattle.std.specs.Prelude.{◌≡◌, refl, List, [], ◌∷◌, ◌++◌, ℕ, suc, ◌+◌, ◌<◌, ◌≤◌, length, set, take, drop, get_or}
-use Rattle.std.proofs.Common.{ap, ◌∙◌, sym, arith, length-append, drop-cons}
+use Rattle.std.specs.Prelude.{◌≡◌, List, [], ◌∷◌, ◌++◌, ℕ, suc, ◌+◌, ◌<◌, ◌≤◌, length, set, take, drop, get_or}
+use Rattle.std.proofs.Common.{ap, ◌∙◌, arith, length-append, drop-cons}
 use Rattle.std.proofs.lemmas.List.Edits.{sets, sets-eq}
 use Rattle.std.proofs.lemmas.List.{set_comm}
 use Rattle.std.proofs.Math.Seq.{take-append_seam}

@@ -1,9 +1,8 @@
 -- Where a stored number's bytes stand in the list, and a long word's two halves. Assumes nothing.
-use Rattle.std.specs.Prelude.{List, [], ◌++◌, ◌≡◌, refl, ℕ, zero, suc, ◌+◌, ◌*◌, ◌/◌, ◌%◌, ◌^◌, ◌<◌, ◌≤◌, length, get_or, set, take, drop}
-use Rattle.std.proofs.Common.{append_assoc, sym, ap, ◌∙◌, add-zero, zero-add, div-one, mul_comm, pow-suc, add-one, arith, length-set, length-drop, take-append-drop, length-append, drop-drop, take-suc-set, drop-set-lt}
-use Rattle.std.proofs.Math.Nat.{div-div-eq-div-mul}
+use Rattle.std.specs.Prelude.{List, [], ◌++◌, ◌≡◌, refl, ℕ, zero, suc, ◌+◌, ◌*◌, ◌/◌, ◌%◌, ◌^◌, ◌<◌, ◌≤◌, length, set, take, drop}
+use Rattle.std.proofs.Common.{append_assoc, sym, ◌∙◌, add-zero, pow-suc, add-one, arith, length-set, take-append-drop, length-append, take-suc-set, drop-set-lt}
 use Rattle.std.proofs.Math.Seq.{take-append_seam, drop-append-add}
-use Rattle.paper.specs.Bits.{number, number_at, bytes_of, put_at}
+use Rattle.paper.specs.Bits.{bytes_of, put_at}
 use Rattle.laws.specs.Bits.{top_of}
 use Rattle.numbers.specs.Bytes.{parts_put}
 

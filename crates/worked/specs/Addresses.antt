@@ -1,7 +1,7 @@
 -- Steps and runs over registers by address and a0 (02 §7): rows worked out from the paper by hand. Assumes nothing.
 use Rattle.std.specs.Prelude.{List, [], ◌∷◌, ◌++◌, refl, ℕ, ◌+◌, ◌-◌, ◌^◌, take, drop, set, replicate}
 use Rattle.paper.specs.Bits.{◌at◌, bytes_of}
-use Rattle.paper.specs.Calls.{Changed, step_call, run_call}
+use Rattle.paper.specs.Calls.{step_call, run_call}
 use Rattle.paper.specs.Assembler.{to, from0, from1, immediate0, immediate1, op, nop_word, long, blank_dictionary, clear, ramp, begin}
 use Rattle.paper.specs.Sheet.{Row, ◌gives◌, shown}
 use Rattle.paper.specs.SheetMore.{one, r4}

@@ -1,7 +1,7 @@
 -- What the calls give that are lent a dictionary: each of their refusals, and what just passes. Assumes nothing.
 use Rattle.std.specs.Prelude.{List, [], ◌∷◌, ◌++◌, refl, ℕ, ◌+◌, ◌-◌, ◌^◌, take, set}
 use Rattle.paper.specs.Bits.{◌at◌, bytes_of}
-use Rattle.paper.specs.Calls.{Written, Changed, pack_call, shorten_call, expand_call, decode_call, decode_part, start_call, step_call, run_call}
+use Rattle.paper.specs.Calls.{pack_call, shorten_call, expand_call, decode_call, decode_part, start_call, step_call, run_call}
 use Rattle.paper.specs.Assembler.{dwords, jmpi_to, nop_word, long, numbers, zeros, blank_dictionary, dictionary_a, clear, begin}
 use Rattle.paper.specs.Sheet.{Row, ◌gives◌, shown, written, room, long_a, short_a}
 use Rattle.paper.specs.SheetMore.{state_is}

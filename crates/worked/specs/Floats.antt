@@ -1,13 +1,13 @@
 -- Steps over floats, and the fixed kernel's run, beside the table of `paper`. Assumes nothing.
-use Rattle.std.specs.Prelude.{List, [], ◌∷◌, ◌++◌, refl, ℕ, ◌+◌, ◌*◌, ◌^◌, take, drop}
+use Rattle.std.specs.Prelude.{List, [], ◌∷◌, ◌++◌, refl, ℕ, ◌+◌, take, drop}
 use Rattle.std.specs.Float.Ieee.{add, mul, of_bits, to_bits, eq, ne, lt, le}
-use Rattle.paper.specs.Bits.{◌at◌, bytes_of}
+use Rattle.paper.specs.Bits.{◌at◌}
 use Rattle.paper.specs.Single.{compares_floats, sign_modified}
 use Rattle.paper.specs.Restricted.{restricted_float, vector_float}
 use Rattle.paper.specs.Element.{float_result}
 use Rattle.paper.specs.Calls.{Changed, check_call, run_call}
 use Rattle.paper.specs.Placing.{placement_of, place_kernel, loaded_with, place_load_call}
-use Rattle.paper.specs.Assembler.{to, from0, from1, immediate0, immediate1, op, numbers, blank_dictionary, clear, ramp, begin}
+use Rattle.paper.specs.Assembler.{to, from0, from1, immediate0, immediate1, op, numbers, blank_dictionary, clear, begin}
 use Rattle.paper.specs.Sheet.{Row, ◌gives◌, shown}
 use Rattle.paper.specs.SheetMore.{one, r4}
 use Rattle.paper.specs.SheetFloats.{six_of, some_record}

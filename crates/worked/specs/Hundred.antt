@@ -1,5 +1,5 @@
 -- The definitions compute: a hundred instructions are checked, packed, and run for some steps. Assumes nothing.
-use Rattle.std.specs.Prelude.{List, [], ◌∷◌, ◌++◌, ◌≡◌, refl, ℕ}
+use Rattle.std.specs.Prelude.{List, [], ◌∷◌, ◌++◌, refl, ℕ}
 use Rattle.paper.specs.Bits.{bytes_of}
 use Rattle.paper.specs.Calls.{check_call, pack_call, run_call}
 use Rattle.paper.specs.Assembler.{copies, dictionary_a, clear, begin}

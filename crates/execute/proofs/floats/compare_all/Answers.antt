@@ -1,6 +1,5 @@
 -- The loop's invariant: the results of the channels passed are made. Its measure: the channels left. Assumes nothing.
 use mathlib.Core.Path.{◌≡◌, ap, ◌∙◌}
-use Prim.Native.Nat.{◌-◌}
 use native.Mathlib.Omega.{arith}
 use Rattle.paper.specs.Element.{one_if, float_result}
 use Rattle.lanes.specs.Mapped.{mapped_none, mapped_more}

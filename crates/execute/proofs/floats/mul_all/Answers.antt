@@ -1,6 +1,5 @@
 -- The loop's invariant: the results of the channels passed are made. Its measure: the channels left. Assumes nothing.
 use mathlib.Core.Path.{◌≡◌, ap}
-use Prim.Native.Nat.{◌-◌}
 use native.Mathlib.Omega.{arith}
 use lib.IntN.{pos}
 use Rattle.paper.specs.Element.{float_result}

@@ -1,5 +1,5 @@
 -- The loop's invariant: the mask has the bits of the results passed. Its measure: the results left. Assumes nothing.
-use Prim.Native.Nat.{ℕ, ◌+◌, ◌-◌}
+use Prim.Native.Nat.{ℕ, ◌+◌}
 use Rattle.execute.specs.Compared.{lowest_bits, lowest_more, lowest_less}
 use mathlib.Core.Path.{◌≡◌, refl}
 use native.Mathlib.Omega.{arith}

@@ -1,14 +1,13 @@
 -- The masks, results, registers and flags that are made are those of which the effect consists (`Executed`). Assumes nothing.
 -- The word can be executed.
-use lib.ListN.{length}
-use Rattle.paper.specs.Word.{src0, dst_is_a0, src_is_a0}
+use Rattle.paper.specs.Word.{src0}
 use Rattle.paper.specs.Legal.{bytes_in}
 use Rattle.laws.specs.Sources.{first_source}
 use Rattle.words.specs.Words.{to_word}
 use Rattle.words.specs.Operations.{plain_is}
-use Rattle.execute.specs.Readable.{Acting, not-destination, not_source, legal_writable}
+use Rattle.execute.specs.Readable.{not-destination, not_source, legal_writable}
 use Rattle.execute.proofs.Executed.{Made, direct_registers, direct_flags, direct_less}
-use mathlib.Core.Path.{◌≡◌, refl, sym, ap, ◌∙◌}
+use mathlib.Core.Path.{refl, sym, ap, ◌∙◌}
 use Rattle.execute.proofs.many.execute_many.Goals as goal
 
 pub results-requires : goal.results-requires

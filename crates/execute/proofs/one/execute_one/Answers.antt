@@ -1,14 +1,13 @@
 -- The masks, the result, registers and flags that are made are those of which the effect consists (`Executed`). Assumes nothing.
 -- The word can be executed.
-use mathlib.Core.Path.{◌≡◌, sym, ap, ◌∙◌}
-use lib.ListN.{length}
-use Rattle.paper.specs.Word.{src0, dst_is_a0, src_is_a0}
+use mathlib.Core.Path.{sym, ap, ◌∙◌}
+use Rattle.paper.specs.Word.{src0}
 use Rattle.paper.specs.Legal.{bytes_in}
 use Rattle.laws.specs.Sources.{first_source}
 use Rattle.words.specs.Words.{to_word}
 use Rattle.words.specs.Operations.{plain_is}
 use Rattle.operands.specs.Single.{alone}
-use Rattle.execute.specs.Readable.{Acting, not-destination, not_source, legal_writable}
+use Rattle.execute.specs.Readable.{not-destination, not_source, legal_writable}
 use Rattle.execute.proofs.Executed.{Made, direct_registers, direct_flags, direct_less}
 use Rattle.execute.proofs.one.execute_one.Goals as goal
 

@@ -1,7 +1,6 @@
 -- The loop's invariant: whatever instructions stand in the bytes, those that stand from `from` on go forward as all do. The measure is what is left of the
 -- kernel. Assumes nothing.
 use mathlib.Core.Path.{refl, sym, ◌∙◌}
-use Prim.Native.Nat.{◌-◌}
 use native.Mathlib.Omega.{arith}
 use borrow.Author.Rules.{rules}
 use Rattle.kernel.proofs.Jumping.{left_start, left_whole, ahead_end, ahead_not, ahead_on}

@@ -1,12 +1,12 @@
 -- The loop's invariant: any answer and marks that say what is left of the walk from byte `from` on, after `count` instructions and with the marks made so
 -- far, say what the whole parse is. The measure is what is left of the kernel. Assumes nothing.
 use mathlib.Core.Path.{sym, ap, ◌∙◌}
-use Prim.Native.Nat.{ℕ, ◌-◌, ◌<◌}
+use Prim.Native.Nat.{ℕ, ◌<◌}
 use native.Mathlib.Omega.{arith}
 use lib.ListN.{length-set, length-replicate}
 use borrow.Author.Rules.{rules}
 use Rattle.paper.specs.Limits.{instruction_limit}
-use Rattle.paper.specs.Kernel.{judge_at, parse}
+use Rattle.paper.specs.Kernel.{parse}
 use Rattle.kernel.specs.Judging.{judged_is}
 use Rattle.kernel.specs.Marks.{place_count, blank_unmarked}
 use Rattle.kernel.specs.Standing.{fits}

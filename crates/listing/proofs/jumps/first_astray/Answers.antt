@@ -1,6 +1,5 @@
 -- The loop's invariant: the instructions that are still to come have the answer of all. The measure is what is left of the text. Assumes nothing.
 use mathlib.Core.Path.{◌≡◌, sym, ◌∙◌}
-use Prim.Native.Nat.{◌-◌}
 use native.Mathlib.Omega.{arith}
 use lib.ListN.{length}
 use borrow.Author.Rules.{rules}

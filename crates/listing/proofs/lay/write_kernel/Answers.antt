@@ -1,6 +1,5 @@
 -- The loop's invariant: the bytes of the instructions before `place` are written. The measure is what is left of the text. Assumes nothing.
 use mathlib.Core.Path.{◌≡◌, refl, ◌∙◌}
-use Prim.Native.Nat.{◌-◌}
 use native.Mathlib.Omega.{arith}
 use lib.ListN.{length}
 use borrow.Author.Rules.{rules}

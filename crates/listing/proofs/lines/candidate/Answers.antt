@@ -1,6 +1,5 @@
 -- The form stands after the place, the dwords after the form. Assumes nothing.
 use mathlib.Core.Path.{refl}
-use Prim.Native.Nat.{◌-◌}
 use native.Mathlib.Omega.{arith}
 use Rattle.listing.specs.Reading.{candidate_by}
 use Rattle.listing.proofs.lines.candidate.Goals as goal

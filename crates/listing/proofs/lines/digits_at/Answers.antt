@@ -1,5 +1,4 @@
 -- Past the end there are none. Assumes nothing.
-use Prim.Native.Nat.{◌-◌}
 use native.Mathlib.Omega.{arith}
 use lib.ListN.{drop}
 use Rattle.listing.specs.Reading.{digits_past, digits_lt}

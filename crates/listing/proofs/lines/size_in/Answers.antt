@@ -1,5 +1,4 @@
 -- By the letter that stands there. Assumes nothing.
-use Prim.Native.Nat.{◌-◌}
 use Rattle.listing.specs.Reading.{size_past, size_short, size_long}
 use Rattle.listing.proofs.lines.size_in.Goals as goal
 

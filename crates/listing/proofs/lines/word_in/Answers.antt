@@ -1,5 +1,4 @@
 -- Four dwords, in halves. Assumes nothing.
-use Prim.Native.Nat.{◌-◌}
 use Rattle.listing.specs.Reading.{word_halves}
 use Rattle.listing.proofs.lines.word_in.Goals as goal
 

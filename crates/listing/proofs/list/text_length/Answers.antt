@@ -1,5 +1,4 @@
 -- The loop's invariant: the instructions before `place` have n bytes of lines. The measure is what is left of the kernel. Assumes nothing.
-use Prim.Native.Nat.{◌-◌}
 use native.Mathlib.Omega.{arith}
 use borrow.Author.Rules.{rules}
 use Rattle.listing.specs.Passing.{next_whole, counting_start, counting_end}

@@ -1,6 +1,5 @@
 -- The loop's invariant: the lines of the instructions before `place` are written before `at`. The measure is what is left of the kernel. Assumes nothing.
 use mathlib.Core.Path.{refl, ◌∙◌}
-use Prim.Native.Nat.{◌-◌}
 use native.Mathlib.Omega.{arith}
 use borrow.Author.Rules.{rules}
 use Rattle.listing.specs.Passing.{next_whole, writing_start, writing_end}

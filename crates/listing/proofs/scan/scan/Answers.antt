@@ -1,6 +1,6 @@
 -- The loop's invariant: any answer and marks that say what is left of the text from byte `from` and place `place` on say what the whole is read as. The measure
 -- is what is left of the text. Assumes nothing.
-use Prim.Native.Nat.{ℕ, ◌-◌, ◌<◌}
+use Prim.Native.Nat.{ℕ, ◌<◌}
 use native.Mathlib.Omega.{arith}
 use lib.ListN.{length-set, length-replicate}
 use borrow.Author.Rules.{rules}

@@ -1,6 +1,5 @@
 -- Long, or by the short word. Assumes nothing.
 use mathlib.Core.Path.{sym, ap, ◌∙◌}
-use Prim.Native.Nat.{◌-◌}
 use Rattle.paper.specs.Dictionary.{dictionary_of}
 use Rattle.paper.specs.Shorten.{shorten}
 use Rattle.words.specs.Words.{to_word}

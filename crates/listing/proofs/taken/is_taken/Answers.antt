@@ -1,6 +1,5 @@
 -- The word, then its form. Assumes nothing.
 use mathlib.Core.Path.{refl, sym, ◌∙◌}
-use Prim.Native.Nat.{◌-◌}
 use mathlib.Core.Bool.{true, false}
 use Rattle.listing.specs.Reading.{taken_by}
 use Rattle.listing.proofs.taken.is_taken.Goals as goal

@@ -1,5 +1,4 @@
 -- By the form. Assumes nothing.
-use Prim.Native.Nat.{◌-◌}
 use native.Mathlib.Omega.{arith}
 use Rattle.listing.specs.Writing.{short_form, long_form}
 use Rattle.listing.proofs.write.lines_length.Goals as goal

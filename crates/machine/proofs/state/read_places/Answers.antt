@@ -1,6 +1,6 @@
 -- The loop's invariant: the places of the channels passed are read, and each has 16 bits. Its measure: the channels left. Assumes nothing.
 use mathlib.Core.Path.{◌≡◌, refl}
-use Prim.Native.Nat.{ℕ, ◌-◌, ◌<◌}
+use Prim.Native.Nat.{ℕ, ◌<◌}
 use native.Mathlib.Omega.{arith}
 use lib.ListN.{length-set}
 use borrow.Author.Count.{below_more}

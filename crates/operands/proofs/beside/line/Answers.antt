@@ -1,6 +1,5 @@
 -- The loop's invariant: the elements of the channels passed are read. Its measure: the channels left. Assumes nothing.
 use mathlib.Core.Path.{◌≡◌}
-use Prim.Native.Nat.{◌-◌}
 use native.Mathlib.Omega.{arith}
 use Rattle.lanes.specs.Mapped.{mapped_none, mapped_more}
 use Rattle.operands.specs.Reads.{ElementsRead}

@@ -1,6 +1,5 @@
 -- The loop's invariant: the channels passed have what their patterns mean. Its measure: the channels left. Assumes nothing.
 use mathlib.Core.Path.{◌≡◌}
-use Prim.Native.Nat.{◌-◌}
 use native.Mathlib.Omega.{arith}
 use lib.Dec.{lit<}
 use Rattle.lanes.specs.Mapped.{mapped_none, mapped_more}

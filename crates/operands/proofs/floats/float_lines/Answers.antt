@@ -1,6 +1,6 @@
 -- The loop's invariant: the elements of the channels passed are read. Its measure: the channels left. Assumes nothing.
 use mathlib.Core.Path.{◌≡◌, ap, ◌∙◌}
-use Prim.Native.Nat.{ℕ, ◌-◌}
+use Prim.Native.Nat.{ℕ}
 use native.Mathlib.Omega.{arith}
 use Rattle.lanes.specs.Mapped.{mapped_none, mapped_more}
 use Rattle.paper.specs.Bits.{number_at}

@@ -1,6 +1,5 @@
 -- The loop's invariant: the channels passed have the pattern. Its measure: the channels left. Assumes nothing.
 use mathlib.Core.Path.{◌≡◌}
-use Prim.Native.Nat.{◌-◌}
 use native.Mathlib.Omega.{arith}
 use Rattle.lanes.specs.Mapped.{mapped_none, mapped_more}
 use mathlib.Core.Path.{refl}

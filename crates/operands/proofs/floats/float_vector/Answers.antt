@@ -1,7 +1,7 @@
 -- The loop's invariant: the channels passed have their own restricted float. Its measure: the channels left. Assumes nothing.
 use borrow.Author.Rules.{rules}
 use mathlib.Core.Path.{◌≡◌}
-use Prim.Native.Nat.{◌-◌, ◌^◌, ◌<◌}
+use Prim.Native.Nat.{◌^◌, ◌<◌}
 use native.Mathlib.Omega.{arith}
 use Rattle.lanes.specs.Mapped.{mapped_none, mapped_more}
 use Rattle.operands.proofs.floats.float_vector.Goals as goal

@@ -1,6 +1,5 @@
 -- The loop's invariant: where the pass stands, the places stored and the forms kept so far. The measure is what is left of the kernel. Assumes nothing.
 use mathlib.Core.Path.{◌∙◌}
-use Prim.Native.Nat.{◌-◌}
 use native.Mathlib.Omega.{arith}
 use lib.ListN.{length-set}
 use Rattle.packer.specs.Stages.{stage_start, stage_inside, stage_few, stage_whole, stage_next, end_to, placed_start, placed_next, placed_end}

@@ -1,6 +1,5 @@
 -- The loop's invariant: where the pass stands, and what it has written. The measure is what is left of the kernel. Assumes nothing.
 use mathlib.Core.Path.{refl}
-use Prim.Native.Nat.{◌-◌}
 use native.Mathlib.Omega.{arith}
 use Rattle.packer.specs.Stages.{stage_start, stage_room, stage_few, stage_whole, stage_next, targets_reach}
 use Rattle.packer.specs.Written.{holds_start, holds_length, holds_next, holds_end}

@@ -1,7 +1,5 @@
 -- The loop's invariant: where the pass stands, and that all before it is the same. The measure is what is left of the sent kernel. Assumes nothing.
-use mathlib.Core.Bool.{true, false}
 use mathlib.Core.Path.{sym, ◌∙◌}
-use Prim.Native.Nat.{◌-◌}
 use native.Mathlib.Omega.{arith}
 use borrow.Author.Tests.{eqb-true, eqb-false}
 use Rattle.pair.specs.Comparing.{reached_start, reached_few, reached_end, reached_over, reached_whole, reached_room, reached_more, reached_differs, reached_targets, reached_next}

@@ -1,8 +1,6 @@
 -- The loop's invariant: where the pass stands, and the places stored so far. The measure is what is left of the kernel. Assumes nothing.
-use mathlib.Core.Bool.{false}
 use mathlib.Core.Option.{none}
 use mathlib.Core.Path.{refl, ◌∙◌}
-use Prim.Native.Nat.{◌-◌}
 use native.Mathlib.Omega.{arith}
 use lib.ListN.{length-set}
 use Rattle.packer.specs.Stages.{stage_start, stage_inside, stage_few, stage_whole, stage_next, placed_start, placed_next, placed_end}

@@ -1,5 +1,5 @@
 -- The loop's invariant: what the text writes is what the rest writes after the number read so far. Its measure: the bytes left. Assumes nothing.
-use Rattle.std.proofs.Common.{◌-◌, sym, ◌∙◌, rules}
+use Rattle.std.proofs.Common.{sym, ◌∙◌, rules}
 use Rattle.rows.proofs.Reading.{hex_empty, hex_start, hex_end, hex_stop, hex_none, hex_wide, hex_on}
 use Rattle.rows.proofs.text.number_in.Goals as goal
 

@@ -1,6 +1,5 @@
 -- The loop's invariant: what is left from channel n on has the answer. Its measure: the channels left. Assumes nothing.
 use mathlib.Core.Path.{sym, ◌∙◌}
-use Prim.Native.Nat.{◌-◌}
 use native.Mathlib.Omega.{arith}
 use Rattle.run.specs.Landing.{waits_all, waits_none, waits_out, waits_on}
 use Rattle.run.proofs.legal.all_rest.Goals as goal

@@ -1,6 +1,5 @@
 -- The loop's invariant: the run stands at a state of each kernel that the table has, to which the whole run leads. Its measure: the budget left. Assumes nothing.
 use mathlib.Core.Path.{refl, sym, ◌∙◌}
-use Prim.Native.Nat.{◌-◌}
 use native.Mathlib.Omega.{arith}
 use Rattle.paper.specs.Machine.{step}
 use Rattle.run.specs.Acting.{acts_by}

@@ -1,6 +1,5 @@
 -- The loop's invariant: the numbers passed fit, or not. The measure is how many are left. Assumes nothing.
 use mathlib.Core.Path.{◌≡◌, refl}
-use Prim.Native.Nat.{◌-◌}
 use native.Mathlib.Omega.{arith}
 use borrow.Author.Rules.{rules}
 use Rattle.short.specs.Ranges.{table_fits, fits_more}

@@ -1,6 +1,5 @@
 -- The loop's invariant: so many numbers are gathered. The measure is how many are left. Assumes nothing.
 use mathlib.Core.Path.{◌≡◌}
-use Prim.Native.Nat.{◌-◌}
 use native.Mathlib.Omega.{arith}
 use borrow.Author.Rules.{rules}
 use Rattle.short.specs.SetLaws.{gathering_start, gathering_more}

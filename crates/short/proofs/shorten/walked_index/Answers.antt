@@ -1,5 +1,4 @@
 -- The loop's invariant: at no index passed is the number the key. So what is returned is the first index, of which there is only one. The measure is how many are left. Assumes nothing.
-use Prim.Native.Nat.{◌-◌}
 use native.Mathlib.Omega.{arith}
 use borrow.Author.Rules.{rules}
 use borrow.Author.Count.{below_more}

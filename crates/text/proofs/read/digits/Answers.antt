@@ -1,6 +1,5 @@
 -- A turn takes one digit. Assumes nothing.
 use mathlib.Core.Path.{refl, ◌∙◌}
-use Prim.Native.Nat.{◌-◌}
 use native.Mathlib.Omega.{arith}
 use Rattle.text.specs.Steps.{digits_step, digits_below, digits_above, digits_full, digits_end}
 use Rattle.text.proofs.read.digits.Goals as goal

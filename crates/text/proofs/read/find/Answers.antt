@@ -1,6 +1,5 @@
 -- A turn compares one byte. Assumes nothing.
 use mathlib.Core.Path.{◌∙◌}
-use Prim.Native.Nat.{◌-◌}
 use native.Mathlib.Omega.{arith}
 use Rattle.text.specs.Steps.{found_step, found_ends, found_differs, found_all}
 use Rattle.text.proofs.read.find.Goals as goal
