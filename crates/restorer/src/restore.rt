@@ -12,8 +12,11 @@ use std::io::{Read, Write};
 use words::answer::Answer;
 use words::limits::{DICTIONARY_BYTES, KERNEL_BYTES};
 
-// As much as is read: a dictionary, and one byte more than a listing can have, which is 70 for each of 4,096 instructions.
-const INPUT_BYTES: usize = DICTIONARY_BYTES + 286721;
+// One byte more than a listing can have, which is 70 for each of 4,096 instructions.
+const TEXT_BYTES: usize = 286721;
+
+// As much as is read: a dictionary and a listing.
+const INPUT_BYTES: usize = DICTIONARY_BYTES + TEXT_BYTES;
 
 // Writes the four lines of a refusal.
 fn say<E: Write>(errors: &mut E, number: u8, offset: u64) -> io::Result<()>
