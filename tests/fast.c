@@ -1,5 +1,5 @@
 /* Prints what spokeshaver_floats_exact tells in each floating-point mode: as the program finds it, with one change at a time, and set back. The modes are bits of MXCSR, the
- * x86-64 processor's control register, as the archive is for that processor; fesetround sets the same bits, but the fenv.h at hand may be another machine's. */
+ * x86-64 processor's control register, as the archive is for that processor; fesetround sets those of rounding, and nothing portable sets the other two. */
 #include "spokeshaver.h"
 
 #include <stdio.h>

@@ -1,6 +1,5 @@
--- The demands over bytes and calls: packing and then unpacking gives the kernel back; a long kernel and what packing makes of it run alike; a run
--- is one step and then a shorter run. Assumes nothing.
--- What follows from it is in proofs/DemandsHold.
+-- The demands over bytes and calls: what is ready for a run stays so, and a run is one step and then a shorter run. Assumes nothing.
+-- That packing and then unpacking gives the kernel back is in proofs/DemandsHold.
 use Rattle.std.specs.Prelude.{Bool, true, false, cond, ◌&&◌, List, ◌≡◌, refl, ℕ, zero, suc, ◌*◌, ◌^◌, ◌<◌, ◌≤◌, eqb, length}
 use Rattle.std.proofs.Math.Option.{none}
 use Rattle.std.proofs.Common.{sym, ap, ◌∙◌, arith}

@@ -1,6 +1,5 @@
--- When a kernel must finish (02 §14): where every jump goes forward, each step leads to an instruction of a higher number, or to the end; and what a step does to
--- registers and flags. Assumes nothing.
--- What follows from it is in proofs/FinishHolds.
+-- When a kernel must finish (02 §14): where a step leads, and what it does to registers and flags. Assumes nothing.
+-- That, where every jump goes forward, each step leads to an instruction of a higher number, or to the end, so that a run ends, is in proofs/FinishHolds.
 use Rattle.std.specs.Prelude.{Bool, true, ◌&&◌, ◌||◌, List, [], ◌∷◌, map, ◌≡◌, ℕ, ℤ}
 use Rattle.std.proofs.Common.{ap, ◌∙◌}
 use Rattle.std.proofs.Math.Option.{some}

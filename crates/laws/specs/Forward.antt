@@ -1,5 +1,5 @@
--- Jumps that go forward, by the numbers of instructions: a kernel's program tells whether its jumps do, so packing keeps it. Assumes nothing.
--- What follows from it is in proofs/ForwardHolds.
+-- Jumps that go forward, by the numbers of instructions. Assumes nothing.
+-- That a kernel's program tells whether its jumps do, so that packing keeps it, is in proofs/ForwardHolds.
 use Rattle.std.specs.Prelude.{Bool, true, ℕ, suc, ◌<◌, ◌≤◌, ltb, length}
 use Rattle.std.proofs.Math.Bool.{◌&&◌}
 use mathlib.Core.List.{List, [], ◌∷◌}

@@ -1,6 +1,5 @@
--- Packing and unpacking (demand 2): what is packed is accepted and runs the same program, holds each word in its smallest form, and unpacks to the
--- long bytes; what is unpacked is accepted too. Assumes nothing.
--- What follows from it is in proofs/PackingHolds.
+-- Packing and unpacking (demand 2): what is packed holds each word in its smallest form, and long words laid out are accepted. Assumes nothing.
+-- That what is packed is accepted, runs the same program and unpacks to the long bytes, and that what is unpacked is accepted too, is in proofs/PackingHolds.
 use Rattle.std.specs.Prelude.{Bool, true, false, cond, List, [], ◌∷◌, ◌++◌, map, ◌≡◌, refl, ℕ, suc, ◌+◌, ◌*◌, ◌^◌, ◌<◌, ◌≤◌, eqb, leb, length}
 use Rattle.std.proofs.Math.Option.{Option, none, some}
 use Rattle.std.proofs.Common.{sym, ap, ap₂, ◌∙◌, subst, arith, leb-true}

@@ -1,6 +1,5 @@
--- A long kernel and one that was sent for it (02 §11): which pairs are accepted, that unpacking an accepted one gives the long kernel, that packing makes one,
--- and how much there is to load. Assumes nothing.
--- What follows from it is in proofs/PairsHold.
+-- A long kernel and one that was sent for it (02 §11): which pairs are accepted, and how much there is to load. Assumes nothing.
+-- That unpacking an accepted one gives the long kernel, and that packing makes one, is in proofs/PairsHold.
 use Rattle.std.specs.Prelude.{Bool, true, false, cond, ◌&&◌, List, ◌≡◌, refl, ℕ, eqb, length}
 use Rattle.std.proofs.Common.{sym, ◌∙◌, arith, eqb-true, eq-eqb}
 use Rattle.std.proofs.lemmas.List.{length-map}

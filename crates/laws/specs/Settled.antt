@@ -124,10 +124,14 @@ module _ (addresses : List ℕ) where
   all_named [] w y e = e
   all_named (x ∷ xs) w y e = all_named xs (src_direct addresses x w) y (by_src x y w e)
 
-  each_named : (y : Source) (xs : List Source) (w : ℕ) → Memᴰ y xs → src_by_address y (all_direct addresses xs w) ≡ false
-  each_named y xs w (Memᴰ.head {x = x} {xs = ys} q) =
+  -- (The check wants the source of such a recursion first.)
+  named_each : (y : Source) (xs : List Source) (w : ℕ) → Memᴰ y xs → src_by_address y (all_direct addresses xs w) ≡ false
+  named_each y xs w (Memᴰ.head {x = x} {xs = ys} q) =
       all_named ys (src_direct addresses x w) y (subst (λ (z : Source). src_by_address z (src_direct addresses x w) ≡ false) (sym q) (src_named x w))
-  each_named y xs w (Memᴰ.tail {x = x} {xs = ys} m) = each_named y ys (src_direct addresses x w) m
+  named_each y xs w (Memᴰ.tail {x = x} {xs = ys} m) = named_each y ys (src_direct addresses x w) m
+
+  each_named : (xs : List Source) (w : ℕ) (y : Source) → Memᴰ y xs → src_by_address y (all_direct addresses xs w) ≡ false
+  each_named xs w y m = named_each y xs w m
 
   module _ (p : Plain) (w : ℕ) where
     abbrev word : ℕ
@@ -153,7 +157,7 @@ module _ (addresses : List ℕ) where
     unfolding settled dst_direct
     settled_named = record {
       destination = rw (all_field (sources p) (dst_direct addresses w) 63 1 (λ x m e. high x)) (named (dst_by_address w) refl);
-      source = λ x m. each_named x (sources p) (dst_direct addresses w) m;
+      source = λ x m. each_named (sources p) (dst_direct addresses w) x m;
     }
       where
         high : (x : Source) → spares (64 + shift_of x) 63 1 ≡ true

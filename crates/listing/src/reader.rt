@@ -38,7 +38,7 @@ pub(crate) fn instruction<'a, 'd>(reader: Reader<'a>, dictionary: &'d [u8]) -> F
     instruction_at(reader.kernel, reader.place, dictionary)
 }
 
-// What a reader at that place finds. Its parameters are plain, so whoever calls it is covered.
+// What a reader at that place finds. Its parameters are plain.
 pub(crate) fn read_at(kernel: &[u8], place: u64, dictionary: &[u8]) -> Fetched
     requires { (length dictionary.now ≡ dictionary_bytes) × Whole kernel.now (8 * place) }
     ensures { Fetches (dictionary_of dictionary.now) kernel.now (8 * place) result.size (to_word result.word) }

@@ -1,4 +1,4 @@
--- Single floats by their 32-bit patterns (02 §8). A pattern is read as a value of `lib.Ieee`, which has IEEE 754's binary32; an operation works on values and
+-- Single floats by their 32-bit patterns (02 §8). A pattern is read as a value of `Float.Ieee` of std, which has IEEE 754's binary32; an operation works on values and
 -- rounds once, to nearest, ties to even, subnormal numbers kept; and the value is written as a pattern again. `to_bits` writes a NaN as 0x7FC00000. Assumes
 -- nothing.
 use Rattle.std.specs.Prelude.{Bool, cond, ℕ, ◌+◌, ◌%◌, ◌^◌, eqb, Float}

@@ -1,10 +1,10 @@
--- What follows from the contracts of the exported calls. Promises states it, and the others prove it: demand 1 in OutcomesHold, demand 2 in PackingHolds (a
+-- What follows from the contracts of the exported calls. Promises states it, and the others prove it: demand 1 in OutcomesHold and RefusalsHold, demand 2 in PackingHolds (a
 -- single word in WordsHold), demand 3 in RunningHolds (two kernels in AlikeHolds), a kernel that was sent in PairsHold, and logs in LogsHold.
 -- Before states what passed before a request; PassedHolds proves it, of longer kernels LongerHolds.
 -- Finishing states when a kernel must finish, and what a step may change; FinishingHolds proves it, of a step ChangesHold.
 -- Listings states what holds of a kernel's listing and of what is read, and ListingsHold proves it.
 -- Placements states where tiles go, by an order and by the fixed kernel, and PlacementsHold proves it.
--- RefusalsHold, AlikeHolds, RunningHolds, PairsHold, ChangesHold, FinishingHolds and ListingsHold stand in proofs/; RefusalsHold ends what OutcomesHold begins.
+-- RefusalsHold, AlikeHolds, RunningHolds, PairsHold, ChangesHold, FinishingHolds and ListingsHold stand in proofs/.
 pub mod Promises
 pub mod Before
 pub mod Results

@@ -1,5 +1,5 @@
--- Demand 1 holds: one outcome for each call, an answer of the paper's list, and a refusal that changes nothing. Assumes nothing.
--- What follows from it is in proofs/RefusalsHold.
+-- Every answer is one of the paper's list, and an output that the paper confines is kept. Assumes nothing.
+-- That a refusal changes nothing, and so that demand 1 holds, is in proofs/RefusalsHold.
 use Rattle.std.specs.Prelude.{Bool, List, ◌≡◌, ℕ, length, drop}
 use Rattle.std.proofs.Common.{sym, ap, ◌∙◌}
 use Rattle.paper.specs.Calls.{Answer, as_number, Written, check_call, forward_call, pack_call, unpack_call, pair_call, shorten_call, expand_call, decode_call, start_call, step_call, run_call, number_of}

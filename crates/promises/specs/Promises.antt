@@ -1,5 +1,5 @@
 -- The promises of the exported calls, for all that can be lent to them. Read this file first, and after it what it names: the contracts (Contracts and OneOutcome
--- of the crate `contracts`) and the lists of numbers (Numbers of `answers`). It states them and proves none: `demand_1` of OutcomesHold, `demand_2` of
+-- of the crate `contracts`) and the lists of numbers (Numbers of `answers`). It states them and proves none: `demand_1` of RefusalsHold, `demand_2` of
 -- PackingHolds, `demand_3` of RunningHolds, `pairs` of PairsHold and `logs` of LogsHold are the theorems. Finishing goes on from here, with when a kernel must finish
 -- and what a step may change, Listings with listings, Placements with where tiles go, and Before with what passed before a request. A hypothesis such as `PackPromise dictionary kernel out r out'` says: spokeshaver_pack, lent
 -- these, answered r and left out' in its output; that is the contract of the call, proved with its code. `number_in`, `offset_in` and `count_in` take an answer

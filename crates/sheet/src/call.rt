@@ -1,4 +1,4 @@
-// The commands that make a call of the C boundary, and those that look at the part of a kernel that is handed back: by decoding, and as the kernel to load.
+// The commands that make a call of `spokeshaver`, and those that look at the part of a kernel that is handed back: by decoding, and as the kernel to load.
 ghost use Rattle.std.specs.Prelude.{◌≡◌, length};
 ghost use Rattle.rows.specs.Sizes.{table_bytes, board_bytes, state_bytes};
 
