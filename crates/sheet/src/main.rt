@@ -5,22 +5,28 @@
 mod call;
 mod obey;
 
+ghost use Rattle.std.specs.Prelude.{◌≡◌, length};
+
 use front::input::read_full;
 use obey::run_rows;
 use std::rt::Files;
 use std::{fs, io};
 
 // Room for a file, of which the last byte must stay free.
-const FILE_BYTES: usize = 262144;
+fn pages() -> [u8; 262144]
+    ensures { 262144 ≡ length result }
+{
+    [0; 262144]
+}
 
 // Runs a file's cases. A file that cannot be opened has none; one that may be cut off has no line.
 fn report<R: Files + Print>(rt: &R, file: &str) -> io::Result<()> {
-    let mut text = [0u8; FILE_BYTES];
+    let mut text = pages();
     let n = match fs::open(rt, file) {
         Ok(mut opened) => read_full(&mut opened, &mut text)?,
         Err(_error) => 0,
     };
-    if n == FILE_BYTES {
+    if n == 262144 {
         return Ok(());
     }
     let desk = run_rows(rt, file, &text[..n])?;
