@@ -1,23 +1,48 @@
--- What is said where a call succeeds, by what is known of the bytes. Assumes nothing.
-use Rattle.std.specs.Prelude.{Result, Ok, Err, Option, None, Some, OnOk, IfSome}
-use Rattle.std.proofs.Common.{◌≡◌, ℕ, List, ◌++◌, length, take, drop, min, ap, ap₂, ◌∙◌, subst}
+-- What is said where a call succeeds or fails, by what is known of the bytes. Assumes nothing.
+use Rattle.std.specs.Prelude.{Result, Ok, Err, Option, None, Some, OnErr, OnOk, IfSome}
+use Rattle.std.proofs.Common.{◌≡◌, ℕ, List, [], ◌++◌, length, take, drop, min, ap, ap₂, ◌∙◌, subst}
 use Rattle.std.proofs.lemmas.List.{take_min, drop_min}
 use Rattle.std.proofs.Math.Seq.{take-append_seam}
+use Rattle.std.specs.Io.KnownBytes.{Appends}
+use Rattle.std.proofs.KnownBytes.{Appends-nil}
 use Rattle.paper.specs.Limits.{dictionary_bytes}
-use Rattle.front.specs.Printed.{check_text, input_text, input_cut}
+use Rattle.front.specs.Printed.{check_text, input_text}
+use Rattle.front.specs.Streams.{AppendsPart}
 
--- What is said of one list is said of the same.
-pub told_of : {T E : Type 0} (r : Result T E) (A : List ℕ → Type 0) (v w : List ℕ) → v ≡ w → OnOk r (A v) → OnOk r (A w)
-told_of (Ok x) A v w e h = subst A e h
-told_of (Err x) A v w e h = tt
+-- What follows is said too.
+pub on_ok : {T E P Q : Type 0} (r : Result T E) → (P → Q) → OnOk r P → OnOk r Q
+on_ok (Ok x) f h = f h
+on_ok (Err x) f h = tt
 
--- The first bytes of an input stand for all of it.
-pub told_by : {T E : Type 0} (known : Option (List ℕ)) (r : Result T E) (A : List ℕ → Type 0) (v : List ℕ) (most : ℕ) → most ≡ 66049
-    → IfSome known (λ xs. v ≡ take most xs) → OnOk r (A (input_text v)) → OnOk r (IfSome known (λ xs. A (input_text xs)))
-told_by None (Ok x) A v most m e h = tt
-told_by None (Err x) A v most m e h = tt
-told_by (Some xs) (Ok x) A v most m e h = subst A (ap input_text (e ∙ ap (λ (k : ℕ). take k xs) m) ∙ input_cut xs) h
-told_by (Some xs) (Err x) A v most m e h = tt
+pub on_err : {T E P Q : Type 0} (r : Result T E) → (P → Q) → OnErr r P → OnErr r Q
+on_err (Ok x) f h = tt
+on_err (Err x) f h = f h
+
+-- What holds anyway is said.
+pub of_ok : {T E P : Type 0} (r : Result T E) → P → OnOk r P
+of_ok (Ok x) p = p
+of_ok (Err x) p = tt
+
+pub of_err : {T E P : Type 0} (r : Result T E) → P → OnErr r P
+of_err (Ok x) p = tt
+of_err (Err x) p = p
+
+-- The first bytes of an input stand for all of it, where what follows them changes nothing.
+pub known_by : {X : Type 0} (f : List ℕ → X) (most : ℕ) → ((xs : List ℕ) → f (take most xs) ≡ f xs) → (known : Option (List ℕ)) (A : X → Type 0) (v : List ℕ) (n : ℕ) → n ≡ most
+    → IfSome known (λ xs. v ≡ take n xs) → A (f v) → IfSome known (λ xs. A (f xs))
+known_by f most cut None A v n m e h = tt
+known_by f most cut (Some xs) A v n m e h = subst A (ap f (e ∙ ap (λ (k : ℕ). take k xs) m) ∙ cut xs) h
+
+-- A writer that was not asked has the empty text more, and so a beginning of any.
+pub quiet : (held : Option (List ℕ)) (text : List ℕ) → [] ≡ text → Appends held held text
+quiet held text e = subst (Appends held held) e (Appends-nil held)
+
+pub unasked : (held : Option (List ℕ)) (text : List ℕ) → AppendsPart held held text
+unasked held text = (0, Appends-nil held)
+
+pub all_unasked : {X : Type 0} (known : Option X) (held : Option (List ℕ)) (f : X → List ℕ) → IfSome known (λ x. AppendsPart held held (f x))
+all_unasked None held f = tt
+all_unasked (Some x) held f = unasked held (f x)
 
 -- The lines in their buffer are the input's text.
 pub text_of : (input dictionary kernel rest written : List ℕ) (n : ℕ) → dictionary ≡ take (min dictionary_bytes (length input)) input

@@ -1,10 +1,12 @@
 // Reads a dictionary and a kernel, and writes the four lines.
-ghost use Rattle.std.specs.Prelude.{IfSome, OnOk};
+ghost use Rattle.std.specs.Prelude.{IfSome, OnErr, OnOk};
 ghost use Rattle.std.specs.Io.KnownBytes.{Appends};
 ghost use Rattle.front.specs.Printed.{input_text};
+ghost use Rattle.front.specs.Streams.{AppendsPart};
 
 use crate::input::read_full;
 use crate::lines::{LINES_BYTES, lines_on};
+use crate::output::write_full;
 use std::io;
 use std::io::{Read, Write};
 use words::limits::{DICTIONARY_BYTES, KERNEL_BYTES};
@@ -12,21 +14,24 @@ use words::limits::{DICTIONARY_BYTES, KERNEL_BYTES};
 // As much as is read: a dictionary, and of a kernel one byte more than is allowed.
 pub const INPUT_BYTES: usize = DICTIONARY_BYTES + KERNEL_BYTES + 1;
 
-// Writes the four lines on an input.
+// Writes the four lines on an input, or a beginning of them before an error.
 pub fn put_lines<W: Write>(writer: &mut W, input: &[u8]) -> io::Result<()>
-    ensures { OnOk result (Appends (W.contents writer.old) (W.contents writer.new) (input_text input.now)) }
+    ensures ok { OnOk result (Appends (W.contents writer.old) (W.contents writer.new) (input_text input.now)) }
+    ensures err { OnErr result (AppendsPart (W.contents writer.old) (W.contents writer.new) (input_text input.now)) }
 {
     let (dictionary, kernel) = input.split_at(DICTIONARY_BYTES.min(input.len()));
     let mut text = [0u8; LINES_BYTES];
     let n = lines_on(dictionary, kernel, &mut text);
-    writer.write_all(&text[..n])
+    write_full(writer, &text[..n])
 }
 
 // The first bytes are the dictionary, what follows is the kernel. Of a kernel that is too long, one byte more than is allowed is read, so that it is
 // refused as too long; what follows that byte changes nothing (`input_cut`) and stays unread.
 pub fn talk<R: Read, W: Write>(reader: &mut R, writer: &mut W) -> io::Result<()>
-    ensures { OnOk result (IfSome (R.remaining reader.old)
+    ensures ok { OnOk result (IfSome (R.remaining reader.old)
         (λ xs. Appends (W.contents writer.old) (W.contents writer.new) (input_text xs))) }
+    ensures err { OnErr result (IfSome (R.remaining reader.old)
+        (λ xs. AppendsPart (W.contents writer.old) (W.contents writer.new) (input_text xs))) }
 {
     let mut input = [0u8; INPUT_BYTES];
     let n = read_full(reader, &mut input)?;

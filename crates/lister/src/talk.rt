@@ -1,29 +1,34 @@
 // Reads a dictionary and a kernel, and writes the listing or the four lines.
-ghost use Rattle.std.specs.Prelude.{◌≡◌, IfSome, OnOk};
+ghost use Rattle.std.specs.Prelude.{IfSome, OnErr, OnOk};
 ghost use Rattle.std.specs.Io.KnownBytes.{Appends};
+ghost use Rattle.front.specs.Streams.{AppendsPart};
 ghost use Rattle.lister.specs.Shown.{input_shown};
 
 use crate::show::{TEXT_BYTES, show};
 use front::input::read_full;
+use front::output::write_full;
 use front::talk::INPUT_BYTES;
 use std::io;
 use std::io::{Read, Write};
 use words::limits::DICTIONARY_BYTES;
 
-// Writes what is shown of an input.
+// Writes what is shown of an input, or a beginning of it before an error.
 pub fn put_shown<W: Write>(writer: &mut W, input: &[u8]) -> io::Result<()>
-    ensures { OnOk result (Appends (W.contents writer.old) (W.contents writer.new) (input_shown input.now)) }
+    ensures ok { OnOk result (Appends (W.contents writer.old) (W.contents writer.new) (input_shown input.now)) }
+    ensures err { OnErr result (AppendsPart (W.contents writer.old) (W.contents writer.new) (input_shown input.now)) }
 {
     let (dictionary, kernel) = input.split_at(DICTIONARY_BYTES.min(input.len()));
     let mut text = [0u8; TEXT_BYTES];
     let n = show(dictionary, kernel, &mut text);
-    writer.write_all(&text[..n])
+    write_full(writer, &text[..n])
 }
 
 // Of a kernel that is too long one byte more than is allowed is read, so that it is refused; what follows that byte changes nothing (`shown_input_cut`).
 pub fn talk<R: Read, W: Write>(reader: &mut R, writer: &mut W) -> io::Result<()>
-    ensures { OnOk result (IfSome (R.remaining reader.old)
+    ensures ok { OnOk result (IfSome (R.remaining reader.old)
         (λ xs. Appends (W.contents writer.old) (W.contents writer.new) (input_shown xs))) }
+    ensures err { OnErr result (IfSome (R.remaining reader.old)
+        (λ xs. AppendsPart (W.contents writer.old) (W.contents writer.new) (input_shown xs))) }
 {
     let mut input = [0u8; INPUT_BYTES];
     let n = read_full(reader, &mut input)?;

@@ -1,10 +1,12 @@
 // Reads a dictionary and a listing, and writes the kernel, or the four lines of a refusal.
-ghost use Rattle.std.specs.Prelude.{◌≡◌, ◌≤◌, IfSome, OnOk, length, take};
+ghost use Rattle.std.specs.Prelude.{IfSome, OnErr, OnOk};
 ghost use Rattle.std.specs.Io.KnownBytes.{Appends};
+ghost use Rattle.front.specs.Streams.{AppendsPart};
 ghost use Rattle.restorer.specs.Restored.{refusal_text, restored_output, restored_errors};
 
 use front::input::read_full;
 use front::lines::{LINES_BYTES, put_report};
+use front::output::write_full;
 use front::report::refused;
 use listing::read::read;
 use std::io;
@@ -18,16 +20,17 @@ const TEXT_BYTES: usize = 286721;
 // As much as is read: a dictionary and a listing.
 const INPUT_BYTES: usize = DICTIONARY_BYTES + TEXT_BYTES;
 
-// Writes the four lines of a refusal.
+// Writes the four lines of a refusal, or a beginning of them before an error.
 fn say<E: Write>(errors: &mut E, number: u8, offset: u64) -> io::Result<()>
-    ensures { OnOk result (Appends (E.contents errors.old) (E.contents errors.new) (refusal_text number offset)) }
+    ensures ok { OnOk result (Appends (E.contents errors.old) (E.contents errors.new) (refusal_text number offset)) }
+    ensures err { OnErr result (AppendsPart (E.contents errors.old) (E.contents errors.new) (refusal_text number offset)) }
 {
     let mut lines = [0u8; LINES_BYTES];
     let n = put_report(&mut lines, refused(number, offset));
-    errors.write_all(&lines[..n])
+    write_full(errors, &lines[..n])
 }
 
-// Writes what an input is read back as.
+// Writes what an input is read back as, or beginnings of it before an error.
 pub fn put_restored<W: Write, E: Write>(
     output: &mut W,
     errors: &mut E,
@@ -35,11 +38,13 @@ pub fn put_restored<W: Write, E: Write>(
 ) -> io::Result<()>
     ensures output { OnOk result (Appends (W.contents output.old) (W.contents output.new) (restored_output input.now)) }
     ensures errors { OnOk result (Appends (E.contents errors.old) (E.contents errors.new) (restored_errors input.now)) }
+    ensures output_err { OnErr result (AppendsPart (W.contents output.old) (W.contents output.new) (restored_output input.now)) }
+    ensures errors_err { OnErr result (AppendsPart (E.contents errors.old) (E.contents errors.new) (restored_errors input.now)) }
 {
     let (dictionary, text) = input.split_at(DICTIONARY_BYTES.min(input.len()));
     let mut kernel = [0u8; KERNEL_BYTES];
     match read(dictionary, text, &mut kernel) {
-        Answer::Told(_, count) => output.write_all(&kernel[..count as usize]),
+        Answer::Told(_, count) => write_full(output, &kernel[..count as usize]),
         Answer::Refused(number, offset) => say(errors, number, offset),
         Answer::RefusedWith(number, offset, _) => say(errors, number, offset),
     }
@@ -55,6 +60,10 @@ pub fn restore<R: Read, W: Write, E: Write>(
         (λ xs. Appends (W.contents output.old) (W.contents output.new) (restored_output xs))) }
     ensures errors { OnOk result (IfSome (R.remaining reader.old)
         (λ xs. Appends (E.contents errors.old) (E.contents errors.new) (restored_errors xs))) }
+    ensures output_err { OnErr result (IfSome (R.remaining reader.old)
+        (λ xs. AppendsPart (W.contents output.old) (W.contents output.new) (restored_output xs))) }
+    ensures errors_err { OnErr result (IfSome (R.remaining reader.old)
+        (λ xs. AppendsPart (E.contents errors.old) (E.contents errors.new) (restored_errors xs))) }
 {
     let mut input = [0u8; INPUT_BYTES];
     let n = read_full(reader, &mut input)?;
