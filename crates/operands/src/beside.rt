@@ -16,11 +16,9 @@ fn line(registers: &[u8], from: usize, kind: u64, size: usize, n: usize, values:
     requires by_index { (k : ℕ) → k < n → from + k * size + size ≤ length registers.now }
     ensures { ElementsRead registers.now (λ k. from + k * size) kind size n values.old values.new }
 {
-    let mut k = 0;
-    while k < n {
+    for k in 0..n {
         let at = from + k * size;
         values[k] = read_as(registers, at, kind, size);
-        k += 1;
     }
 }
 
@@ -57,11 +55,9 @@ fn word_patterns(registers: &[u8], from: usize, n: usize, patterns: &mut [u16; 1
     requires by_index { (k : ℕ) → k < n → from + k * 2 + 2 ≤ length registers.now }
     ensures { Mapped (λ k old new. new ≡ number_at registers.now (from + k * 2) 2) n patterns.old patterns.new }
 {
-    let mut k = 0;
-    while k < n {
+    for k in 0..n {
         let at = from + k * 2;
         patterns[k] = read2(registers, at) as u16;
-        k += 1;
     }
 }
 
@@ -70,11 +66,9 @@ fn word_values(patterns: &[u16], n: usize, values: &mut [u64; 16])
     requires { (n ≤ 16) × (length patterns.now ≡ 16) × (length values.old ≡ 16) }
     ensures { Mapped (λ k old new. Reads 3 (get_or patterns.now k 0) new) n values.old values.new }
 {
-    let mut k = 0;
-    while k < n {
+    for k in 0..n {
         let pattern = patterns[k] as u64;
         values[k] = load(3, pattern);
-        k += 1;
     }
 }
 

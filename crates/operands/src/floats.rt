@@ -28,11 +28,9 @@ fn float_line(registers: &[u8], from: usize, n: usize, patterns: &mut [u32; 16])
     requires { (n ≤ 16) × (length patterns.old ≡ 16) × ((k : ℕ) → k < n → from + k * 4 + 4 ≤ length registers.now) }
     ensures { FloatsAt registers.now (λ k. from + k * 4) n patterns.old patterns.new }
 {
-    let mut k = 0;
-    while k < n {
+    for k in 0..n {
         let at = from + k * 4;
         patterns[k] = read4(registers, at) as u32;
-        k += 1;
     }
 }
 
@@ -41,10 +39,8 @@ fn float_spread(pattern: u32, n: usize, patterns: &mut [u32; 16])
     requires { (n ≤ 16) × (length patterns.old ≡ 16) }
     ensures { Mapped (λ k old new. new ≡ pattern) n patterns.old patterns.new }
 {
-    let mut k = 0;
-    while k < n {
+    for k in 0..n {
         patterns[k] = pattern;
-        k += 1;
     }
 }
 
@@ -53,11 +49,9 @@ fn float_lines(registers: &[u8], r: Region, n: usize, patterns: &mut [u32; 16])
     requires { Small r × (n ≤ 16) × (length patterns.old ≡ 16) × ((k : ℕ) → k < n → element_at (region_is r) k + 4 ≤ length registers.now) }
     ensures { FloatsAt registers.now (element_at (region_is r)) n patterns.old patterns.new }
 {
-    let mut k = 0;
-    while k < n {
+    for k in 0..n {
         let from = element_at(r, k);
         patterns[k] = read4(registers, from) as u32;
-        k += 1;
     }
 }
 
@@ -101,11 +95,9 @@ fn sign_each(modifier: u64, n: usize, patterns: &mut [u32; 16])
     requires { (n ≤ 16) × (length patterns.old ≡ 16) }
     ensures { Mapped (λ k old new. (new ≡ sign_modified modifier old) × (old < 2 ^ 32 → new < 2 ^ 32)) n patterns.old patterns.new }
 {
-    let mut k = 0;
-    while k < n {
+    for k in 0..n {
         let pattern = patterns[k];
         patterns[k] = modify_pattern(modifier, pattern);
-        k += 1;
     }
 }
 
@@ -127,10 +119,8 @@ fn float_vector(four: u32, n: usize, patterns: &mut [u32; 16])
     requires { (n ≤ 16) × (length patterns.old ≡ 16) }
     ensures { Mapped (λ k old new. (new ≡ vector_float four k) × (new < 2 ^ 32)) n patterns.old patterns.new }
 {
-    let mut k = 0;
-    while k < n {
+    for k in 0..n {
         patterns[k] = vector_pattern(four, k as u64);
-        k += 1;
     }
 }
 

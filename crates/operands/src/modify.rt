@@ -11,11 +11,9 @@ fn modify_each(modifier: u64, n: usize, values: &mut [u64; 16])
     requires { (n ≤ 16) × (length values.old ≡ 16) × ((k : ℕ) → k < n → Near 32 (get_or values.old k 0)) }
     ensures { Mapped (λ k old new. (ex new ≡ modified modifier (ex old)) × Keeps old new) n values.old values.new }
 {
-    let mut k = 0;
-    while k < n {
+    for k in 0..n {
         let v = values[k];
         values[k] = modify(modifier, v);
-        k += 1;
     }
 }
 

@@ -22,11 +22,9 @@ pub(crate) fn lines(
     requires by_index { (k : ℕ) → k < n → element_at (region_is r) k + size ≤ length registers.now }
     ensures { ElementsRead registers.now (element_at (region_is r)) kind size n values.old values.new }
 {
-    let mut k = 0;
-    while k < n {
+    for k in 0..n {
         let from = element_at(r, k);
         values[k] = read_as(registers, from, kind, size);
-        k += 1;
     }
 }
 

@@ -16,9 +16,6 @@ pub loop-k-init : goal.loop-k-init
 unfolding scattered
 loop-k-init c = (omega arith, refl, refl)
 
-pub overflow_cast-v : goal.overflow_cast-v
-overflow_cast-v c = record { fits = omega (arith, (c.shared_slice_known-in-loop-k-1.given c.loop-k.k).fits) }
-
 -- The channel's element ends inside the registers.
 inside : (c : goal.After-blend_channel-arg-1)
     → c.args.origin
@@ -49,7 +46,7 @@ loop-k-preserved c =
       (cc),
       rw (add-one k)
           (scattered_step a.registers.now _ _ (λ k. a.origin + k * a.stride * 4) 4 (bit a.enable) (λ k. get_or a.patterns.now k 0) k
-          c.loop-k.invariant.2 c.blend_channel.ensures),
+          c.loop-k.invariant.2 (rw c.from-v.ensures at c.blend_channel.ensures)),
     )
 
 pub returns : goal.returns

@@ -11,6 +11,3 @@ abbrev pub invariant-loop-k : goal.invariant-loop-k
 invariant-loop-k l =
     (l.k ≤ l.n) × (length l.registers ≡ length l.initial.registers)
     × (l.registers ≡ scattered l.initial.registers (λ k'. l.origin + k' * l.stride * 4) 4 (bit l.enable) (λ k'. get_or l.patterns k' 0) l.k)
-
-abbrev pub decreases-loop-k : goal.decreases-loop-k
-decreases-loop-k l = l.n - l.k

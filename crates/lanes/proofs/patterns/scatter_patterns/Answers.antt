@@ -16,4 +16,4 @@ pub returns-then-is_whole : goal.returns-then-is_whole
 returns-then-is_whole c =
     let plain = c.is_whole.ensures c.if-is_whole.true in
     rw plain.0 (c.all_patterns.ensures
-    ∙ scattered_same _ _ _ _ _ _ _ _ (λ k h. bit-ones 64 k (omega (arith, c.requires.n_bound.0)) ∙ sym (plain.1 k h)) (λ k h. refl))
+    ∙ scattered_same _ _ _ _ _ _ _ _ (λ k h. bit-ones 64 k (omega (arith, c.requires.n_bound)) ∙ sym (plain.1 k h)) (λ k h. refl))

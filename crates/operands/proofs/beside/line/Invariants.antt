@@ -6,6 +6,3 @@ use Rattle.operands.proofs.beside.line.Given as goal
 
 abbrev pub invariant-loop-k : goal.invariant-loop-k
 invariant-loop-k l = (l.k ≤ l.n) × ElementsRead l.registers (λ k'. l.from + k' * l.size) l.kind l.size l.k l.initial.values l.values
-
-abbrev pub decreases-loop-k : goal.decreases-loop-k
-decreases-loop-k l = l.n - l.k

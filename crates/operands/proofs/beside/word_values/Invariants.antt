@@ -7,6 +7,3 @@ use Rattle.operands.proofs.beside.word_values.Given as goal
 
 abbrev pub invariant-loop-k : goal.invariant-loop-k
 invariant-loop-k l = (l.k ≤ l.n) × Mapped (λ k' old new. Reads 3 (get_or l.patterns k' 0) new) l.k l.initial.values l.values
-
-abbrev pub decreases-loop-k : goal.decreases-loop-k
-decreases-loop-k l = l.n - l.k

@@ -5,6 +5,3 @@ use Rattle.operands.proofs.floats.float_line.Given as goal
 
 abbrev pub invariant-loop-k : goal.invariant-loop-k
 invariant-loop-k l = (l.k ≤ l.n) × FloatsAt l.registers (λ k'. l.from + k' * 4) l.k l.initial.patterns l.patterns
-
-abbrev pub decreases-loop-k : goal.decreases-loop-k
-decreases-loop-k l = l.n - l.k

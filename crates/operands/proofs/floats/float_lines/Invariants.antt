@@ -7,6 +7,3 @@ use Rattle.operands.proofs.floats.float_lines.Given as goal
 
 abbrev pub invariant-loop-k : goal.invariant-loop-k
 invariant-loop-k l = (l.k ≤ l.n) × FloatsAt l.registers (element_at (region_is l.r)) l.k l.initial.patterns l.patterns
-
-abbrev pub decreases-loop-k : goal.decreases-loop-k
-decreases-loop-k l = l.n - l.k

@@ -6,6 +6,3 @@ use Rattle.operands.proofs.floats.float_spread.Given as goal
 
 abbrev pub invariant-loop-k : goal.invariant-loop-k
 invariant-loop-k l = (l.k ≤ l.n) × Mapped (λ k' old new. new ≡ l.pattern) l.k l.initial.patterns l.patterns
-
-abbrev pub decreases-loop-k : goal.decreases-loop-k
-decreases-loop-k l = l.n - l.k

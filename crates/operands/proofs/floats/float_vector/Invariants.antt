@@ -7,6 +7,3 @@ use Rattle.operands.proofs.floats.float_vector.Given as goal
 
 abbrev pub invariant-loop-k : goal.invariant-loop-k
 invariant-loop-k l = (l.k ≤ l.n) × Mapped (λ k' old new. (new ≡ vector_float l.four k') × (new < 2 ^ 32)) l.k l.initial.patterns l.patterns
-
-abbrev pub decreases-loop-k : goal.decreases-loop-k
-decreases-loop-k l = l.n - l.k

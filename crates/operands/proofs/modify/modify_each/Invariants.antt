@@ -8,6 +8,3 @@ use Rattle.operands.proofs.modify.modify_each.Given as goal
 
 abbrev pub invariant-loop-k : goal.invariant-loop-k
 invariant-loop-k l = (l.k ≤ l.n) × Mapped (λ k' old new. (ex new ≡ modified l.modifier (ex old)) × Keeps old new) l.k l.initial.values l.values
-
-abbrev pub decreases-loop-k : goal.decreases-loop-k
-decreases-loop-k l = l.n - l.k

@@ -7,6 +7,3 @@ use Rattle.operands.proofs.rows.lines.Given as goal
 
 abbrev pub invariant-loop-k : goal.invariant-loop-k
 invariant-loop-k l = (l.k ≤ l.n) × ElementsRead l.registers (element_at (region_is l.r)) l.kind l.size l.k l.initial.values l.values
-
-abbrev pub decreases-loop-k : goal.decreases-loop-k
-decreases-loop-k l = l.n - l.k
