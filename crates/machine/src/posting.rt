@@ -32,11 +32,9 @@ pub(crate) fn post_all(c: Channels, here: &mut [u16])
     ensures { Posted c.awake here.new (channels_is c) × (length here.new ≡ length here.old) }
 {
     let places = c.places;
-    let mut n = 0;
-    while n < 16 {
+    for n in 0..16 {
         let place = places[n];
         post_one(c.waiting, place, n as u64, here);
-        n += 1;
     }
 }
 
@@ -56,11 +54,9 @@ fn place_each(mask: u64, place: u64, places: &mut [u64; 16])
     requires { length places.old ≡ 16 }
     ensures { Mapped (λ k old new. new ≡ cond (bit mask k) place old) 16 places.old places.new }
 {
-    let mut n = 0;
-    while n < 16 {
+    for n in 0..16 {
         let own = places[n];
         places[n] = place_after(mask, own, place, n as u64);
-        n += 1;
     }
 }
 
@@ -82,12 +78,10 @@ pub(crate) fn channels_from(up: u64, here: &[u16]) -> Channels
 {
     let mut waiting = 0;
     let mut places = [0u64; 16];
-    let mut p = 0;
-    while p < here.len() {
+    for p in 0..here.len() {
         let mask = wide(here[p]);
         waiting = either(waiting, mask);
         place_those(mask, p as u64, &mut places);
-        p += 1;
     }
     Channels {
         awake: up,

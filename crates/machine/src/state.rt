@@ -27,11 +27,9 @@ fn read_places(bytes: &[u8]) -> [u64; 16]
     ensures { (result ≡ values (waiting_place bytes.now) 16) × ((k : ℕ) → k < 16 → waiting_place bytes.now k < 65536) }
 {
     let mut places = [0u64; 16];
-    let mut n = 0;
-    while n < 16 {
+    for n in 0..16 {
         let from = 10 + 2 * n;
         places[n] = read2(bytes, from);
-        n += 1;
     }
     places
 }
@@ -93,12 +91,10 @@ pub fn three(bytes: &[u8]) -> bool
     requires { length bytes.now ≡ state_length }
     ensures { result ≡ all_three bytes.now 16 }
 {
-    let mut n = 0;
-    while n < 16 {
+    for n in 0..16 {
         if !one_of_three(bytes, n) {
             return false;
         }
-        n += 1;
     }
     true
 }
@@ -110,12 +106,10 @@ fn write_places(bytes: &mut [u8], places: &[u64; 16])
     requires { length bytes.old ≡ state_length }
     ensures { bytes.new ≡ places_put bytes.old places.now 16 }
 {
-    let mut n = 0;
-    while n < 16 {
+    for n in 0..16 {
         let from = 10 + 2 * n;
         let place = places[n];
         write2(bytes, from, place);
-        n += 1;
     }
 }
 

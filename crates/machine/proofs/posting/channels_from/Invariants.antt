@@ -10,6 +10,3 @@ use Rattle.machine.proofs.posting.channels_from.Given as goal
 
 abbrev pub invariant-loop-p : goal.invariant-loop-p
 invariant-loop-p l = (l.p ≤ length l.here) × (l.waiting < 65536) × (length l.places ≡ 16) × ((cs : List Channel) → Posted l.up l.here cs → Found cs l.p l.waiting l.places)
-
-abbrev pub decreases-loop-p : goal.decreases-loop-p
-decreases-loop-p l = length l.here - l.p

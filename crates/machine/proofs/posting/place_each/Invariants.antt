@@ -8,6 +8,3 @@ use Rattle.machine.proofs.posting.place_each.Given as goal
 
 abbrev pub invariant-loop-n : goal.invariant-loop-n
 invariant-loop-n l = (l.n ≤ 16) × Mapped (λ k old new. new ≡ cond (bit l.mask k) l.place old) l.n l.initial.places l.places
-
-abbrev pub decreases-loop-n : goal.decreases-loop-n
-decreases-loop-n l = 16 - l.n

@@ -7,6 +7,3 @@ use Rattle.machine.proofs.state.write_places.Given as goal
 
 abbrev pub invariant-loop-n : goal.invariant-loop-n
 invariant-loop-n l = (l.n ≤ 16) × (length l.bytes ≡ length l.initial.bytes) × (l.bytes ≡ places_put l.initial.bytes l.places l.n)
-
-abbrev pub decreases-loop-n : goal.decreases-loop-n
-decreases-loop-n l = 16 - l.n
