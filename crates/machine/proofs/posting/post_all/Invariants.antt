@@ -1,6 +1,6 @@
 -- The loop's invariant: the channels passed are posted. Its measure: the channels left. Assumes nothing.
 use mathlib.Core.Path.{◌≡◌}
-use Prim.Native.Nat.{ℕ, ◌-◌, ◌≤◌, ◌<◌}
+use Prim.Native.Nat.{ℕ, ◌≤◌, ◌<◌}
 use lib.ListN.{length, get_or}
 use Rattle.machine.specs.Posting.{PostedTo}
 use Rattle.machine.proofs.posting.post_all.Given as goal

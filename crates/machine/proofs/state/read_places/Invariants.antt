@@ -1,6 +1,6 @@
 -- The loop's invariant: the places of the channels passed are read, and each has 16 bits. Its measure: the channels left. Assumes nothing.
 use mathlib.Core.Path.{◌≡◌}
-use Prim.Native.Nat.{ℕ, ◌-◌, ◌≤◌, ◌<◌}
+use Prim.Native.Nat.{ℕ, ◌≤◌, ◌<◌}
 use lib.ListN.{length}
 use Rattle.paper.specs.State.{waiting_place}
 use Rattle.lanes.specs.Values.{values}

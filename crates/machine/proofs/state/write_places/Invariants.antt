@@ -1,6 +1,6 @@
 -- The loop's invariant: the places passed are stored. Its measure: the places left. Assumes nothing.
 use mathlib.Core.Path.{◌≡◌}
-use Prim.Native.Nat.{◌-◌, ◌≤◌}
+use Prim.Native.Nat.{◌≤◌}
 use lib.ListN.{length}
 use Rattle.machine.specs.States.{places_put}
 use Rattle.machine.proofs.state.write_places.Given as goal
