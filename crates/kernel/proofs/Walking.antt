@@ -13,9 +13,12 @@ use Rattle.paper.specs.Limits.{instruction_limit}
 use Rattle.paper.specs.Kernel.{Instr, Judged, refused, passed, Parsed, bad, good, prepend, walk}
 use Rattle.paper.specs.Jump.{next_of, fetch, found, end_from, lands}
 use Rattle.paper.specs.Calls.{verdict}
-use Rattle.kernel.specs.declared.walk.Said.{Said}
-use Rattle.kernel.specs.declared.walk.Said.TheVariants.{Good, Bad}
-use Rattle.kernel.specs.Marks.{said_is, place_count, marked, Says, says_bad, mark_more}
+use Rattle.std.specs.Prelude.{Ok, Err}
+use Rattle.words.specs.declared.refusal.Refusal.{Refusal}
+use Rattle.words.specs.declared.refusal.Refusal.TheVariants.{TooMany}
+use Rattle.words.specs.Refusals.{number}
+use Rattle.words.specs.Answer.{refused_at}
+use Rattle.kernel.specs.Marks.{Said, said_is, place_count, marked, Says, says_bad, mark_more}
 
 -- What the answer r and the marks m' say of what is left, judged as q, from byte `from` on, with c instructions counted and the marks m made before it.
 unfoldable pub Goes : ℕ → ℕ → List ℕ → Parsed → Said → List ℕ → Type 0
@@ -69,7 +72,7 @@ eqb_swap a b = go (eqb b a) refl
     go false e = ne_eqb a b (λ h. eqb-false b a e (sym h))
 
 -- At the end only the end itself is marked.
-goes_end : (from c : ℕ) (m : List ℕ) → from / 8 < place_count → length m ≡ place_count → Goes from c m (good []) (Good c) (set m (from / 8) 1)
+goes_end : (from c : ℕ) (m : List ℕ) → from / 8 < place_count → length m ≡ place_count → Goes from c m (good []) (Ok c) (set m (from / 8) 1)
 unfolding fetch end_from Goes
 goes_end from c m l z =
     let n : c ≡ c + 0 = omega arith in
@@ -111,25 +114,25 @@ module _ (judge : ℕ → Judged) (end from c : ℕ) (m : List ℕ) (q : Parsed)
   leads_as : (x : Parsed) (r : Said) (m' : List ℕ) → walk judge end (instruction_limit - c) from ≡ x → Goes from c m x r m' → Says q r m'
   leads_as x r m' e g = leads r m' (subst (λ (x : Parsed). Goes from c m x r m') (sym e) g)
 
-  pub leads_end : end ≤ from → from / 8 < place_count → length m ≡ place_count → Says q (Good c) (set m (from / 8) 1)
-  leads_end h l z = leads_as (good []) (Good c) (set m (from / 8) 1) (walk_end judge end from (instruction_limit - c) h) (goes_end from c m l z)
+  pub leads_end : end ≤ from → from / 8 < place_count → length m ≡ place_count → Says q (Ok c) (set m (from / 8) 1)
+  leads_end h l z = leads_as (good []) (Ok c) (set m (from / 8) 1) (walk_end judge end from (instruction_limit - c) h) (goes_end from c m l z)
 
   module _ (inside : from < end) where
-    pub leads_full : c ≡ instruction_limit → Says q (Bad 17 from) m
+    pub leads_full : c ≡ instruction_limit → Says q (Err (refused_at TooMany from)) m
     unfolding Goes
     leads_full e =
         let n : instruction_limit - c ≡ 0 = omega arith in
-        leads_as (bad 17 from) (Bad 17 from) m (ap (λ (n : ℕ). walk judge end n from) n ∙ walk_full judge end from inside) (says_bad 17 from m)
+        leads_as (bad 17 from) (Err (refused_at TooMany from)) m (ap (λ (n : ℕ). walk judge end n from) n ∙ walk_full judge end from inside) (says_bad TooMany from m)
 
     module _ (few : c < instruction_limit) where
       left : instruction_limit - c ≡ suc (instruction_limit - (c + 1))
       left = omega arith
 
-      pub leads_refused : (x : ℕ) → judge from ≡ refused x → Says q (Bad x from) m
+      pub leads_refused : (x : Refusal) → judge from ≡ refused (number x) → Says q (Err (refused_at x from)) m
       unfolding Goes
       leads_refused x j =
-          leads_as (bad x from) (Bad x from) m
-          (ap (λ (n : ℕ). walk judge end n from) left ∙ walk_refused judge end from inside (instruction_limit - (c + 1)) x j) (says_bad x from m)
+          leads_as (bad (number x) from) (Err (refused_at x from)) m
+          (ap (λ (n : ℕ). walk judge end n from) left ∙ walk_refused judge end from inside (instruction_limit - (c + 1)) (number x) j) (says_bad x from m)
 
       pub leads_passed : (size w : ℕ) → judge from ≡ passed size w → from / 8 < place_count → length m ≡ place_count
           → Leads judge end (from + 8 * size) (c + 1) (set m (from / 8) 1) q

@@ -1,5 +1,5 @@
 -- An accepted kernel: how the code comes to accept or refuse, and what is then known. Assumes nothing.
-use Rattle.std.specs.Prelude.{Bool, true, false, cond, List, ◌≡◌, ℕ, ◌*◌, ◌<◌, ◌≤◌, eqb, leb, length}
+use Rattle.std.specs.Prelude.{Ok, Err, Bool, true, false, cond, List, ◌≡◌, ℕ, ◌*◌, ◌<◌, ◌≤◌, eqb, leb, length}
 use Rattle.std.proofs.Math.Option.{Option, none, some}
 use Rattle.std.proofs.Math.Path.{refl, ap}
 use Rattle.std.proofs.Common.{sym, ap₂, ◌∙◌, subst, arith, eqb-true, leb-true}
@@ -13,12 +13,14 @@ use Rattle.laws.specs.Names.{Sound}
 use Rattle.laws.specs.Judged.{Passed, as_long, as_short, judge_passed}
 use Rattle.laws.specs.Walk.{walked}
 use Rattle.laws.specs.Parse.{jumps_good}
-use Rattle.kernel.specs.declared.walk.Said.{Said}
-use Rattle.kernel.specs.declared.walk.Said.TheVariants.{Good, Bad}
+use Rattle.words.specs.declared.refusal.Refusal.TheVariants.{WrongSize, WideDictionary, StrayJump}
+use Rattle.words.specs.declared.answer.Refused.{Refused}
+use Rattle.words.specs.Refusals.{number}
+use Rattle.words.specs.Answer.{refused_at}
 use Rattle.kernel.specs.declared.jumps.Astray.{Astray}
 use Rattle.kernel.specs.declared.jumps.Astray.TheVariants.{Nowhere, Branch}
 use Rattle.kernel.specs.Standing.{size_at, word_at, Whole, Fetches, fits, Stands, Standing, walk-stands, stands-fetch}
-use Rattle.kernel.specs.Marks.{marked, Says, says_bad, says_refused, Accepts, says_accepted}
+use Rattle.kernel.specs.Marks.{Said, marked, Says, says_bad, says_refused, Accepts, says_accepted}
 use Rattle.kernel.specs.Jumps.{instr_of, FirstOut, astray_is, out_astray}
 use Rattle.laws.specs.Truth.{both_true}
 
@@ -41,7 +43,7 @@ unfolding parse
 parse-stands forms dictionary kernel k e = walk-stands forms (dictionary_of dictionary) kernel instruction_limit 0 (omega arith) k e
 
 pub parse_standing : (forms : Forms) (dictionary kernel marks : List ℕ) (r : Said) → Says (parse forms (dictionary_of dictionary) kernel) r marks
-    → (count : ℕ) → r ≡ Good count → Standing (dictionary_of dictionary) kernel
+    → (count : ℕ) → r ≡ Ok count → Standing (dictionary_of dictionary) kernel
 parse_standing forms dictionary kernel marks r s count e =
     let a = says_accepted (parse forms (dictionary_of dictionary) kernel) r marks s count e in
     record { forms = forms; instrs = a.instrs; stands = parse-stands forms dictionary kernel a.instrs a.judged }
@@ -53,14 +55,14 @@ module _ (forms : Forms) (dictionary kernel marks : List ℕ) where
   says_as : (p : Parsed) (r : Said) → accepted forms dictionary kernel ≡ p → Says p r marks → Says (accepted forms dictionary kernel) r marks
   says_as p r e s = rw e s
 
-  pub accept_size : sized dictionary kernel ≡ false → Says (accepted forms dictionary kernel) (Bad 1 0) marks
+  pub accept_size : sized dictionary kernel ≡ false → Says (accepted forms dictionary kernel) (Err (refused_at WrongSize 0)) marks
   unfolding accepted
-  accept_size h = rw h (says_bad 1 0 marks)
+  accept_size h = rw h (says_bad WrongSize 0 marks)
 
   module _ (right : sized dictionary kernel ≡ true) where
-    pub accept_range : in_range (dictionary_of dictionary) ≡ false → Says (accepted forms dictionary kernel) (Bad 2 0) marks
+    pub accept_range : in_range (dictionary_of dictionary) ≡ false → Says (accepted forms dictionary kernel) (Err (refused_at WideDictionary 0)) marks
     unfolding accepted judged_kernel
-    accept_range h = rw (right, h) (says_bad 2 0 marks)
+    accept_range h = rw (right, h) (says_bad WideDictionary 0 marks)
 
     module _ (range : in_range (dictionary_of dictionary) ≡ true) where
       accepted-parse : accepted forms dictionary kernel ≡ with_jumps (parse forms (dictionary_of dictionary) kernel)
@@ -69,13 +71,13 @@ module _ (forms : Forms) (dictionary kernel marks : List ℕ) where
 
       module _ (walked : Said) (says : Says (parse forms (dictionary_of dictionary) kernel) walked marks) where
         -- The walk refuses.
-        pub accept_refused : (number offset : ℕ) → walked ≡ Bad number offset → Says (accepted forms dictionary kernel) walked marks
+        pub accept_refused : (f : Refused) → walked ≡ Err f → Says (accepted forms dictionary kernel) walked marks
         unfolding with_jumps
-        accept_refused number offset e =
-            let q = says_refused (parse forms (dictionary_of dictionary) kernel) walked marks says number offset e in
-            says_as (bad number offset) walked (accepted-parse ∙ ap with_jumps q) (rw q at says)
+        accept_refused f e =
+            let q = (says_refused (parse forms (dictionary_of dictionary) kernel) walked marks says f e).0 in
+            says_as (bad (number f.refusal) f.offset) walked (accepted-parse ∙ ap with_jumps q) (rw q at says)
 
-        module _ (count : ℕ) (told : walked ≡ Good count) (o : Astray) (out : FirstOut (dictionary_of dictionary) kernel (marked marks) o) where
+        module _ (count : ℕ) (told : walked ≡ Ok count) (o : Astray) (out : FirstOut (dictionary_of dictionary) kernel (marked marks) o) where
           abbrev walks : Accepts (parse forms (dictionary_of dictionary) kernel) marks
           walks = says_accepted (parse forms (dictionary_of dictionary) kernel) walked marks says count told
 
@@ -88,15 +90,15 @@ module _ (forms : Forms) (dictionary kernel marks : List ℕ) where
               ∙ ap (astray k) (sym (out forms k (parse-stands forms dictionary kernel k walks.judged) ∙ out_astray (marked marks) k walks.land k))
 
           -- No jump goes astray.
-          pub accept_good : o ≡ Nowhere → Says (accepted forms dictionary kernel) (Good count) marks
+          pub accept_good : o ≡ Nowhere → Says (accepted forms dictionary kernel) (Ok count) marks
           accept_good e =
-              says_as (good walks.instrs) (Good count) (jumped ∙ ap (λ (o : Astray). astray walks.instrs (astray_is o)) e)
+              says_as (good walks.instrs) (Ok count) (jumped ∙ ap (λ (o : Astray). astray walks.instrs (astray_is o)) e)
               (subst (λ (r : Said). Says (good walks.instrs) r marks) told (rw walks.judged at says))
 
           -- One does.
-          pub accept_astray : (offset : ℕ) → o ≡ Branch offset → Says (accepted forms dictionary kernel) (Bad 12 offset) marks
+          pub accept_astray : (offset : ℕ) → o ≡ Branch offset → Says (accepted forms dictionary kernel) (Err (refused_at StrayJump offset)) marks
           accept_astray offset e =
-              says_as (bad 12 offset) (Bad 12 offset) (jumped ∙ ap (λ (o : Astray). astray walks.instrs (astray_is o)) e) (says_bad 12 offset marks)
+              says_as (bad 12 offset) (Err (refused_at StrayJump offset)) (jumped ∙ ap (λ (o : Astray). astray walks.instrs (astray_is o)) e) (says_bad StrayJump offset marks)
 
 -- ---- what is known of an accepted kernel
 

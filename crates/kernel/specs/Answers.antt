@@ -1,5 +1,5 @@
 -- What the code's answers are in the paper's terms. Assumes nothing.
-use Rattle.std.specs.Prelude.{Bool, not, List, [], ℕ, ◌+◌, ◌-◌, ◌*◌, ◌^◌, ◌<◌, ◌≤◌, ltb, take, drop}
+use Rattle.std.specs.Prelude.{Option, None, Result, Ok, Err, Bool, not, List, [], ℕ, ◌+◌, ◌-◌, ◌*◌, ◌^◌, ◌<◌, ◌≤◌, ltb, take, drop}
 use Rattle.std.proofs.Math.Bool.{true, false, cond}
 use Rattle.std.proofs.Math.Path.{◌≡◌, refl, ap}
 use Rattle.std.proofs.Common.{sym, ap₂, ◌∙◌, arith}
@@ -13,17 +13,18 @@ use Rattle.paper.specs.Kernel.{long_and_short, Judged, refused, passed, judge_at
 use Rattle.paper.specs.Calls.{sized, accepted, check_call, undecoded, decoded, judged_as, decode_at, decoded_as, decode_call, decode_part}
 use Rattle.paper.specs.Calls as paper
 use Rattle.words.specs.Words.{to_word}
-use Rattle.kernel.specs.declared.walk.Said.{Said}
 use Rattle.words.specs.declared.bytes.Word.{Word}
-use Rattle.kernel.specs.declared.decode.Decoded.{Decoded}
-use Rattle.kernel.specs.declared.decode.Decoded.TheVariants.{Refused, Passed}
+use Rattle.words.specs.declared.answer.Refused.{Refused}
+use Rattle.words.specs.Refusals.{number, one_refusal}
+use Rattle.kernel.specs.declared.fetch.Fetched.{Fetched}
 use Rattle.kernel.specs.Standing.{fits}
-use Rattle.kernel.specs.Marks.{said_is, Says, says_answer}
+use Rattle.kernel.specs.Marks.{Said, said_is, Says, says_answer}
 use Rattle.kernel.specs.Accepting.{right_sizes}
 
-abbrev pub decoded_is : Decoded → paper.Decoded
-decoded_is (Refused number offset) = undecoded number offset
-decoded_is (Passed size w) = decoded size (to_word w)
+-- An instruction as it is decoded, or its refusal.
+abbrev pub decoded_is : Result Fetched Refused → paper.Decoded
+decoded_is (Err r) = undecoded (number r.refusal) r.offset
+decoded_is (Ok f) = decoded f.size (to_word f.word)
 
 -- ---- one outcome
 
@@ -39,23 +40,28 @@ word_back v w a b e =
     let high : v.hi ≡ w.hi = omega (arith, a.low, b.low) in
     λ i. record { lo = low i; hi = high i }
 
--- The word, if there is one, has such halves.
-abbrev pub HalvedIn : Decoded → Type 0
-HalvedIn (Refused number offset) = Unit {0}
-HalvedIn (Passed size w) = Halved w
+-- The word, if there is one, has such halves, and a refusal has no count.
+abbrev pub HalvedIn : Result Fetched Refused → Type 0
+HalvedIn (Err r) = r.count ≡ None
+HalvedIn (Ok f) = Halved f.word
 
 -- What decoding gives is one to one with what it means.
-decoded_back : (r s : Decoded) → HalvedIn r → HalvedIn s → decoded_is r ≡ decoded_is s → r ≡ s
-decoded_back (Refused n o) (Refused m p) a b e = cc
-decoded_back (Refused n o) (Passed m w) a b e = cc
-decoded_back (Passed n v) (Refused m p) a b e = cc
-decoded_back (Passed n v) (Passed m w) a b e =
-    let size : n ≡ m = cc in
-    let sum : to_word v ≡ to_word w = cc in
-    ap₂ Passed size (word_back v w a b sum)
+decoded_back : (r s : Result Fetched Refused) → HalvedIn r → HalvedIn s → decoded_is r ≡ decoded_is s → r ≡ s
+decoded_back (Err r) (Err s) a b e =
+    let n : r.refusal ≡ s.refusal = one_refusal r.refusal s.refusal cc in
+    let o : r.offset ≡ s.offset = cc in
+    let c : r.count ≡ s.count = a ∙ sym b in
+    λ i. Err (record { refusal = n i; offset = o i; count = c i })
+decoded_back (Err r) (Ok g) a b e = cc
+decoded_back (Ok f) (Err s) a b e = cc
+decoded_back (Ok f) (Ok g) a b e =
+    let size : f.size ≡ g.size = cc in
+    let sum : to_word f.word ≡ to_word g.word = cc in
+    let word : f.word ≡ g.word = word_back f.word g.word a b sum in
+    λ i. Ok (record { size = size i; word = word i })
 
 -- So what `decode` ensures admits one answer.
-pub one_decoded : (d : paper.Decoded) (r s : Decoded) → HalvedIn r → HalvedIn s → decoded_is r ≡ d → decoded_is s ≡ d → r ≡ s
+pub one_decoded : (d : paper.Decoded) (r s : Result Fetched Refused) → HalvedIn r → HalvedIn s → decoded_is r ≡ d → decoded_is s ≡ d → r ≡ s
 one_decoded d r s a b p q = decoded_back r s a b (p ∙ sym q)
 
 -- ---- the check

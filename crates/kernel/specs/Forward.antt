@@ -1,5 +1,5 @@
 -- Jumps that go forward, as the code finds it. Assumes nothing.
-use Rattle.std.specs.Prelude.{Bool, true, ◌&&◌, List, [], ◌∷◌, ◌≡◌, refl, ℕ, ◌+◌, ltb, ℤ, pos, negsuc}
+use Rattle.std.specs.Prelude.{Ok, Err, Bool, true, ◌&&◌, List, [], ◌∷◌, ◌≡◌, refl, ℕ, ◌+◌, ltb, ℤ, pos, negsuc}
 use Rattle.std.proofs.Math.Path.{sym, ap}
 use Rattle.std.proofs.Common.{◌∙◌}
 use Rattle.paper.specs.Dictionary.{Dictionary, dictionary_of}
@@ -9,10 +9,10 @@ use Rattle.paper.specs.Operation.{operation}
 use Rattle.paper.specs.Jump.{Distance, distances, reach, targets_of}
 use Rattle.paper.specs.Forward.{lie_after, forward}
 use Rattle.paper.specs.Calls.{verdict, refusal, accepted, forward_as, forward_call}
-use Rattle.kernel.specs.declared.walk.Said.{Said}
-use Rattle.kernel.specs.declared.walk.Said.TheVariants.{Good, Bad}
+use Rattle.words.specs.declared.answer.Refused.{Refused}
+use Rattle.words.specs.Answer.{answer_is}
 use Rattle.kernel.specs.Standing.{Stands, Standing}
-use Rattle.kernel.specs.Marks.{Says, says_refused, Accepts, says_accepted}
+use Rattle.kernel.specs.Marks.{Said, Says, says_refused, Accepts, says_accepted}
 use Rattle.kernel.specs.Jumps.{lands_at, land_by, instr_of, none-lands, one_lands, two_land}
 use Rattle.kernel.specs.Accepting.{AcceptedKernel, accepted_kernel}
 
@@ -42,11 +42,13 @@ Tells D kernel r = (forms : Forms) (k : List Instr) → Stands forms D kernel 0 
 
 module _ (dictionary kernel marks : List ℕ) (judged : Said) (says : Says (accepted long_and_short dictionary kernel) judged marks) where
   -- What check refuses is refused so.
-  pub forward_refused : (number offset : ℕ) → judged ≡ Bad number offset → refusal number offset ≡ forward_call dictionary kernel
+  pub forward_refused : (f : Refused) → judged ≡ Err f → answer_is (Err f) ≡ forward_call dictionary kernel
   unfolding forward_call
-  forward_refused number offset e = sym (ap forward_as (says_refused (accepted long_and_short dictionary kernel) judged marks says number offset e))
+  forward_refused f e =
+      let p = says_refused (accepted long_and_short dictionary kernel) judged marks says f e in
+      rw (p.0, p.1)
 
-  module _ (count : ℕ) (accepting : judged ≡ Good count) where
+  module _ (count : ℕ) (accepting : judged ≡ Ok count) where
     abbrev accepts : Accepts (accepted long_and_short dictionary kernel) marks
     accepts = says_accepted (accepted long_and_short dictionary kernel) judged marks says count accepting
 

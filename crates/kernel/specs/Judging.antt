@@ -1,5 +1,5 @@
 -- What the code's judgement of one instruction is in the paper's terms, and the judgement's cases. Assumes nothing.
-use Rattle.std.specs.Prelude.{Bool, true, false, List, ◌≡◌, ℕ, ◌-◌, ◌<◌, ◌≤◌, length}
+use Rattle.std.specs.Prelude.{Result, Ok, Err, Bool, true, false, List, ◌≡◌, ℕ, ◌-◌, ◌<◌, ◌≤◌, length}
 use borrow.Author.Tests.{lt-ltb, le-ltb}
 use Rattle.paper.specs.Bits.{number_at}
 use Rattle.paper.specs.Dictionary.{Dictionary}
@@ -8,12 +8,14 @@ use Rattle.paper.specs.Operation.{operation, is_listed, is_branch}
 use Rattle.paper.specs.Kernel.{Forms, long_and_short, long_only, takes_short, refused, passed, judge_word, judge_short, judge_long, judge_at}
 use Rattle.paper.specs.Kernel as paper
 use Rattle.words.specs.Words.{to_word}
-use Rattle.kernel.specs.declared.instruction.Judged.{Judged}
-use Rattle.kernel.specs.declared.instruction.Judged.TheVariants.{Refused, Passed}
+use Rattle.words.specs.declared.refusal.Refusal.{Refusal}
+use Rattle.words.specs.Refusals.{number}
+use Rattle.kernel.specs.declared.fetch.Fetched.{Fetched}
 
-abbrev pub judged_is : Judged → paper.Judged
-judged_is (Refused number) = refused number
-judged_is (Passed size w) = passed size (to_word w)
+-- An instruction as it is fetched, or why it is refused.
+abbrev pub judged_is : Result Fetched Refusal → paper.Judged
+judged_is (Err r) = refused (number r)
+judged_is (Ok f) = passed f.size (to_word f.word)
 
 -- Which words are taken: long ones only, or both.
 abbrev pub forms_is : Bool → Forms

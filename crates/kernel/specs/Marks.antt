@@ -1,5 +1,5 @@
 -- The marks that a walk leaves: one for each place at which an instruction starts, and one for the end. Assumes nothing.
-use Rattle.std.specs.Prelude.{Bool, true, false, cond, ◌||◌, List, [], ◌≡◌, refl, ℕ, zero, suc, ◌+◌, ◌<◌, ◌≤◌, eqb, ltb, length, get_or, set, replicate}
+use Rattle.std.specs.Prelude.{None, Result, Ok, Err, Bool, true, false, cond, ◌||◌, List, [], ◌≡◌, refl, ℕ, zero, suc, ◌+◌, ◌<◌, ◌≤◌, eqb, ltb, length, get_or, set, replicate}
 use Rattle.std.proofs.Math.Bool.{or-true, or-false}
 use Rattle.std.proofs.Common.{sym, ap, ◌∙◌, arith, get_or-set_same, get_or-set_other, lt-ltb, le-ltb, eqb-true}
 use Rattle.std.proofs.lemmas.Bool.{eqb-false}
@@ -7,13 +7,19 @@ use Rattle.paper.specs.Limits.{last_place}
 use Rattle.paper.specs.Kernel.{Instr, Parsed, bad, good}
 use Rattle.paper.specs.Jump.{lands}
 use Rattle.paper.specs.Calls.{Answer, verdict, refusal, checked_as}
-use Rattle.kernel.specs.declared.walk.Said.{Said}
-use Rattle.kernel.specs.declared.walk.Said.TheVariants.{Good, Bad}
+use Rattle.words.specs.declared.refusal.Refusal.{Refusal}
+use Rattle.words.specs.declared.answer.Refused.{Refused}
+use Rattle.words.specs.Refusals.{number}
+use Rattle.words.specs.Answer.{refused_as, refused_at, refused_plain, told_refused}
 
--- What is said of a kernel, as check answers it.
+-- What is said of a kernel: how many instructions it has, or its refusal.
+abbrev pub Said : Type 0
+Said = Result ℕ Refused
+
+-- The same as check answers it.
 abbrev pub said_is : Said → Answer
-said_is (Good count) = verdict 0 count
-said_is (Bad number offset) = refusal number offset
+said_is (Ok count) = verdict 0 count
+said_is (Err r) = refused_as (number r.refusal) r.offset r.count
 
 -- How many places there are, from 0 to the largest.
 abbrev pub place_count : ℕ
@@ -38,15 +44,18 @@ unfolding Says
 says_answer q r marks s = s.0
 
 -- A refusal is said so, whatever the marks.
-pub says_bad : (number offset : ℕ) (marks : List ℕ) → Says (bad number offset) (Bad number offset) marks
+pub says_bad : (r : Refusal) (offset : ℕ) (marks : List ℕ) → Says (bad (number r) offset) (Err (refused_at r offset)) marks
 unfolding Says
-says_bad number offset marks = (refl, tt)
+says_bad r offset marks = (refl, tt)
 
 -- What an answer that refuses says.
-pub says_refused : (q : Parsed) (r : Said) (marks : List ℕ) → Says q r marks → (number offset : ℕ) → r ≡ Bad number offset → q ≡ bad number offset
+pub says_refused : (q : Parsed) (r : Said) (marks : List ℕ) → Says q r marks → (f : Refused) → r ≡ Err f
+    → (q ≡ bad (number f.refusal) f.offset) × (f.count ≡ None)
 unfolding Says
-says_refused (bad n o) r marks s number offset e = let same = ap said_is (sym e) ∙ s.0 in cc
-says_refused (good k) r marks s number offset e = let same = ap said_is (sym e) ∙ s.0 in cc
+says_refused (bad n o) r marks s f e =
+    let p = refused_plain _ _ n o f.count (ap said_is (sym e) ∙ s.0) in
+    (λ i. bad (p.0 (~ i)) (p.1 (~ i)), p.2)
+says_refused (good k) r marks s f e = absurd (told_refused _ _ _ _ f.count (sym (ap said_is (sym e) ∙ s.0)))
 
 -- What one that accepts says: there are these instructions, and they start where the marks are.
 pub record Accepts (q : Parsed) (marks : List ℕ) : Type 0 where
@@ -54,7 +63,7 @@ pub record Accepts (q : Parsed) (marks : List ℕ) : Type 0 where
   pub judged : q ≡ good instrs
   pub land : (p : ℕ) → marked marks p ≡ lands instrs p
 
-pub says_accepted : (q : Parsed) (r : Said) (marks : List ℕ) → Says q r marks → (count : ℕ) → r ≡ Good count → Accepts q marks
+pub says_accepted : (q : Parsed) (r : Said) (marks : List ℕ) → Says q r marks → (count : ℕ) → r ≡ Ok count → Accepts q marks
 unfolding Says
 says_accepted (bad n o) r marks s count e =
     let same = ap said_is (sym e) ∙ s.0 in
@@ -68,7 +77,7 @@ instrs_of (bad number offset) = []
 instrs_of (good k) = k
 
 -- The same of those instructions.
-pub says_instrs : (q : Parsed) (r : Said) (marks : List ℕ) → Says q r marks → (count : ℕ) → r ≡ Good count
+pub says_instrs : (q : Parsed) (r : Said) (marks : List ℕ) → Says q r marks → (count : ℕ) → r ≡ Ok count
     → (q ≡ good (instrs_of q)) × ((p : ℕ) → marked marks p ≡ lands (instrs_of q) p)
 says_instrs q r marks s count e =
     let a = says_accepted q r marks s count e in

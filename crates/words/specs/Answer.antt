@@ -25,6 +25,10 @@ abbrev pub refused_as : ℕ → ℕ → Option ℕ → paper.Answer
 refused_as n offset None = refusal n offset
 refused_as n offset (Some count) = refusal_with n offset count
 
+-- The refusal of what stands at that byte offset, with no count.
+abbrev pub refused_at : Refusal → ℕ → Refused
+refused_at r offset = record { refusal = r; offset = offset; count = None }
+
 abbrev pub answer_is : Answer → paper.Answer
 answer_is (Ok t) = verdict (verdict_number t.verdict) t.count
 answer_is (Err r) = refused_as (number r.refusal) r.offset r.count
@@ -60,8 +64,13 @@ refused_back n o m p None (Some d) e = cc
 refused_back n o m p (Some c) None e = cc
 refused_back n o m p (Some c) (Some d) e = (cc, cc, cc)
 
+-- What means a refusal without a count has none.
+pub refused_plain : (n o m p : ℕ) (c : Option ℕ) → refused_as n o c ≡ refusal m p → (n ≡ m) × (o ≡ p) × (c ≡ None)
+refused_plain n o m p None e = (cc, cc, refl)
+refused_plain n o m p (Some c) e = cc
+
 -- What refuses nothing is no refusal.
-told_refused : (n c m o : ℕ) (d : Option ℕ) → verdict n c ≡ refused_as m o d → ⊥
+pub told_refused : (n c m o : ℕ) (d : Option ℕ) → verdict n c ≡ refused_as m o d → ⊥
 told_refused n c m o None e = cc
 told_refused n c m o (Some d) e = cc
 
