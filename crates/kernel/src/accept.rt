@@ -1,45 +1,54 @@
 // A kernel is accepted or refused: 1, 2, 17 and 3 to 11, then 12.
-ghost use Rattle.std.specs.Prelude.{true, ◌≡◌};
+ghost use Rattle.std.specs.Prelude.{true, false, ◌≡◌, ◌≤◌, length};
+ghost use Rattle.std.specs.Option.{MatchOption};
+ghost use Rattle.paper.specs.Limits.{kernel_bytes};
 ghost use Rattle.paper.specs.Calls.{sized, accepted};
 ghost use Rattle.kernel.specs.Judging.{forms_is};
 ghost use Rattle.kernel.specs.Marks.{Says};
 ghost use Rattle.kernel.specs.Accepting.{RightSizes};
 
 use crate::jumps::{Astray, first_astray};
-use crate::walk::{Said, walk};
+use crate::walk::walk;
 use short::dictionary::in_range;
 use table::regions::region_table;
+use words::answer::Refused;
 use words::limits::{DICTIONARY_BYTES, KERNEL_BYTES, PLACES};
+use words::refusal::Refusal;
 
 // 1: the dictionary has its bytes, the kernel not too many.
 pub fn is_sized(dictionary: &[u8], kernel: &[u8]) -> bool
     ensures { (result ≡ sized dictionary.now kernel.now)
         × (result ≡ true → RightSizes dictionary.now kernel.now) }
 {
-    if dictionary.len() != DICTIONARY_BYTES {
-        return false;
+    dictionary.len() == DICTIONARY_BYTES && kernel.len() <= KERNEL_BYTES
+}
+
+// The dictionary by its length, if that is so.
+pub(crate) fn sized<'a>(dictionary: &'a [u8], kernel: &[u8]) -> Option<&'a [u8; DICTIONARY_BYTES]>
+    ensures { MatchOption result (sized dictionary.now kernel.now ≡ false) (λ d. (d.now ≡ dictionary.now) × (sized dictionary.now kernel.now ≡ true)
+        × (length kernel.now ≤ kernel_bytes)) }
+{
+    if kernel.len() > KERNEL_BYTES {
+        return None;
     }
-    kernel.len() <= KERNEL_BYTES
+    dictionary.as_array()
 }
 
 // What is said of a kernel as a whole: how many instructions it has, or its refusal. In the marks that are lent, whatever they hold, an accepted kernel's
 // places are then marked, its end among them, and no other; what a refused kernel leaves in them is working storage.
-pub fn accept(long: bool, dictionary: &[u8], kernel: &[u8], marks: &mut [u8; PLACES]) -> Said
+pub fn accept(long: bool, dictionary: &[u8], kernel: &[u8], marks: &mut [u8; PLACES]) -> Result<u64, Refused>
     ensures { Says (accepted (forms_is long) dictionary.now kernel.now) result marks.new }
 {
-    if !is_sized(dictionary, kernel) {
-        return Said::Bad(1, 0);
-    }
+    let Some(dictionary) = sized(dictionary, kernel) else {
+        return Err(Refusal::WrongSize.into());
+    };
     if !in_range(dictionary) {
-        return Said::Bad(2, 0);
+        return Err(Refusal::WideDictionary.into());
     }
     let regions = region_table();
-    let walked = walk(&regions, long, dictionary, kernel, marks);
-    let Said::Good(count) = walked else {
-        return walked;
-    };
+    let count = walk(&regions, long, dictionary, kernel, marks)?;
     match first_astray(dictionary, kernel, marks) {
-        Astray::Nowhere => Said::Good(count),
-        Astray::Branch(offset) => Said::Bad(12, offset),
+        Astray::Nowhere => Ok(count),
+        Astray::Branch(offset) => Err(Refusal::StrayJump.at(offset)),
     }
 }

@@ -4,8 +4,7 @@ ghost use Rattle.paper.specs.Calls.{check_call};
 ghost use Rattle.words.specs.Answer.{answer_is};
 
 use crate::accept::accept;
-use crate::walk::Said;
-use words::answer::Answer;
+use words::answer::{Answer, accepted};
 use words::limits::PLACES;
 
 // The verdict on a kernel of long and short words; the count is its instructions.
@@ -13,8 +12,5 @@ pub fn check(dictionary: &[u8], kernel: &[u8]) -> Answer
     ensures { answer_is result ≡ check_call dictionary.now kernel.now }
 {
     let mut marks = [0u8; PLACES];
-    match accept(false, dictionary, kernel, &mut marks) {
-        Said::Good(count) => Answer::Told(0, count),
-        Said::Bad(number, offset) => Answer::Refused(number, offset),
-    }
+    accepted(accept(false, dictionary, kernel, &mut marks)?)
 }

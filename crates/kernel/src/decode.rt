@@ -5,20 +5,14 @@ ghost use Rattle.paper.specs.Calls.{decode_at, decode_call, decode_part};
 ghost use Rattle.words.specs.Answer.{answer_is};
 ghost use Rattle.kernel.specs.Answers.{decoded_is};
 
-use crate::accept::is_sized;
-use crate::instruction::{Judged, judge_at};
+use crate::accept::sized;
+use crate::fetch::Fetched;
+use crate::instruction::judge_at;
 use short::dictionary::in_range;
 use table::regions::region_table;
-use words::answer::Answer;
-use words::bytes::Word;
+use words::answer::{Answer, Refused, accepted};
 use words::limits::PLACES;
-
-// A refusal's number and offset; or the instruction's size in places of 8 bytes, and its word.
-#[derive(Clone, Copy)]
-pub enum Decoded {
-    Refused(u8, u64),
-    Passed(u8, Word),
-}
+use words::refusal::Refusal;
 
 // The place lies before the kernel's end. No kernel has PLACES places, so that the offset is only reckoned where it is small.
 fn lies_inside(kernel: &[u8], place: u64) -> bool
@@ -32,23 +26,24 @@ fn lies_inside(kernel: &[u8], place: u64) -> bool
 }
 
 // The instruction that starts at a place, whether or not the kernel has one there. A place at or past the end is 3 with offset 0.
-pub fn decode(dictionary: &[u8], kernel: &[u8], place: u64) -> Decoded
-    ensures { decoded_is result ≡ decode_at dictionary.now kernel.now place }
+pub fn decode(dictionary: &[u8], kernel: &[u8], place: u64) -> Result<Fetched, Refused>
+    ensures value { decoded_is result ≡ decode_at dictionary.now kernel.now place }
+    ensures uncounted { IfErr result (λ r. r.count ≡ None) }
 {
-    if !is_sized(dictionary, kernel) {
-        return Decoded::Refused(1, 0);
-    }
+    let Some(dictionary) = sized(dictionary, kernel) else {
+        return Err(Refusal::WrongSize.into());
+    };
     if !in_range(dictionary) {
-        return Decoded::Refused(2, 0);
+        return Err(Refusal::WideDictionary.into());
     }
     if !lies_inside(kernel, place) {
-        return Decoded::Refused(3, 0);
+        return Err(Refusal::CutShort.into());
     }
     let from = 8 * (place as usize);
     let regions = region_table();
     match judge_at(&regions, false, dictionary, kernel, from) {
-        Judged::Refused(number) => Decoded::Refused(number, from as u64),
-        Judged::Passed(size, w) => Decoded::Passed(size, w),
+        Err(refusal) => Err(refusal.at(from as u64)),
+        Ok(f) => Ok(f),
     }
 }
 
@@ -56,10 +51,8 @@ pub fn decode(dictionary: &[u8], kernel: &[u8], place: u64) -> Decoded
 pub fn decode_size(dictionary: &[u8], kernel: &[u8], place: u64) -> Answer
     ensures { answer_is result ≡ decode_call dictionary.now kernel.now place }
 {
-    match decode(dictionary, kernel, place) {
-        Decoded::Refused(number, offset) => Answer::Refused(number, offset),
-        Decoded::Passed(size, _) => Answer::Told(0, 8 * (size as u64)),
-    }
+    let f = decode(dictionary, kernel, place)?;
+    accepted(8 * f.size)
 }
 
 // The bytes of that instruction, as a part of the kernel; none where it is refused.
@@ -67,11 +60,10 @@ pub fn part<'a>(dictionary: &[u8], kernel: &'a [u8], place: u64) -> &'a [u8]
     ensures { result.now ≡ decode_part dictionary.now kernel.now place }
 {
     match decode(dictionary, kernel, place) {
-        Decoded::Refused(_, _) => &kernel[..0],
-        Decoded::Passed(size, _) => {
+        Err(_) => &[],
+        Ok(f) => {
             let from = 8 * (place as usize);
-            let to = from + 8 * (size as usize);
-            &kernel[from..to]
+            &kernel[from..from + 8 * (f.size as usize)]
         }
     }
 }

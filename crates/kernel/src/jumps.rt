@@ -1,6 +1,6 @@
 // The second pass over a kernel: 12, once all its instructions are known.
 ghost use Rattle.std.specs.Prelude.{◌≡◌, ◌+◌, ◌≤◌, ◌<◌, length};
-ghost use Rattle.paper.specs.Limits.{dictionary_bytes, kernel_bytes};
+ghost use Rattle.paper.specs.Limits.{kernel_bytes};
 ghost use Rattle.paper.specs.Dictionary.{dictionary_of};
 ghost use Rattle.paper.specs.Jump.{reach, targets_of};
 ghost use Rattle.words.specs.Words.{to_word};
@@ -11,9 +11,9 @@ ghost use Rattle.kernel.specs.Jumps.{lands_at, lands_in, land_by, instr_of, Firs
 
 use crate::fetch::word_at;
 use distances::branch::{Distances, distances_in};
-use distances::distance::{Distance, reach};
+use distances::distance::{Distance, Target, reach};
 use words::bytes::Word;
-use words::limits::PLACES;
+use words::limits::{DICTIONARY_BYTES, PLACES};
 
 // The byte offset of a branch that goes astray, if there is one.
 #[derive(Clone, Copy)]
@@ -33,13 +33,13 @@ pub fn is_marked(marks: &[u8; PLACES], place: u64) -> bool
     marks[i] == 1
 }
 
-// The place to which a jump leads is marked. What lies below place 0 is not.
-fn target_lands(marks: &[u8; PLACES], target: Option<u64>) -> bool
-    ensures { result ≡ lands_in (marked marks.now) target }
+// The target is marked. What lies below place 0 is not.
+fn target_lands(marks: &[u8; PLACES], t: Target) -> bool
+    ensures { result ≡ lands_in (marked marks.now) t }
 {
-    match target {
-        Some(place) => is_marked(marks, place),
-        None => false,
+    match t {
+        Target::Place(place) => is_marked(marks, place),
+        Target::Below => false,
     }
 }
 
@@ -69,8 +69,8 @@ pub fn jump_lands(marks: &[u8; PLACES], w: Word, here: u64, size: u64) -> bool
 }
 
 // The first branch, in kernel order, with a distance that leads to no mark.
-pub(crate) fn first_astray(dictionary: &[u8], kernel: &[u8], marks: &[u8; PLACES]) -> Astray
-    requires { (length dictionary.now ≡ dictionary_bytes) × (length kernel.now ≤ kernel_bytes) × Standing (dictionary_of dictionary.now) kernel.now }
+pub(crate) fn first_astray(dictionary: &[u8; DICTIONARY_BYTES], kernel: &[u8], marks: &[u8; PLACES]) -> Astray
+    requires { (length kernel.now ≤ kernel_bytes) × Standing (dictionary_of dictionary.now) kernel.now }
     ensures { FirstOut (dictionary_of dictionary.now) kernel.now (marked marks.now) result }
 {
     let mut from: usize = 0;
