@@ -5,7 +5,6 @@ use Rattle.paper.specs.Calls.{check_call, forward_call, pack_call, unpack_call, 
 use Rattle.paper.specs.Log.{Entry, log_read_call, log_runs_call, log_append_call, log_run_call}
 use Rattle.paper.specs.Listing.{list_call, read_call}
 use Rattle.paper.specs.Placing.{Point, place_call, place_kernel_call, place_load_call}
-
 use Rattle.words.specs.Answer.{Answer, answer_is, Wrote, Left, one_answer, one_written, one_changed}
 
 -- `check`, `forward`, `pack`, `unpack`, `pair`, `shorten_word`, `expand_word`, `decode_size`, `start`, `step` and `run`; of logs `append`, `whole_bytes`,

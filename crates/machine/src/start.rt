@@ -9,9 +9,10 @@ ghost use Rattle.machine.specs.States.{state_is, SaneState};
 use crate::channels::Channels;
 use crate::state::{State, write_state};
 use lanes::flags::Flags;
-use words::answer::Answer;
+use words::answer::{Answer, accepted};
 use words::bytes::{Word, write16};
 use words::limits::{ADDRESSES_AT, STATE_LENGTH};
+use words::refusal::Refusal;
 
 // The state at a start.
 pub fn started(mask: u16, flag0: u16, flag1: u16) -> State
@@ -36,9 +37,9 @@ pub fn start(mask: u16, flag0: u16, flag1: u16, bytes: &mut [u8]) -> Answer
     ensures { Wrote (start_call mask flag0 flag1 bytes.old) result bytes.new }
 {
     if bytes.len() != STATE_LENGTH {
-        return Answer::Refused(1, 0);
+        return Err(Refusal::WrongSize.into());
     }
     write16(bytes, ADDRESSES_AT, Word { lo: 0, hi: 0 });
     write_state(bytes, started(mask, flag0, flag1));
-    Answer::Told(0, 0)
+    accepted(0)
 }

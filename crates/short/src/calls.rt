@@ -9,11 +9,12 @@ ghost use Rattle.words.specs.Answer.{Wrote};
 use crate::dictionary::in_range;
 use crate::expand::expand;
 use crate::shorten::shorten;
-use words::answer::Answer;
+use words::answer::{Answer, accepted};
 use words::bytes::{Word, read8, read16, write8, write16};
 use words::fields::{cmpt_ctrl, is_short, operation, operation_in};
 use words::limits::DICTIONARY_BYTES;
 use words::operation::{is_branch, is_listed};
+use words::refusal::Refusal;
 
 // Bytes as the output's first; 14 where it is shorter.
 pub fn deliver(out: &mut [u8], bytes: &[u8]) -> Answer
@@ -21,10 +22,10 @@ pub fn deliver(out: &mut [u8], bytes: &[u8]) -> Answer
 {
     let length = bytes.len();
     if out.len() < length {
-        return Answer::Refused(14, 0);
+        return Err(Refusal::OutputTooShort.into());
     }
     out[..length].copy_from_slice(bytes);
-    Answer::Told(0, length as u64)
+    accepted(length as u64)
 }
 
 // The eight bytes of a number.
@@ -51,7 +52,7 @@ fn deliver_shorter(out: &mut [u8], shorter: Option<u64>) -> Answer
 {
     match shorter {
         Some(s) => deliver(out, &eight_bytes(s)),
-        None => Answer::Refused(13, 0),
+        None => Err(Refusal::NoShortWord.into()),
     }
 }
 
@@ -60,20 +61,20 @@ pub fn shorten_word(dictionary: &[u8], word: &[u8], out: &mut [u8]) -> Answer
     ensures { Wrote (shorten_call dictionary.now word.now out.old) result out.new }
 {
     let Some(dictionary) = dictionary.as_array::<DICTIONARY_BYTES>() else {
-        return Answer::Refused(1, 0);
+        return Err(Refusal::WrongSize.into());
     };
     if word.len() != 16 {
-        return Answer::Refused(1, 0);
+        return Err(Refusal::WrongSize.into());
     }
     if !in_range(dictionary) {
-        return Answer::Refused(2, 0);
+        return Err(Refusal::WideDictionary.into());
     }
     let w = read16(word, 0);
     if !is_listed(operation(w)) {
-        return Answer::Refused(4, 0);
+        return Err(Refusal::Unlisted.into());
     }
     if cmpt_ctrl(w) == 1 {
-        return Answer::Refused(5, 0);
+        return Err(Refusal::WrongForm.into());
     }
     deliver_shorter(out, shorten(dictionary, None, w))
 }
@@ -83,20 +84,20 @@ pub fn expand_word(dictionary: &[u8], word: &[u8], out: &mut [u8]) -> Answer
     ensures { Wrote (expand_call dictionary.now word.now out.old) result out.new }
 {
     let Some(dictionary) = dictionary.as_array::<DICTIONARY_BYTES>() else {
-        return Answer::Refused(1, 0);
+        return Err(Refusal::WrongSize.into());
     };
     if word.len() != 8 {
-        return Answer::Refused(1, 0);
+        return Err(Refusal::WrongSize.into());
     }
     if !in_range(dictionary) {
-        return Answer::Refused(2, 0);
+        return Err(Refusal::WideDictionary.into());
     }
     let s = read8(word, 0);
     if !is_listed(operation_in(s)) {
-        return Answer::Refused(4, 0);
+        return Err(Refusal::Unlisted.into());
     }
     if !is_short(s) || is_branch(operation_in(s)) {
-        return Answer::Refused(5, 0);
+        return Err(Refusal::WrongForm.into());
     }
     deliver(out, &sixteen_bytes(expand(dictionary, s)))
 }
