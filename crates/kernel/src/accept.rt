@@ -1,7 +1,6 @@
 // A kernel is accepted or refused: 1, 2, 17 and 3 to 11, then 12.
-ghost use Rattle.std.specs.Prelude.{true, false, ◌≡◌, ◌≤◌, length};
+ghost use Rattle.std.specs.Prelude.{false, ◌≡◌};
 ghost use Rattle.std.specs.Option.{MatchOption};
-ghost use Rattle.paper.specs.Limits.{kernel_bytes};
 ghost use Rattle.paper.specs.Calls.{sized, accepted};
 ghost use Rattle.kernel.specs.Judging.{forms_is};
 ghost use Rattle.kernel.specs.Marks.{Says};
@@ -15,18 +14,9 @@ use words::answer::Refused;
 use words::limits::{DICTIONARY_BYTES, KERNEL_BYTES, PLACES};
 use words::refusal::Refusal;
 
-// 1: the dictionary has its bytes, the kernel not too many.
-pub fn is_sized(dictionary: &[u8], kernel: &[u8]) -> bool
-    ensures { (result ≡ sized dictionary.now kernel.now)
-        × (result ≡ true → RightSizes dictionary.now kernel.now) }
-{
-    dictionary.len() == DICTIONARY_BYTES && kernel.len() <= KERNEL_BYTES
-}
-
-// The dictionary by its length, if that is so.
-pub(crate) fn sized<'a>(dictionary: &'a [u8], kernel: &[u8]) -> Option<&'a [u8; DICTIONARY_BYTES]>
-    ensures { MatchOption result (sized dictionary.now kernel.now ≡ false) (λ d. (d.now ≡ dictionary.now) × (sized dictionary.now kernel.now ≡ true)
-        × (length kernel.now ≤ kernel_bytes)) }
+// 1: the dictionary has its bytes, the kernel not too many. Then the dictionary's type says so.
+pub fn sized<'a>(dictionary: &'a [u8], kernel: &[u8]) -> Option<&'a [u8; DICTIONARY_BYTES]>
+    ensures { MatchOption result (sized dictionary.now kernel.now ≡ false) (λ d. (d.now ≡ dictionary.now) × RightSizes d.now kernel.now) }
 {
     if kernel.len() > KERNEL_BYTES {
         return None;

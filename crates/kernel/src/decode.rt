@@ -1,5 +1,5 @@
 // Decoding at a place: 1, 2, and 3 to 11 of the instruction that starts there.
-ghost use Rattle.std.specs.Prelude.{◌≡◌, ◌*◌, ◌≤◌, ltb, length};
+ghost use Rattle.std.specs.Prelude.{◌≡◌, ◌*◌, ◌≤◌, ltb, length, None, IfErr};
 ghost use Rattle.paper.specs.Limits.{kernel_bytes};
 ghost use Rattle.paper.specs.Calls.{decode_at, decode_call, decode_part};
 ghost use Rattle.words.specs.Answer.{answer_is};

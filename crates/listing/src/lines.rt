@@ -84,12 +84,12 @@ pub(crate) fn candidate(text: &[u8], place: u64, from: usize) -> Fetched
 // The instruction at a place whose six lines begin at a byte, if it can be read. The table of what source fields allow is lent.
 pub(crate) fn lines_at(
     regions: &[u8; FIELDS],
-    dictionary: &[u8],
+    dictionary: &[u8; DICTIONARY_BYTES],
     text: &[u8],
     place: u64,
     from: usize,
 ) -> Lines
-    requires { (regions.now ≡ region_table) × (length dictionary.now ≡ dictionary_bytes) × (from ≤ length text.now) }
+    requires { (regions.now ≡ region_table) × (from ≤ length text.now) }
     ensures { LinesAt (instr_at (dictionary_of dictionary.now) text.now place from) place from result }
 {
     let f = candidate(text, place, from);
