@@ -1,7 +1,7 @@
 -- The marks that a walk leaves: one for each place at which an instruction starts, and one for the end. Assumes nothing.
 use Rattle.std.specs.Prelude.{None, Result, Ok, Err, Bool, true, false, cond, ◌||◌, List, [], ◌≡◌, refl, ℕ, zero, suc, ◌+◌, ◌<◌, ◌≤◌, eqb, ltb, length, get_or, set, replicate}
 use Rattle.std.proofs.Math.Bool.{or-true, or-false}
-use Rattle.std.proofs.Common.{sym, ap, ◌∙◌, arith, get_or-set_same, get_or-set_other, lt-ltb, le-ltb, eqb-true}
+use Rattle.std.proofs.Common.{sym, ap, ap₂, ◌∙◌, arith, get_or-set_same, get_or-set_other, lt-ltb, le-ltb, eqb-true}
 use Rattle.std.proofs.lemmas.Bool.{eqb-false}
 use Rattle.paper.specs.Limits.{last_place}
 use Rattle.paper.specs.Kernel.{Instr, Parsed, bad, good}
@@ -54,7 +54,7 @@ pub says_refused : (q : Parsed) (r : Said) (marks : List ℕ) → Says q r marks
 unfolding Says
 says_refused (bad n o) r marks s f e =
     let p = refused_plain _ _ n o f.count (ap said_is (sym e) ∙ s.0) in
-    (λ i. bad (p.0 (~ i)) (p.1 (~ i)), p.2)
+    (ap₂ bad (sym p.0) (sym p.1), p.2)
 says_refused (good k) r marks s f e = absurd (told_refused _ _ _ _ f.count (sym (ap said_is (sym e) ∙ s.0)))
 
 -- What one that accepts says: there are these instructions, and they start where the marks are.

@@ -26,7 +26,12 @@ pub fn sized<'a>(dictionary: &'a [u8], kernel: &[u8]) -> Option<&'a [u8; DICTION
 
 // What is said of a kernel as a whole: how many instructions it has, or its refusal. In the marks that are lent, whatever they hold, an accepted kernel's
 // places are then marked, its end among them, and no other; what a refused kernel leaves in them is working storage.
-pub fn accept(long: bool, dictionary: &[u8], kernel: &[u8], marks: &mut [u8; PLACES]) -> Result<u64, Refused>
+pub fn accept(
+    long: bool,
+    dictionary: &[u8],
+    kernel: &[u8],
+    marks: &mut [u8; PLACES],
+) -> Result<u64, Refused>
     ensures { Says (accepted (forms_is long) dictionary.now kernel.now) result marks.new }
 {
     let Some(dictionary) = sized(dictionary, kernel) else {

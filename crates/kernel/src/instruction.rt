@@ -28,7 +28,12 @@ fn judge_word(regions: &[u8; FIELDS], size: u64, w: Word) -> Result<Fetched, Ref
 }
 
 // 4, 5, then 6 to 11, of a short word.
-fn judge_short(regions: &[u8; FIELDS], long: bool, dictionary: &[u8; DICTIONARY_BYTES], s: u64) -> Result<Fetched, Refusal>
+fn judge_short(
+    regions: &[u8; FIELDS],
+    long: bool,
+    dictionary: &[u8; DICTIONARY_BYTES],
+    s: u64,
+) -> Result<Fetched, Refusal>
     requires { regions.now ≡ region_table }
     ensures { judged_is result ≡ judge_short (forms_is long) (dictionary_of dictionary.now) s }
 {

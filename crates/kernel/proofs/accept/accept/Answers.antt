@@ -1,37 +1,39 @@
 -- The tests are the definition's, in its order; the walk's marks are the places that land, so the first branch that leads to none is the paper's.
 -- Assumes nothing.
 use mathlib.Core.Path.{sym, ◌∙◌}
+use Rattle.std.proofs.lemmas.Result.{err_from_is_err_and}
 use Rattle.kernel.specs.Accepting.{parse_standing, accept_size, accept_range, accept_refused, accept_good, accept_astray, right_sized}
 use Rattle.kernel.proofs.accept.accept.Goals as goal
 
 pub returns-in_default : goal.returns-in_default
-returns-in_default c = accept_size _ _ _ _ c.in_default.ensures
+returns-in_default c = rw c.into.ensures (accept_size _ _ _ _ c.in_default.ensures)
 
 pub returns-then-not-in_range : goal.returns-then-not-in_range
 returns-then-not-in_range c =
     let s = c.in-Some.ensures in
-    rw (← s.0) (accept_range _ _ _ _ (right_sized _ _ s.1) (sym c.in_range.ensures ∙ c.if-not-in_range.true))
+    rw (c.into-then-not-in_range.ensures, ← s.0) (accept_range _ _ _ _ (right_sized _ _ s.1) (sym c.in_range.ensures ∙ c.if-not-in_range.true))
 
-pub walk-walked-requires : goal.walk-walked-requires
-walk-walked-requires c = (c.region_table-regions.ensures, c.in-Some.ensures.1.kernel-most)
+pub walk-requires : goal.walk-requires
+walk-requires c = (c.region_table-regions.ensures, c.in-Some.ensures.1.kernel-most)
 
-pub returns-in_default-walked : goal.returns-in_default-walked
-returns-in_default-walked c =
+pub returns-in_err-count : goal.returns-in_err-count
+returns-in_err-count c =
     let s = c.in-Some.ensures in
     let d = sym c.in_range.ensures ∙ c.if-not-in_range.false in
-    rw (← s.0) (accept_refused _ _ _ _ (right_sized _ _ s.1) d _ c.walk-walked.ensures _ _ c.in_default-walked.is)
+    let p = err_from_is_err_and c.from_residual.result c.from_residual.ensures.1 in
+    rw (p.1, p.2, ← c.in_err-count.was, ← s.0) (accept_refused _ _ _ _ (right_sized _ _ s.1) d _ c.walk.ensures _ c.in_err-count.was)
 
 pub first_astray-requires : goal.first_astray-requires
-first_astray-requires c = (c.in-Some.ensures.1.kernel-most, parse_standing _ _ _ _ _ c.walk-walked.ensures _ c.in-Good.is)
+first_astray-requires c = (c.in-Some.ensures.1.kernel-most, parse_standing _ _ _ _ _ c.walk.ensures _ c.in_ok-count.was)
 
 pub returns-in-Nowhere : goal.returns-in-Nowhere
 returns-in-Nowhere c =
     let s = c.in-Some.ensures in
     let d = sym c.in_range.ensures ∙ c.if-not-in_range.false in
-    rw (← s.0) (accept_good _ _ _ _ (right_sized _ _ s.1) d _ c.walk-walked.ensures _ c.in-Good.is _ c.first_astray.ensures c.in-Nowhere.is)
+    rw (← s.0) (accept_good _ _ _ _ (right_sized _ _ s.1) d _ c.walk.ensures _ c.in_ok-count.was _ c.first_astray.ensures c.in-Nowhere.is)
 
 pub returns-in-Branch : goal.returns-in-Branch
 returns-in-Branch c =
     let s = c.in-Some.ensures in
     let d = sym c.in_range.ensures ∙ c.if-not-in_range.false in
-    rw (← s.0) (accept_astray _ _ _ _ (right_sized _ _ s.1) d _ c.walk-walked.ensures _ c.in-Good.is _ c.first_astray.ensures _ c.in-Branch.is)
+    rw (c.at.ensures, ← s.0) (accept_astray _ _ _ _ (right_sized _ _ s.1) d _ c.walk.ensures _ c.in_ok-count.was _ c.first_astray.ensures _ c.in-Branch.is)

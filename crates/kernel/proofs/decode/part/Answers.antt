@@ -6,21 +6,26 @@ use Rattle.kernel.proofs.decode.part.Goals as goal
 
 pub overflow_mul-from : goal.overflow_mul-from
 overflow_mul-from c =
-    let f = part_fits _ _ _ _ _ (sym c.decode.ensures ∙ ap decoded_is c.in-Passed.is) in
+    let f = part_fits _ _ _ _ _ (sym c.decode.ensures.value ∙ ap decoded_is c.in-Ok.is) in
     omega (arith, f)
 
-pub overflow_add-to : goal.overflow_add-to
-overflow_add-to c =
-    let f = part_fits _ _ _ _ _ (sym c.decode.ensures ∙ ap decoded_is c.in-Passed.is) in
+pub overflow_mul-result : goal.overflow_mul-result
+overflow_mul-result c =
+    let f = part_fits _ _ _ _ _ (sym c.decode.ensures.value ∙ ap decoded_is c.in-Ok.is) in
     omega (arith, f)
 
-pub slice_bounds-result-end-in-Passed : goal.slice_bounds-result-end-in-Passed
-slice_bounds-result-end-in-Passed c =
-    let f = part_fits _ _ _ _ _ (sym c.decode.ensures ∙ ap decoded_is c.in-Passed.is) in
+pub overflow_add-result : goal.overflow_add-result
+overflow_add-result c =
+    let f = part_fits _ _ _ _ _ (sym c.decode.ensures.value ∙ ap decoded_is c.in-Ok.is) in
     omega (arith, f)
 
-pub returns-in-Refused : goal.returns-in-Refused
-returns-in-Refused c = part_none _ _ _ _ _ (sym c.decode.ensures ∙ ap decoded_is c.in-Refused.is)
+pub slice_bounds-result-end-in-Ok : goal.slice_bounds-result-end-in-Ok
+slice_bounds-result-end-in-Ok c =
+    let f = part_fits _ _ _ _ _ (sym c.decode.ensures.value ∙ ap decoded_is c.in-Ok.is) in
+    omega (arith, f)
 
-pub returns-in-Passed : goal.returns-in-Passed
-returns-in-Passed c = part_some _ _ _ _ _ (sym c.decode.ensures ∙ ap decoded_is c.in-Passed.is)
+pub returns-in-Err : goal.returns-in-Err
+returns-in-Err c = part_none _ _ _ _ _ (sym c.decode.ensures.value ∙ ap decoded_is c.in-Err.is)
+
+pub returns-in-Ok : goal.returns-in-Ok
+returns-in-Ok c = part_some _ _ _ _ _ (sym c.decode.ensures.value ∙ ap decoded_is c.in-Ok.is)

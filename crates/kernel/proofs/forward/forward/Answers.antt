@@ -2,6 +2,7 @@
 use mathlib.Core.Bool.{Bool, true, false}
 use mathlib.Core.Path.{◌≡◌, refl}
 use mir.Val.{bool_byte}
+use Rattle.std.proofs.lemmas.Result.{err_from_is_err_and}
 use Rattle.paper.specs.Enable.{digit}
 use Rattle.paper.specs.Kernel.{long_and_short}
 use Rattle.kernel.specs.Accepting.{accept_size, unsized}
@@ -13,17 +14,19 @@ as_digit true = refl
 as_digit false = refl
 
 pub returns-in_default : goal.returns-in_default
-returns-in_default c = forward_refused _ _ _ _ (accept_size long_and_short _ _ c.args.kernel.now (unsized _ _ c.in_default.ensures.cases)) 1 0 refl
+returns-in_default c = rw c.into.ensures (forward_refused _ _ _ _ (accept_size long_and_short _ _ c.args.kernel.now (unsized _ _ c.in_default.ensures.cases)) _ refl)
+
+pub returns-in_err-accept : goal.returns-in_err-accept
+returns-in_err-accept c =
+    let p = err_from_is_err_and c.from_residual.result c.from_residual.ensures.1 in
+    rw (p.1, p.2, ← c.in-Some.ensures.cases.same) (forward_refused _ _ _ _ c.accept.ensures _ c.in_err-accept.was)
 
 pub all_forward-requires : goal.all_forward-requires
 all_forward-requires c =
-    let k = forward_kernel _ _ _ _ c.accept.ensures _ c.in-Good.is in
-    (k.sizes.kernel-most, forward_standing _ _ _ _ c.accept.ensures _ c.in-Good.is)
+    let k = forward_kernel _ _ _ _ c.accept.ensures _ c.in_ok-accept.was in
+    (k.sizes.kernel-most, forward_standing _ _ _ _ c.accept.ensures _ c.in_ok-accept.was)
 
-pub returns-in-Good : goal.returns-in-Good
-returns-in-Good c =
-    rw (← c.in-Some.ensures.cases.same, c.from.ensures, as_digit)
-    (forward_told _ _ _ _ c.accept.ensures _ c.in-Good.is c.all_forward.result c.all_forward.result c.all_forward.ensures refl)
-
-pub returns-in-Bad : goal.returns-in-Bad
-returns-in-Bad c = rw (← c.in-Some.ensures.cases.same) (forward_refused _ _ _ _ c.accept.ensures _ _ c.in-Bad.is)
+pub returns : goal.returns
+returns c =
+    rw (c.accepted.ensures, ← c.in-Some.ensures.cases.same, c.from.ensures, as_digit)
+    (forward_told _ _ _ _ c.accept.ensures _ c.in_ok-accept.was c.all_forward.result c.all_forward.result c.all_forward.ensures refl)

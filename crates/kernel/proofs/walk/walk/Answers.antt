@@ -20,26 +20,33 @@ loop-from-init c =
 
 pub returns-then-count-eq-INSTRUCTION_LIMIT : goal.returns-then-count-eq-INSTRUCTION_LIMIT
 returns-then-count-eq-INSTRUCTION_LIMIT c =
-    leads_full _ _ _ _ _ _ c.loop-from.invariant.3 c.loop-from-test.true c.if-count-eq-INSTRUCTION_LIMIT.true
+    rw c.at.ensures (leads_full _ _ _ _ _ _ c.loop-from.invariant.3 c.loop-from-test.true c.if-count-eq-INSTRUCTION_LIMIT.true)
 
-pub returns-in-Refused : goal.returns-in-Refused
-returns-in-Refused c =
+pub returns-in-Err : goal.returns-in-Err
+returns-in-Err c =
     let l = c.loop-from in
-    let j = sym c.judge_at.ensures ∙ ap judged_is c.in-Refused.is in
+    let j = sym c.judge_at.ensures ∙ ap judged_is c.in-Err.is in
     let h : l.count < instruction_limit = omega (arith, c.if-count-eq-INSTRUCTION_LIMIT.false) in
-    leads_refused _ _ _ _ _ _ l.invariant.3 c.loop-from-test.true h _ j
+    rw c.at-in-Err.ensures (leads_refused _ _ _ _ _ _ l.invariant.3 c.loop-from-test.true h _ j)
+
+pub overflow_mul-from : goal.overflow_mul-from
+overflow_mul-from c =
+    let l = c.loop-from in
+    let j = sym c.judge_at.ensures ∙ ap judged_is c.in-Ok.is in
+    let f = fits _ _ _ _ _ _ c.loop-from-test.true j in
+    omega (arith, f.room)
 
 pub overflow_add-from : goal.overflow_add-from
 overflow_add-from c =
     let l = c.loop-from in
-    let j = sym c.judge_at.ensures ∙ ap judged_is c.in-Passed.is in
+    let j = sym c.judge_at.ensures ∙ ap judged_is c.in-Ok.is in
     let f = fits _ _ _ _ _ _ c.loop-from-test.true j in
     omega (arith, f.room)
 
 pub loop-from-smaller : goal.loop-from-smaller
 loop-from-smaller c =
     let l = c.loop-from in
-    let j = sym c.judge_at.ensures ∙ ap judged_is c.in-Passed.is in
+    let j = sym c.judge_at.ensures ∙ ap judged_is c.in-Ok.is in
     let f = fits _ _ _ _ _ _ c.loop-from-test.true j in
     omega (arith, f.some)
 
@@ -47,7 +54,7 @@ pub loop-from-preserved : goal.loop-from-preserved
 loop-from-preserved c =
     let l = c.loop-from in
     let t = c.loop-from-test.true in
-    let j = sym c.judge_at.ensures ∙ ap judged_is c.in-Passed.is in
+    let j = sym c.judge_at.ensures ∙ ap judged_is c.in-Ok.is in
     let f = fits _ _ _ _ _ _ t j in
     let h : l.count < instruction_limit = omega (arith, c.if-count-eq-INSTRUCTION_LIMIT.false) in (
       f.room,
