@@ -12,7 +12,7 @@ ghost use Rattle.listing.specs.Laying.{form_in};
 use crate::lines::candidate;
 use crate::write::lines_length;
 use short::shorten::{Shorter, shorten};
-use words::bytes::{Word, write8, write16};
+use words::bytes::{Word, write, write16};
 
 // The bytes of a word in the form of so many places.
 fn put_word(dictionary: &[u8], out: &mut [u8], at: usize, size: u64, w: Word)
@@ -26,7 +26,7 @@ fn put_word(dictionary: &[u8], out: &mut [u8], at: usize, size: u64, w: Word)
     }
     let none = [0u32; 0];
     match shorten(dictionary, &none, w) {
-        Shorter::Short(s) => write8(out, at, s),
+        Shorter::Short(s) => write::<8>(out, at, s),
         Shorter::NoShort => write16(out, at, w),
     }
 }

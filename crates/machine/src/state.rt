@@ -9,7 +9,7 @@ ghost use Rattle.machine.specs.States.{state_is, SaneState, places_put};
 use crate::channels::Channels;
 use lanes::flags::Flags;
 use lanes::mask::bit;
-use words::bytes::{read2, write2};
+use words::bytes::{read2, write};
 
 // Flags, channels, and the place at which the next step is made. Registers are lent beside it, and a0's bytes stay where they are lent.
 #[derive(Clone, Copy)]
@@ -114,7 +114,7 @@ fn write_places(bytes: &mut [u8], places: &[u64; 16])
     while n < 16 {
         let from = 10 + 2 * n;
         let place = places[n];
-        write2(bytes, from, place);
+        write::<2>(bytes, from, place);
         n += 1;
     }
 }
@@ -127,10 +127,10 @@ pub(crate) fn write_state(bytes: &mut [u8], s: State)
     let flags = s.flags;
     let channels = s.channels;
     let places = channels.places;
-    write2(bytes, 0, flags.flag0);
-    write2(bytes, 2, flags.flag1);
-    write2(bytes, 4, s.place);
-    write2(bytes, 6, channels.awake);
-    write2(bytes, 8, channels.waiting);
+    write::<2>(bytes, 0, flags.flag0);
+    write::<2>(bytes, 2, flags.flag1);
+    write::<2>(bytes, 4, s.place);
+    write::<2>(bytes, 6, channels.awake);
+    write::<2>(bytes, 8, channels.waiting);
     write_places(bytes, &places);
 }

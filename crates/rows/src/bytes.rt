@@ -3,7 +3,7 @@ ghost use Rattle.std.specs.Prelude.{◌≡◌, ◌≤◌, length};
 ghost use Rattle.rows.specs.Room.{room, number_in, put_in};
 
 use crate::sizes::{BOARD, KERNEL, LONGEST, OUTPUT, TABLE};
-use words::bytes::{read2, read4, write2, write4};
+use words::bytes::{read2, read4, write};
 
 // What is read where there is no room: more than a row's number can be.
 const NOTHING: u64 = 0x1_0000_0000;
@@ -43,7 +43,7 @@ pub fn put_half(bytes: &mut [u8], at: usize, v: u64) -> bool
     ensures { (bytes.new ≡ put_in bytes.old at 2 v) × (result ≡ room bytes.old at 2) }
 {
     if has_room(bytes, at, 2) {
-        write2(bytes, at, v);
+        write::<2>(bytes, at, v);
         return true;
     }
     false
@@ -54,7 +54,7 @@ pub fn put_dword(bytes: &mut [u8], at: usize, v: u64) -> bool
     ensures { (bytes.new ≡ put_in bytes.old at 4 v) × (result ≡ room bytes.old at 4) }
 {
     if has_room(bytes, at, 4) {
-        write4(bytes, at, v);
+        write::<4>(bytes, at, v);
         return true;
     }
     false

@@ -9,7 +9,7 @@ use crate::dictionary::in_range;
 use crate::expand::expand;
 use crate::shorten::{Shorter, shorten};
 use words::answer::Answer;
-use words::bytes::{Word, read8, read16, write8, write16};
+use words::bytes::{Word, read8, read16, write, write16};
 use words::fields::{cmpt_ctrl, is_short, operation, operation_in};
 use words::limits::DICTIONARY_BYTES;
 use words::operation::{is_branch, is_listed};
@@ -21,7 +21,7 @@ pub fn deliver8(out: &mut [u8], v: u64) -> Answer
     if out.len() < 8 {
         return Answer::Refused(14, 0);
     }
-    write8(out, 0, v);
+    write::<8>(out, 0, v);
     Answer::Told(0, 8)
 }
 

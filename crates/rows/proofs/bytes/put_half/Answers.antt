@@ -2,12 +2,12 @@
 use Rattle.rows.specs.Room.{all_there, put_there, put_none}
 use Rattle.rows.proofs.bytes.put_half.Goals as goal
 
-pub write2-requires : goal.write2-requires
-write2-requires c = all_there _ _ _ _ c.has_room.ensures c.if-has_room.true
+pub write-requires : goal.write-requires
+write-requires c = all_there _ _ _ _ c.has_room.ensures c.if-has_room.true
 
 pub returns-then-has_room : goal.returns-then-has_room
 returns-then-has_room c =
-    put_there _ _ _ _ c.has_room.ensures c.if-has_room.true _ _ c.write2.ensures
+    put_there _ _ _ _ c.has_room.ensures c.if-has_room.true _ _ c.write.ensures
 
 pub returns : goal.returns
 returns c = put_none _ _ _ _ c.has_room.ensures c.if-has_room.false _
