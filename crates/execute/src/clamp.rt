@@ -10,11 +10,9 @@ fn clamp_each(kind: u64, n: usize, values: &mut [u64; 16])
     requires { (n ≤ 16) × (length values.old ≡ 16) × IsWhole kind }
     ensures { Kept true kind n values.old values.new }
 {
-    let mut k = 0;
-    while k < n {
+    for k in 0..n {
         let v = values[k];
         values[k] = clamp(kind, v);
-        k += 1;
     }
 }
 

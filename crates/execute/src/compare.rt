@@ -26,11 +26,9 @@ fn lowest_bits(results: &[u64; 16], n: usize) -> u64
     ensures { (result ≡ lowest_bits results.now n) × (result < 65536) }
 {
     let mut mask = 0;
-    let mut k = 0;
-    while k < n {
+    for k in 0..n {
         let lowest = results[k] % 2;
         mask += lowest << k;
-        k += 1;
     }
     mask
 }

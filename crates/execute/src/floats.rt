@@ -39,12 +39,10 @@ fn add_all(n: usize, first: &mut [u32; 16], second: &[u32; 16])
     requires { (n ≤ 16) × (length first.old ≡ 16) }
     ensures { Reckoned add 0 n first.old second.now first.new }
 {
-    let mut k = 0;
-    while k < n {
+    for k in 0..n {
         let x = first[k];
         let y = second[k];
         first[k] = add_pattern(x, y);
-        k += 1;
     }
 }
 
@@ -53,12 +51,10 @@ fn mul_all(n: usize, first: &mut [u32; 16], second: &[u32; 16])
     requires { (n ≤ 16) × (length first.old ≡ 16) }
     ensures { Reckoned mul 0 n first.old second.now first.new }
 {
-    let mut k = 0;
-    while k < n {
+    for k in 0..n {
         let x = first[k];
         let y = second[k];
         first[k] = mul_pattern(x, y);
-        k += 1;
     }
 }
 
@@ -74,12 +70,10 @@ fn compare_all(condition: u64, n: usize, first: &mut [u32; 16], second: &[u32; 1
     requires { (n ≤ 16) × (length first.old ≡ 16) }
     ensures { Reckoned cmp condition n first.old second.now first.new }
 {
-    let mut k = 0;
-    while k < n {
+    for k in 0..n {
         let x = first[k];
         let y = second[k];
         first[k] = one_if(compare_pattern(condition, x, y));
-        k += 1;
     }
 }
 
@@ -158,11 +152,9 @@ fn outcomes(results: &[u32; 16], n: usize) -> u64
     ensures { (result ≡ lowest_bits results.now n) × (result < 65536) }
 {
     let mut mask = 0;
-    let mut k = 0;
-    while k < n {
+    for k in 0..n {
         let lowest = (results[k] % 2) as u64;
         mask += lowest << k;
-        k += 1;
     }
     mask
 }

@@ -1,4 +1,5 @@
 -- Rule 12 against a test of places, where the paper tests the instructions themselves. Assumes nothing.
+use Rattle.std.specs.Prelude as std
 use Rattle.std.specs.Prelude.{Bool, true, false, cond, ◌&&◌, List, [], ◌∷◌, ◌≡◌, refl, ℕ, ◌+◌, ◌*◌, ℤ, pos, negsuc}
 use Rattle.std.proofs.Math.Bool.{and-true}
 use Rattle.std.proofs.Math.Option.{Option, none, some}
@@ -9,8 +10,6 @@ use Rattle.paper.specs.Operation.{operation}
 use Rattle.paper.specs.Jump.{Distance, distances, reach, reached, targets_of, lands, jump_lands, targets_land, first_astray}
 use Rattle.distances.specs.Reach.{said_of}
 use Rattle.distances.specs.Distances.{told}
-use Rattle.distances.specs.declared.distance.Target.{Target}
-use Rattle.distances.specs.declared.distance.Target.TheVariants.{Place, Below}
 use Rattle.kernel.specs.declared.jumps.Astray.{Astray}
 use Rattle.kernel.specs.declared.jumps.Astray.TheVariants.{Nowhere, Branch}
 use Rattle.kernel.specs.Standing.{Stands}
@@ -20,16 +19,16 @@ abbrev pub lands_at : (ℕ → Bool) → ℤ → Bool
 lands_at land = said_of land false
 
 -- The same of a target as the code tells it.
-abbrev pub lands_in : (ℕ → Bool) → Target → Bool
-lands_in land (Place p) = land p
-lands_in land Below = false
+abbrev pub lands_in : (ℕ → Bool) → std.Option ℕ → Bool
+lands_in land (std.Some p) = land p
+lands_in land std.None = false
 
 pub lands-told : (land : ℕ → Bool) (z : ℤ) → lands_in land (told z) ≡ lands_at land z
 lands-told land (pos p) = refl
 lands-told land (negsuc p) = refl
 
 -- It is the same of a whole number that the code tells.
-pub lands_at_lem : (land : ℕ → Bool) (z : ℤ) (t : Target) → t ≡ told z → lands_in land t ≡ lands_at land z
+pub lands_at_lem : (land : ℕ → Bool) (z : ℤ) (t : std.Option ℕ) → t ≡ told z → lands_in land t ≡ lands_at land z
 lands_at_lem land z t e = ap (lands_in land) e ∙ lands-told land z
 
 -- Each target lands there.

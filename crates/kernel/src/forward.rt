@@ -17,18 +17,18 @@ use crate::accept::accept;
 use crate::fetch::word_at;
 use crate::walk::Said;
 use distances::branch::{Distances, distances_in};
-use distances::distance::{Distance, Target, reach};
+use distances::distance::{Distance, reach};
 use words::answer::Answer;
 use words::bytes::Word;
 use words::limits::PLACES;
 
-// The target lies after place `here`. What lies below place 0 does not.
-fn lies_after(here: u64, t: Target) -> bool
-    ensures { result ≡ lands_in (ltb here) t }
+// The place to which a jump leads lies after place `here`. What lies below place 0 does not.
+fn lies_after(here: u64, target: Option<u64>) -> bool
+    ensures { result ≡ lands_in (ltb here) target }
 {
-    match t {
-        Target::Place(place) => here < place,
-        Target::Below => false,
+    match target {
+        Some(place) => here < place,
+        None => false,
     }
 }
 

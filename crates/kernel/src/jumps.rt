@@ -11,7 +11,7 @@ ghost use Rattle.kernel.specs.Jumps.{lands_at, lands_in, land_by, instr_of, Firs
 
 use crate::fetch::word_at;
 use distances::branch::{Distances, distances_in};
-use distances::distance::{Distance, Target, reach};
+use distances::distance::{Distance, reach};
 use words::bytes::Word;
 use words::limits::PLACES;
 
@@ -33,13 +33,13 @@ pub fn is_marked(marks: &[u8; PLACES], place: u64) -> bool
     marks[i] == 1
 }
 
-// The target is marked. What lies below place 0 is not.
-fn target_lands(marks: &[u8; PLACES], t: Target) -> bool
-    ensures { result ≡ lands_in (marked marks.now) t }
+// The place to which a jump leads is marked. What lies below place 0 is not.
+fn target_lands(marks: &[u8; PLACES], target: Option<u64>) -> bool
+    ensures { result ≡ lands_in (marked marks.now) target }
 {
-    match t {
-        Target::Place(place) => is_marked(marks, place),
-        Target::Below => false,
+    match target {
+        Some(place) => is_marked(marks, place),
+        None => false,
     }
 }
 

@@ -10,13 +10,9 @@ pub(crate) fn write_element(registers: &mut [u8], from: usize, size: usize, v: u
     requires { Size size × (from + size ≤ length registers.old) }
     ensures { registers.new ≡ put_at registers.old from size v }
 {
-    if size == 1 {
-        write::<1>(registers, from, v);
-        return;
+    match size {
+        1 => write::<1>(registers, from, v),
+        2 => write::<2>(registers, from, v),
+        _ => write::<4>(registers, from, v),
     }
-    if size == 2 {
-        write::<2>(registers, from, v);
-        return;
-    }
-    write::<4>(registers, from, v);
 }

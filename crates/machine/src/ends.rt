@@ -18,12 +18,10 @@ pub fn enter(bytes: &[u8], here: &mut [u16]) -> Stand
     ensures flag0_bound { (result.flags.flag0 < 65536) × (result.flags.flag1 < 65536) × (length here.new ≡ length here.old) }
 {
     let s = read_state(bytes);
-    let flags = s.flags;
-    let channels = s.channels;
-    post_all(channels, here);
+    post_all(s.channels, here);
     Stand {
-        flags: flags,
-        awake: channels.awake,
+        flags: s.flags,
+        awake: s.channels.awake,
         place: s.place,
     }
 }
@@ -34,11 +32,9 @@ pub fn leave(s: Stand, here: &[u16], bytes: &mut [u8])
     requires by_index { (registers : List ℕ) × (t : paper.State) × Shows registers (addresses_in bytes.old) here.now s t }
     ensures { (registers : List ℕ) (t : paper.State) → Shows registers (addresses_in bytes.old) here.now s t → bytes.new ≡ state_bytes t }
 {
-    let flags = s.flags;
-    let channels = channels_from(s.awake, here);
     let after = State {
-        flags: flags,
-        channels: channels,
+        flags: s.flags,
+        channels: channels_from(s.awake, here),
         place: s.place,
     };
     write_state(bytes, after);

@@ -17,18 +17,16 @@ use words::limits::{ADDRESSES_AT, STATE_LENGTH};
 pub fn started(mask: u16, flag0: u16, flag1: u16) -> State
     ensures { ((registers : List ℕ) → state_is registers (replicate address_bytes 0) result ≡ begun registers flag0 flag1 mask) × SaneState result }
 {
-    let flags = Flags {
-        flag0: flag0 as u64,
-        flag1: flag1 as u64,
-    };
-    let channels = Channels {
-        awake: mask as u64,
-        waiting: 0,
-        places: [0; 16],
-    };
     State {
-        flags: flags,
-        channels: channels,
+        flags: Flags {
+            flag0: u64::from(flag0),
+            flag1: u64::from(flag1),
+        },
+        channels: Channels {
+            awake: mask,
+            waiting: 0,
+            places: [0; 16],
+        },
         place: 0,
     }
 }

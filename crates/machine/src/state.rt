@@ -26,12 +26,9 @@ fn read_places(bytes: &[u8]) -> [u64; 16]
     requires { length bytes.now ≡ state_length }
     ensures { (result ≡ values (waiting_place bytes.now) 16) × ((k : ℕ) → k < 16 → waiting_place bytes.now k < 65536) }
 {
-    let mut places = [0u64; 16];
-    let mut n = 0;
-    while n < 16 {
-        let from = 10 + 2 * n;
-        places[n] = read2(bytes, from);
-        n += 1;
+    let mut places = [0; 16];
+    for n in 0..16 {
+        places[n] = read2(bytes, 10 + 2 * n);
     }
     places
 }
@@ -41,13 +38,10 @@ fn read_channels(bytes: &[u8]) -> Channels
     requires { length bytes.now ≡ state_length }
     ensures { (channels_is result ≡ channels_in bytes.now 0 16) × (all_three bytes.now 16 ≡ true → Sane result) }
 {
-    let awake = read2(bytes, 6);
-    let waiting = read2(bytes, 8);
-    let places = read_places(bytes);
     Channels {
-        awake: awake,
-        waiting: waiting,
-        places: places,
+        awake: read2(bytes, 6) as u16,
+        waiting: read2(bytes, 8) as u16,
+        places: read_places(bytes),
     }
 }
 
@@ -60,15 +54,10 @@ pub fn read_state(bytes: &[u8]) -> State
     let flag0 = read2(bytes, 0);
     let flag1 = read2(bytes, 2);
     let place = read2(bytes, 4);
-    let channels = read_channels(bytes);
-    let flags = Flags {
-        flag0: flag0,
-        flag1: flag1,
-    };
     State {
-        flags: flags,
-        channels: channels,
-        place: place,
+        flags: Flags { flag0, flag1 },
+        channels: read_channels(bytes),
+        place,
     }
 }
 
@@ -81,11 +70,11 @@ fn one_of_three(bytes: &[u8], n: usize) -> bool
 {
     let awake = read2(bytes, 6);
     let waiting = read2(bytes, 8);
-    let from = 10 + 2 * n;
     if bit(waiting, n as u64) {
-        return !bit(awake, n as u64);
+        !bit(awake, n as u64)
+    } else {
+        read2(bytes, 10 + 2 * n) == 0
     }
-    read2(bytes, from) == 0
 }
 
 // All channels are one of the three.
@@ -93,12 +82,10 @@ pub fn three(bytes: &[u8]) -> bool
     requires { length bytes.now ≡ state_length }
     ensures { result ≡ all_three bytes.now 16 }
 {
-    let mut n = 0;
-    while n < 16 {
+    for n in 0..16 {
         if !one_of_three(bytes, n) {
             return false;
         }
-        n += 1;
     }
     true
 }
@@ -110,12 +97,8 @@ fn write_places(bytes: &mut [u8], places: &[u64; 16])
     requires { length bytes.old ≡ state_length }
     ensures { bytes.new ≡ places_put bytes.old places.now 16 }
 {
-    let mut n = 0;
-    while n < 16 {
-        let from = 10 + 2 * n;
-        let place = places[n];
-        write::<2>(bytes, from, place);
-        n += 1;
+    for n in 0..16 {
+        write::<2>(bytes, 10 + 2 * n, places[n]);
     }
 }
 
@@ -124,13 +107,10 @@ pub(crate) fn write_state(bytes: &mut [u8], s: State)
     requires { (length bytes.old ≡ state_length) × Sane s.channels }
     ensures { (registers : List ℕ) → bytes.new ≡ state_bytes (state_is registers (addresses_in bytes.old) s) }
 {
-    let flags = s.flags;
-    let channels = s.channels;
-    let places = channels.places;
-    write::<2>(bytes, 0, flags.flag0);
-    write::<2>(bytes, 2, flags.flag1);
+    write::<2>(bytes, 0, s.flags.flag0);
+    write::<2>(bytes, 2, s.flags.flag1);
     write::<2>(bytes, 4, s.place);
-    write::<2>(bytes, 6, channels.awake);
-    write::<2>(bytes, 8, channels.waiting);
-    write_places(bytes, &places);
+    write::<2>(bytes, 6, u64::from(s.channels.awake));
+    write::<2>(bytes, 8, u64::from(s.channels.waiting));
+    write_places(bytes, &s.channels.places);
 }

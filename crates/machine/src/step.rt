@@ -28,7 +28,7 @@ use words::operation::{Operation, Plain};
 #[derive(Clone, Copy)]
 pub struct Stand {
     pub flags: Flags,
-    pub awake: u64,
+    pub awake: u16,
     pub place: u64,
 }
 
@@ -38,41 +38,35 @@ fn perform(
     w: Word,
     ways: Ways,
     flags: Flags,
-    up: u64,
+    up: u16,
     registers: &mut [u8],
     here: &mut [u16],
 ) -> Stand
     requires o_value { (operation_is o ≡ operation (to_word w)) × OnRegisters (to_word w) × (length registers.old ≡ register_bytes) }
-    requires flag0_bound { (flags.flag0 < 65536) × (flags.flag1 < 65536) × (up < 65536) × ((p : ℕ) → get_or here.old p 0 < 65536)
-        × Within (length here.old) (ways_is ways) }
+    requires flag0_bound { (flags.flag0 < 65536) × (flags.flag1 < 65536) × Within (length here.old) (ways_is ways) }
     ensures by_index { (addresses : List ℕ) (cs : List Channel) → Posted up here.old cs → Shows registers.new addresses here.new result
         (perform (operation_is o) (to_word w) (ways_is ways) (store_of registers.old flags addresses) cs) }
     ensures flag0_bound_2 { (result.flags.flag0 < 65536) × (result.flags.flag1 < 65536) × (length here.new ≡ length here.old) }
 {
     match o {
         Operation::Makes(p) => {
-            let after = execute(p, w, up, flags, registers);
+            let flags = execute(p, w, u64::from(up), flags, registers);
             Stand {
-                flags: after,
+                flags,
                 awake: up,
                 place: ways.next,
             }
         }
-        Operation::Nop => Stand {
-            flags: flags,
-            awake: up,
-            place: ways.next,
-        },
         Operation::Jumps(b) => {
-            let forked = act(b, voted(w, flags), ways, up, here);
+            let forked = act(b, voted(w, flags) as u16, ways, up, here);
             Stand {
-                flags: flags,
+                flags,
                 awake: forked.awake,
                 place: forked.place,
             }
         }
-        Operation::Unlisted => Stand {
-            flags: flags,
+        Operation::Nop | Operation::Unlisted => Stand {
+            flags,
             awake: up,
             place: ways.next,
         },
@@ -82,22 +76,14 @@ fn perform(
 // One step where an accepted word stands whose operands are named directly, none of them a0 or a float; it first wakes the channels that wait there. a0 stays.
 pub fn step_at(w: Word, ways: Ways, s: Stand, registers: &mut [u8], here: &mut [u16]) -> Stand
     requires on_registers { OnRegisters (to_word w) × (length registers.old ≡ register_bytes) × Within (length here.old) (ways_is ways) }
-    requires sound { Sound here.old s × (s.place < length here.old) }
+    requires sound { Sound s × (s.place < length here.old) }
     ensures by_index { (addresses : List ℕ) (t : State) → Shows registers.old addresses here.old s t
         → Shows registers.new addresses here.new result (step_at (to_word w) s.place (ways_is ways) t) }
     ensures flag0_bound { (result.flags.flag0 < 65536) × (result.flags.flag1 < 65536) × (length here.new ≡ length here.old) }
 {
-    let flags = s.flags;
     let up = rouse(s.awake, s.place, here);
-    perform(
-        operation_here(opcode(w)),
-        w,
-        ways,
-        flags,
-        up,
-        registers,
-        here,
-    )
+    let o = operation_here(opcode(w));
+    perform(o, w, ways, s.flags, up, registers, here)
 }
 
 // One step where a mov stands of which an operand is a0.
@@ -110,17 +96,16 @@ pub fn move_at(
     here: &mut [u16],
 ) -> Stand
     requires w_value { (operation (to_word w) ≡ plain mov) × Counting mov (to_word w) × (length registers.old ≡ register_bytes) × (length addresses.old ≡ address_bytes) }
-    requires sound { Sound here.old s × (s.place < length here.old) }
+    requires sound { Sound s × (s.place < length here.old) }
     ensures shows { (t : State) → Shows registers.old addresses.old here.old s t
         → Shows registers.new addresses.new here.new result (step_at (to_word w) s.place (ways_is ways) t) }
     ensures flag0_bound { (result.flags.flag0 < 65536) × (result.flags.flag1 < 65536) × (length here.new ≡ length here.old) }
 {
-    let flags = s.flags;
-    let woken = rouse(s.awake, s.place, here);
-    transfer(w, woken, flags, registers, addresses);
+    let awake = rouse(s.awake, s.place, here);
+    transfer(w, u64::from(awake), s.flags, registers, addresses);
     Stand {
-        flags: flags,
-        awake: woken,
+        flags: s.flags,
+        awake,
         place: ways.next,
     }
 }
@@ -135,17 +120,16 @@ pub fn float_at(
     here: &mut [u16],
 ) -> Stand
     requires w_value { (operation (to_word w) ≡ plain (plain_is p)) × Reckoning (plain_is p) (to_word w) × (length registers.old ≡ register_bytes) }
-    requires sound { Sound here.old s × (s.place < length here.old) }
+    requires sound { Sound s × (s.place < length here.old) }
     ensures by_index { (addresses : List ℕ) (t : State) → Shows registers.old addresses here.old s t
         → Shows registers.new addresses here.new result (step_at (to_word w) s.place (ways_is ways) t) }
     ensures flag0_bound { (result.flags.flag0 < 65536) × (result.flags.flag1 < 65536) × (length here.new ≡ length here.old) }
 {
-    let flags = s.flags;
-    let woken = rouse(s.awake, s.place, here);
-    let after = reckon(p, w, woken, flags, registers);
+    let awake = rouse(s.awake, s.place, here);
+    let flags = reckon(p, w, u64::from(awake), s.flags, registers);
     Stand {
-        flags: after,
-        awake: woken,
+        flags,
+        awake,
         place: ways.next,
     }
 }

@@ -15,7 +15,7 @@ ghost use Rattle.packer.specs.Keeping.{AllKept};
 
 use crate::form::{SHORTS, places_taken};
 use distances::branch::{Distances, distances_in};
-use distances::distance::{Distance, aim, place_of, reach};
+use distances::distance::{Distance, aim, reach};
 use kernel::fetch::word_at;
 use words::bytes::{Word, write, write16};
 use words::limits::PLACES;
@@ -38,7 +38,7 @@ fn new_place(places: &[u16; PLACES], d: Distance, w: Word, here: u64, size: u64)
     requires { (here < place_count) × (size ≤ 2) × ReachesAt places.now (old_place (distance_is d) (to_word w) here size) }
     ensures { (result ≡ get_or places.now (old_place (distance_is d) (to_word w) here size) 0) × (result < place_count) }
 {
-    let old = place_of(reach(d, w, here, here + size)) as usize;
+    let old = reach(d, w, here, here + size).unwrap_or(0) as usize;
     places[old] as u64
 }
 

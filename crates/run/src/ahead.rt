@@ -91,10 +91,8 @@ pub(crate) fn fill(dictionary: &[u8], kernel: &[u8], marks: &[u8; PLACES], table
         × (length table.new ≡ length table.old) }
 {
     let end = kernel.len() / 8;
-    let mut p = 0;
-    while p < end {
+    for p in 0..end {
         put_row(dictionary, kernel, marks, p, table);
-        p += 1;
     }
     end as u64
 }

@@ -25,13 +25,11 @@ fn rests(marks: &[u8; PLACES], waits: bool, place: u64) -> bool
 fn all_rest(marks: &[u8; PLACES], channels: Channels) -> bool
     ensures { result ≡ waits_by (marked marks.now) (channels_is channels) }
 {
-    let mut n = 0;
-    while n < 16 {
+    for n in 0..16 {
         let place = channels.places[n];
         if !rests(marks, bit(channels.waiting, n as u64), place) {
             return false;
         }
-        n += 1;
     }
     true
 }

@@ -6,7 +6,7 @@ ghost use Rattle.words.specs.Words.{to_word};
 pub use numbers::{read2, read4, read8, write};
 
 // A long word: its bits 63:0 and its bits 127:64.
-#[derive(Clone, Copy)]
+#[derive(Clone, Copy, Debug, PartialEq, Eq)]
 pub struct Word {
     pub lo: u64,
     pub hi: u64,
@@ -20,7 +20,7 @@ pub fn read16(bytes: &[u8], from: usize) -> Word
     let middle = from + 8;
     let lo = read8(bytes, from);
     let hi = read8(bytes, middle);
-    Word { lo: lo, hi: hi }
+    Word { lo, hi }
 }
 
 // Stores the sixteen bytes of `w` from `from` on.

@@ -6,6 +6,3 @@ use Rattle.execute.proofs.floats.mul_all.Given as goal
 
 abbrev pub invariant-loop-k : goal.invariant-loop-k
 invariant-loop-k l = (l.k ≤ l.n) × Reckoned mul 0 l.k l.initial.first l.second l.first
-
-abbrev pub decreases-loop-k : goal.decreases-loop-k
-decreases-loop-k l = l.n - l.k

@@ -1,11 +1,12 @@
--- The loop's invariant: the patterns of the channels passed are read. Its measure: the channels left. Assumes nothing.
+-- The loop's invariant: the patterns of the channels passed are read. Assumes nothing.
+use borrow.Author.Rules.{rules}
 use mathlib.Core.Path.{◌≡◌}
 use native.Mathlib.Omega.{arith}
 use Rattle.lanes.specs.Mapped.{mapped_none, mapped_more}
 use Rattle.operands.proofs.beside.word_patterns.Goals as goal
 
 pub loop-k-init : goal.loop-k-init
-loop-k-init c = (omega arith, mapped_none _ _ c.requires.n_bound.1)
+loop-k-init c = mapped_none _ _ c.told-patterns
 
 pub overflow_mul-at : goal.overflow_mul-at
 overflow_mul-at c = omega (arith, c.requires.by_index c.loop-k.k c.loop-k-test.true)
@@ -20,9 +21,4 @@ pub overflow_cast-patterns : goal.overflow_cast-patterns
 overflow_cast-patterns c = record { fits = c.read2.ensures.1 }
 
 pub loop-k-preserved : goal.loop-k-preserved
-loop-k-preserved c = (omega arith, mapped_more _ c.loop-k.k _ _ _ (omega arith) c.loop-k.invariant.1 c.read2.ensures.0)
-
-pub returns : goal.returns
-returns c =
-    let e : c.loop-k.k ≡ c.args.n = omega arith in
-    rw (← e) c.loop-k.invariant.1
+loop-k-preserved c = mapped_more _ c.loop-k.k _ _ _ (omega arith) c.loop-k.invariant c.read2.ensures.0

@@ -1,4 +1,5 @@
--- The loop's invariant: the elements of the channels passed are read. Its measure: the channels left. Assumes nothing.
+-- The loop's invariant: the elements of the channels passed are read. Assumes nothing.
+use borrow.Author.Rules.{rules}
 use mathlib.Core.Path.{◌≡◌, ap, ◌∙◌}
 use Prim.Native.Nat.{ℕ}
 use native.Mathlib.Omega.{arith}
@@ -7,7 +8,7 @@ use Rattle.paper.specs.Bits.{number_at}
 use Rattle.operands.proofs.floats.float_lines.Goals as goal
 
 pub loop-k-init : goal.loop-k-init
-loop-k-init c = (omega arith, mapped_none _ _ c.requires.2)
+loop-k-init c = mapped_none _ _ c.told-patterns
 
 pub element_at-from-requires : goal.element_at-from-requires
 element_at-from-requires c =
@@ -15,16 +16,9 @@ element_at-from-requires c =
     (p.0, omega arith)
 
 pub read4-requires : goal.read4-requires
-read4-requires c = rw c.element_at-from.ensures.0 (c.requires.3 c.loop-k.k c.loop-k-test.true)
+read4-requires c = rw c.element_at-from.ensures.0 (c.requires.2 c.loop-k.k c.loop-k-test.true)
 
 pub loop-k-preserved : goal.loop-k-preserved
-loop-k-preserved c = (
-  omega arith,
-  mapped_more _ c.loop-k.k _ _ _ (omega arith) c.loop-k.invariant.1
-      (c.read4.ensures.0 ∙ ap (λ (i : ℕ). number_at c.args.registers.now i 4) c.element_at-from.ensures.0, c.read4.ensures.1),
-)
-
-pub returns : goal.returns
-returns c =
-    let e : c.loop-k.k ≡ c.args.n = omega arith in
-    rw (← e) c.loop-k.invariant.1
+loop-k-preserved c =
+    mapped_more _ c.loop-k.k _ _ _ (omega arith) c.loop-k.invariant
+    (c.read4.ensures.0 ∙ ap (λ (i : ℕ). number_at c.args.registers.now i 4) c.element_at-from.ensures.0, c.read4.ensures.1)

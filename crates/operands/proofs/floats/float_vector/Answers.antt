@@ -1,4 +1,4 @@
--- The loop's invariant: the channels passed have their own restricted float. Its measure: the channels left. Assumes nothing.
+-- The loop's invariant: the channels passed have their own restricted float. Assumes nothing.
 use borrow.Author.Rules.{rules}
 use mathlib.Core.Path.{◌≡◌}
 use Prim.Native.Nat.{◌^◌, ◌<◌}
@@ -7,14 +7,9 @@ use Rattle.lanes.specs.Mapped.{mapped_none, mapped_more}
 use Rattle.operands.proofs.floats.float_vector.Goals as goal
 
 pub loop-k-init : goal.loop-k-init
-loop-k-init c = (omega arith, mapped_none _ _ c.requires.1)
+loop-k-init c = mapped_none _ _ c.told-patterns
 
 pub loop-k-preserved : goal.loop-k-preserved
 loop-k-preserved c =
     let fits : c.vector_pattern.result < 2 ^ 32 = search rules in
-    (omega arith, mapped_more _ c.loop-k.k _ _ _ (omega arith) c.loop-k.invariant.1 (c.vector_pattern.ensures, fits))
-
-pub returns : goal.returns
-returns c =
-    let e : c.loop-k.k ≡ c.args.n = omega arith in
-    rw (← e) c.loop-k.invariant.1
+    mapped_more _ c.loop-k.k _ _ _ (omega arith) c.loop-k.invariant (c.vector_pattern.ensures, fits)

@@ -1,4 +1,5 @@
--- The loop's invariant: the channels passed have the number. Its measure: the channels left. Assumes nothing.
+-- The loop's invariant: the channels passed have the number. Assumes nothing.
+use borrow.Author.Rules.{rules}
 use mathlib.Core.Path.{◌≡◌}
 use native.Mathlib.Omega.{arith}
 use Rattle.lanes.specs.Mapped.{mapped_none, mapped_more}
@@ -6,12 +7,7 @@ use mathlib.Core.Path.{refl}
 use Rattle.operands.proofs.spread.spread.Goals as goal
 
 pub loop-k-init : goal.loop-k-init
-loop-k-init c = (omega arith, mapped_none _ _ c.requires.1)
+loop-k-init c = mapped_none _ _ c.told-values
 
 pub loop-k-preserved : goal.loop-k-preserved
-loop-k-preserved c = (omega arith, mapped_more _ c.loop-k.k _ _ _ (omega arith) c.loop-k.invariant.1 refl)
-
-pub returns : goal.returns
-returns c =
-    let e : c.loop-k.k ≡ c.args.n = omega arith in
-    rw (← e) c.loop-k.invariant.1
+loop-k-preserved c = mapped_more _ c.loop-k.k _ _ _ (omega arith) c.loop-k.invariant refl

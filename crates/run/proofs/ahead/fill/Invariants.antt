@@ -8,6 +8,3 @@ use Rattle.run.proofs.ahead.fill.Given as goal
 
 abbrev pub invariant-loop-p : goal.invariant-loop-p
 invariant-loop-p l = (l.p ≤ l.end) × TabledTo (instructions l.dictionary l.kernel) l.table l.p × (length l.table ≡ length l.initial.table)
-
-abbrev pub decreases-loop-p : goal.decreases-loop-p
-decreases-loop-p l = l.end - l.p
