@@ -1,7 +1,6 @@
 // Reading one instruction: of the one instruction whose lines can stand at a byte of the text, the lines are written and held against what stands there. So
 // nothing else is read.
 ghost use Rattle.std.specs.Prelude.{cond, ◌≡◌, ◌≤◌, ◌<◌, eqb, length, drop, get_or};
-ghost use Rattle.paper.specs.Limits.{dictionary_bytes};
 ghost use Rattle.paper.specs.Dictionary.{dictionary_of};
 ghost use Rattle.paper.specs.Text.{hex_from};
 ghost use Rattle.paper.specs.Listing.{word_at, candidate, instr_at};
@@ -17,6 +16,7 @@ use table::regions::FIELDS;
 use text::read::{Found, find, hex_digits};
 use text::write::width;
 use words::bytes::Word;
+use words::limits::DICTIONARY_BYTES;
 
 // The most bytes that an instruction's lines can have, by any place.
 const LINES_BYTES: usize = 86;
