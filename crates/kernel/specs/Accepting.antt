@@ -2,7 +2,7 @@
 use Rattle.std.specs.Prelude.{Bool, true, false, cond, List, ◌≡◌, ℕ, ◌*◌, ◌<◌, ◌≤◌, eqb, leb, length}
 use Rattle.std.proofs.Math.Option.{Option, none, some}
 use Rattle.std.proofs.Math.Path.{refl, ap}
-use Rattle.std.proofs.Common.{sym, ap₂, ◌∙◌, subst, arith, eqb-true, leb-true}
+use Rattle.std.proofs.Common.{sym, ap₂, ◌∙◌, subst, arith, eqb-true, leb-true, eq-eqb, ne_eqb, le-leb}
 use Rattle.paper.specs.Limits.{instruction_limit, dictionary_bytes, kernel_bytes}
 use Rattle.paper.specs.Dictionary.{Dictionary, dictionary_of, in_range}
 use Rattle.paper.specs.Legal.{refusal_of}
@@ -32,6 +32,12 @@ pub right_sizes : (dictionary kernel : List ℕ) → sized dictionary kernel ≡
 right_sizes dictionary kernel e =
     let p = both_true (eqb (length dictionary) dictionary_bytes) (leb (length kernel) kernel_bytes) e in
     record { dictionary-is = eqb-true _ _ p.0; kernel-most = leb-true _ _ p.1 }
+
+pub right_sized : (dictionary kernel : List ℕ) → RightSizes dictionary kernel → sized dictionary kernel ≡ true
+right_sized dictionary kernel s = rw (eq-eqb _ _ s.dictionary-is, le-leb _ _ s.kernel-most)
+
+pub unsized : (dictionary kernel : List ℕ) → (length dictionary ≡ dictionary_bytes → ⊥) → sized dictionary kernel ≡ false
+unsized dictionary kernel h = rw (ne_eqb _ _ h)
 
 -- ---- a parse, and what is then known without its list
 

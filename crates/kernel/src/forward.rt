@@ -1,6 +1,6 @@
 // Do all jumps of a kernel go forward: every target lies after its branch.
 ghost use Rattle.std.specs.Prelude.{◌≡◌, ◌+◌, ◌≤◌, ◌<◌, ltb, length};
-ghost use Rattle.paper.specs.Limits.{dictionary_bytes, kernel_bytes};
+ghost use Rattle.paper.specs.Limits.{kernel_bytes};
 ghost use Rattle.paper.specs.Dictionary.{dictionary_of};
 ghost use Rattle.paper.specs.Jump.{reach, targets_of};
 ghost use Rattle.paper.specs.Forward.{lie_after};
@@ -20,7 +20,7 @@ use distances::branch::{Distances, distances_in};
 use distances::distance::{Distance, reach};
 use words::answer::Answer;
 use words::bytes::Word;
-use words::limits::PLACES;
+use words::limits::{DICTIONARY_BYTES, PLACES};
 
 // The place to which a jump leads lies after place `here`. What lies below place 0 does not.
 fn lies_after(here: u64, target: Option<u64>) -> bool
@@ -58,8 +58,8 @@ fn leads_forward(w: Word, here: u64, size: u64) -> bool
 }
 
 // Every distance of every instruction leads to a place after the instruction itself.
-fn all_forward(dictionary: &[u8], kernel: &[u8]) -> bool
-    requires { (length dictionary.now ≡ dictionary_bytes) × (length kernel.now ≤ kernel_bytes) × Standing (dictionary_of dictionary.now) kernel.now }
+fn all_forward(dictionary: &[u8; DICTIONARY_BYTES], kernel: &[u8]) -> bool
+    requires { (length kernel.now ≤ kernel_bytes) × Standing (dictionary_of dictionary.now) kernel.now }
     ensures { Tells (dictionary_of dictionary.now) kernel.now result }
 {
     let mut from: usize = 0;
@@ -78,15 +78,12 @@ fn all_forward(dictionary: &[u8], kernel: &[u8]) -> bool
 pub fn forward(dictionary: &[u8], kernel: &[u8]) -> Answer
     ensures { answer_is result ≡ forward_call dictionary.now kernel.now }
 {
+    let Some(dictionary) = dictionary.as_array() else {
+        return Answer::Refused(1, 0);
+    };
     let mut marks = [0u8; PLACES];
-    let judged = accept(false, dictionary, kernel, &mut marks);
-    match judged {
-        Said::Good(_) => {
-            if all_forward(dictionary, kernel) {
-                return Answer::Told(0, 1);
-            }
-            Answer::Told(0, 0)
-        }
+    match accept(false, dictionary, kernel, &mut marks) {
+        Said::Good(_) => Answer::Told(0, u64::from(all_forward(dictionary, kernel))),
         Said::Bad(number, offset) => Answer::Refused(number, offset),
     }
 }

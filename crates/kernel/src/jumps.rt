@@ -1,6 +1,6 @@
 // The second pass over a kernel: 12, once all its instructions are known.
 ghost use Rattle.std.specs.Prelude.{◌≡◌, ◌+◌, ◌≤◌, ◌<◌, length};
-ghost use Rattle.paper.specs.Limits.{dictionary_bytes, kernel_bytes};
+ghost use Rattle.paper.specs.Limits.{kernel_bytes};
 ghost use Rattle.paper.specs.Dictionary.{dictionary_of};
 ghost use Rattle.paper.specs.Jump.{reach, targets_of};
 ghost use Rattle.words.specs.Words.{to_word};
@@ -13,7 +13,7 @@ use crate::fetch::word_at;
 use distances::branch::{Distances, distances_in};
 use distances::distance::{Distance, reach};
 use words::bytes::Word;
-use words::limits::PLACES;
+use words::limits::{DICTIONARY_BYTES, PLACES};
 
 // The byte offset of a branch that goes astray, if there is one.
 #[derive(Clone, Copy)]
@@ -69,8 +69,8 @@ pub fn jump_lands(marks: &[u8; PLACES], w: Word, here: u64, size: u64) -> bool
 }
 
 // The first branch, in kernel order, with a distance that leads to no mark.
-pub(crate) fn first_astray(dictionary: &[u8], kernel: &[u8], marks: &[u8; PLACES]) -> Astray
-    requires { (length dictionary.now ≡ dictionary_bytes) × (length kernel.now ≤ kernel_bytes) × Standing (dictionary_of dictionary.now) kernel.now }
+pub(crate) fn first_astray(dictionary: &[u8; DICTIONARY_BYTES], kernel: &[u8], marks: &[u8; PLACES]) -> Astray
+    requires { (length kernel.now ≤ kernel_bytes) × Standing (dictionary_of dictionary.now) kernel.now }
     ensures { FirstOut (dictionary_of dictionary.now) kernel.now (marked marks.now) result }
 {
     let mut from: usize = 0;

@@ -10,7 +10,7 @@ pub loop-from-init : goal.loop-from-init
 loop-from-init c = (search rules, refl, left_start _ _ _)
 
 pub word_at-f-requires : goal.word_at-f-requires
-word_at-f-requires c = (search rules, left_whole _ _ _ _ c.loop-from.invariant.2 c.loop-from-test.true c.requires.2)
+word_at-f-requires c = left_whole _ _ _ _ c.loop-from.invariant.2 c.loop-from-test.true c.requires.1
 
 pub leads_forward-requires : goal.leads_forward-requires
 leads_forward-requires c = (search rules, search rules)
@@ -23,7 +23,7 @@ returns-then-not-leads_forward c =
 pub overflow_add-from : goal.overflow_add-from
 overflow_add-from c =
     let l = c.loop-from in
-    let h = left_whole _ _ _ _ l.invariant.2 c.loop-from-test.true c.requires.2 in
+    let h = left_whole _ _ _ _ l.invariant.2 c.loop-from-test.true c.requires.1 in
     omega (arith, c.word_at-f.ensures.size_is)
 
 pub loop-from-smaller : goal.loop-from-smaller
@@ -36,7 +36,7 @@ loop-from-preserved c =
     let l = c.loop-from in
     let t = c.loop-from-test.true in
     let f = c.word_at-f.ensures in
-    let h = left_whole _ _ _ _ l.invariant.2 t c.requires.2 in
+    let h = left_whole _ _ _ _ l.invariant.2 t c.requires.1 in
     (omega (arith, f.size_is), omega arith, ahead_on _ _ _ l.invariant.2 t _ _ f (sym c.leads_forward.ensures ∙ c.if-not-leads_forward.false))
 
 pub returns : goal.returns
