@@ -6,7 +6,8 @@ ghost use Rattle.kernel.specs.Judging.{forms_is};
 ghost use Rattle.kernel.specs.Marks.{Says};
 ghost use Rattle.kernel.specs.Accepting.{RightSizes};
 
-use crate::jumps::{Astray, first_astray};
+use crate::instructions::Instructions;
+use crate::jumps::first_astray;
 use crate::walk::{Said, walk};
 use short::dictionary::in_range;
 use table::regions::region_table;
@@ -38,8 +39,8 @@ pub fn accept(long: bool, dictionary: &[u8], kernel: &[u8], marks: &mut [u8; PLA
     let Said::Good(count) = walked else {
         return walked;
     };
-    match first_astray(dictionary, kernel, marks) {
-        Astray::Nowhere => Said::Good(count),
-        Astray::Branch(offset) => Said::Bad(12, offset),
+    match first_astray(Instructions::of(dictionary, kernel), marks) {
+        None => Said::Good(count),
+        Some(offset) => Said::Bad(12, offset),
     }
 }

@@ -36,7 +36,12 @@ fn judge_word(regions: &[u8; FIELDS], size: u8, w: Word) -> Judged
 }
 
 // 4, 5, then 6 to 11, of a short word.
-fn judge_short(regions: &[u8; FIELDS], long: bool, dictionary: &[u8; DICTIONARY_BYTES], s: u64) -> Judged
+fn judge_short(
+    regions: &[u8; FIELDS],
+    long: bool,
+    dictionary: &[u8; DICTIONARY_BYTES],
+    s: u64,
+) -> Judged
     requires { regions.now ≡ region_table }
     ensures { judged_is result ≡ judge_short (forms_is long) (dictionary_of dictionary.now) s }
 {
