@@ -45,8 +45,8 @@ fn point_bytes(spot: Spot) -> [u8; 8]
     ensures { result ≡ point_bytes (spot_is spot) }
 {
     let mut bytes = [0u8; 8];
-    write4(&mut bytes, 0, u64::from(spot.x));
-    write4(&mut bytes, 4, u64::from(spot.y));
+    write::<4>(&mut bytes, 0, u64::from(spot.x));
+    write::<4>(&mut bytes, 4, u64::from(spot.y));
     bytes
 }
 
