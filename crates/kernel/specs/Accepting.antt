@@ -1,4 +1,5 @@
 -- An accepted kernel: how the code comes to accept or refuse, and what is then known. Assumes nothing.
+use Rattle.std.specs.Prelude as std
 use Rattle.std.specs.Prelude.{Ok, Err, Bool, true, false, cond, List, ◌≡◌, ℕ, ◌*◌, ◌<◌, ◌≤◌, eqb, leb, length}
 use Rattle.std.proofs.Math.Option.{Option, none, some}
 use Rattle.std.proofs.Math.Path.{refl, ap}
@@ -17,11 +18,10 @@ use Rattle.words.specs.declared.refusal.Refusal.TheVariants.{WrongSize, WideDict
 use Rattle.words.specs.declared.answer.Refused.{Refused}
 use Rattle.words.specs.Refusals.{number}
 use Rattle.words.specs.Answer.{refused_at}
-use Rattle.kernel.specs.declared.jumps.Astray.{Astray}
-use Rattle.kernel.specs.declared.jumps.Astray.TheVariants.{Nowhere, Branch}
-use Rattle.kernel.specs.Standing.{size_at, word_at, Whole, Fetches, fits, Stands, Standing, walk-stands, stands-fetch}
+use Rattle.kernel.specs.Standing.{size_at, word_at, Whole, Fetches, fits, Stands, walk-stands, stands-fetch}
+use Rattle.kernel.specs.Reading.{filled, instrs_from, stands_filled, stands_read}
 use Rattle.kernel.specs.Marks.{Said, marked, Says, says_bad, says_refused, Accepts, says_accepted}
-use Rattle.kernel.specs.Jumps.{instr_of, FirstOut, astray_is, out_astray}
+use Rattle.kernel.specs.Jumps.{instr_of, first_out, astray_is, out_astray}
 use Rattle.laws.specs.Truth.{both_true}
 
 -- ---- 1
@@ -48,11 +48,11 @@ pub parse-stands : (forms : Forms) (dictionary kernel : List ℕ) (k : List Inst
 unfolding parse
 parse-stands forms dictionary kernel k e = walk-stands forms (dictionary_of dictionary) kernel instruction_limit 0 (omega arith) k e
 
-pub parse_standing : (forms : Forms) (dictionary kernel marks : List ℕ) (r : Said) → Says (parse forms (dictionary_of dictionary) kernel) r marks
-    → (count : ℕ) → r ≡ Ok count → Standing (dictionary_of dictionary) kernel
-parse_standing forms dictionary kernel marks r s count e =
+pub parse_filled : (forms : Forms) (dictionary kernel marks : List ℕ) (r : Said) → Says (parse forms (dictionary_of dictionary) kernel) r marks
+    → (count : ℕ) → r ≡ Ok count → filled kernel 0 ≡ true
+parse_filled forms dictionary kernel marks r s count e =
     let a = says_accepted (parse forms (dictionary_of dictionary) kernel) r marks s count e in
-    record { forms = forms; instrs = a.instrs; stands = parse-stands forms dictionary kernel a.instrs a.judged }
+    stands_filled (dictionary_of dictionary) kernel forms a.instrs (parse-stands forms dictionary kernel a.instrs a.judged)
 
 -- ---- the answers, in the code's order
 
@@ -83,7 +83,8 @@ module _ (forms : Forms) (dictionary kernel marks : List ℕ) where
             let q = (says_refused (parse forms (dictionary_of dictionary) kernel) walked marks says f e).0 in
             says_as (bad (number f.refusal) f.offset) walked (accepted-parse ∙ ap with_jumps q) (rw q at says)
 
-        module _ (count : ℕ) (told : walked ≡ Ok count) (o : Astray) (out : FirstOut (dictionary_of dictionary) kernel (marked marks) o) where
+        module _ (count : ℕ) (told : walked ≡ Ok count) (o : std.Option ℕ)
+            (out : astray_is o ≡ first_out (marked marks) (instrs_from (dictionary_of dictionary) kernel 0)) where
           abbrev walks : Accepts (parse forms (dictionary_of dictionary) kernel) marks
           walks = says_accepted (parse forms (dictionary_of dictionary) kernel) walked marks says count told
 
@@ -93,18 +94,18 @@ module _ (forms : Forms) (dictionary kernel marks : List ℕ) where
           jumped =
               let k = walks.instrs in
               accepted-parse ∙ ap with_jumps walks.judged
-              ∙ ap (astray k) (sym (out forms k (parse-stands forms dictionary kernel k walks.judged) ∙ out_astray (marked marks) k walks.land k))
+              ∙ ap (astray k) (sym (out ∙ ap (first_out (marked marks)) (stands_read (dictionary_of dictionary) kernel forms k (parse-stands forms dictionary kernel k walks.judged)) ∙ out_astray (marked marks) k walks.land k))
 
           -- No jump goes astray.
-          pub accept_good : o ≡ Nowhere → Says (accepted forms dictionary kernel) (Ok count) marks
+          pub accept_good : o ≡ std.None → Says (accepted forms dictionary kernel) (Ok count) marks
           accept_good e =
-              says_as (good walks.instrs) (Ok count) (jumped ∙ ap (λ (o : Astray). astray walks.instrs (astray_is o)) e)
+              says_as (good walks.instrs) (Ok count) (jumped ∙ ap (λ (o : std.Option ℕ). astray walks.instrs (astray_is o)) e)
               (subst (λ (r : Said). Says (good walks.instrs) r marks) told (rw walks.judged at says))
 
           -- One does.
-          pub accept_astray : (offset : ℕ) → o ≡ Branch offset → Says (accepted forms dictionary kernel) (Err (refused_at StrayJump offset)) marks
+          pub accept_astray : (offset : ℕ) → o ≡ std.Some offset → Says (accepted forms dictionary kernel) (Err (refused_at StrayJump offset)) marks
           accept_astray offset e =
-              says_as (bad 12 offset) (Err (refused_at StrayJump offset)) (jumped ∙ ap (λ (o : Astray). astray walks.instrs (astray_is o)) e) (says_bad StrayJump offset marks)
+              says_as (bad 12 offset) (Err (refused_at StrayJump offset)) (jumped ∙ ap (λ (o : std.Option ℕ). astray walks.instrs (astray_is o)) e) (says_bad StrayJump offset marks)
 
 -- ---- what is known of an accepted kernel
 

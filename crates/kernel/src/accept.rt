@@ -6,7 +6,8 @@ ghost use Rattle.kernel.specs.Judging.{forms_is};
 ghost use Rattle.kernel.specs.Marks.{Says};
 ghost use Rattle.kernel.specs.Accepting.{RightSizes};
 
-use crate::jumps::{Astray, first_astray};
+use crate::instructions::Instructions;
+use crate::jumps::first_astray;
 use crate::walk::walk;
 use short::dictionary::in_range;
 use table::regions::region_table;
@@ -42,8 +43,8 @@ pub fn accept(
     }
     let regions = region_table();
     let count = walk(&regions, long, dictionary, kernel, marks)?;
-    match first_astray(dictionary, kernel, marks) {
-        Astray::Nowhere => Ok(count),
-        Astray::Branch(offset) => Err(Refusal::StrayJump.at(offset)),
+    match first_astray(Instructions::of(dictionary, kernel), marks) {
+        None => Ok(count),
+        Some(offset) => Err(Refusal::StrayJump.at(offset)),
     }
 }

@@ -8,7 +8,7 @@ ghost use Rattle.placement.specs.Spots.{record_is, spot_is, point_at, loaded_fro
 use crate::Placement;
 use crate::fixed::KERNEL;
 use crate::patterns::{Record, Spot, answer_spot, load};
-use numbers::write4;
+use numbers::write;
 use short::calls::deliver;
 use text::write::put_text;
 use words::answer::Answer;
@@ -45,8 +45,8 @@ fn point_bytes(spot: Spot) -> [u8; 8]
     ensures { result ≡ point_bytes (spot_is spot) }
 {
     let mut bytes = [0u8; 8];
-    write4(&mut bytes, 0, u64::from(spot.x));
-    write4(&mut bytes, 4, u64::from(spot.y));
+    write::<4>(&mut bytes, 0, u64::from(spot.x));
+    write::<4>(&mut bytes, 4, u64::from(spot.y));
     bytes
 }
 
@@ -97,12 +97,12 @@ fn bytes_of(k: Record) -> [u8; 24]
     ensures { result ≡ six_bytes k }
 {
     let mut bytes = [0u8; 24];
-    write4(&mut bytes, 0, k.a as u64);
-    write4(&mut bytes, 4, k.b as u64);
-    write4(&mut bytes, 8, k.c as u64);
-    write4(&mut bytes, 12, k.d as u64);
-    write4(&mut bytes, 16, k.e as u64);
-    write4(&mut bytes, 20, k.f as u64);
+    write::<4>(&mut bytes, 0, k.a as u64);
+    write::<4>(&mut bytes, 4, k.b as u64);
+    write::<4>(&mut bytes, 8, k.c as u64);
+    write::<4>(&mut bytes, 12, k.d as u64);
+    write::<4>(&mut bytes, 16, k.e as u64);
+    write::<4>(&mut bytes, 20, k.f as u64);
     bytes
 }
 

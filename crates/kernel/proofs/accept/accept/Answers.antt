@@ -1,8 +1,10 @@
 -- The tests are the definition's, in its order; the walk's marks are the places that land, so the first branch that leads to none is the paper's.
 -- Assumes nothing.
-use mathlib.Core.Path.{sym, ◌∙◌}
+use mathlib.Core.Path.{sym, ap, ◌∙◌}
 use Rattle.std.proofs.lemmas.Result.{err_from_is_err_and}
-use Rattle.kernel.specs.Accepting.{parse_standing, accept_size, accept_range, accept_refused, accept_good, accept_astray, right_sized}
+use Rattle.kernel.specs.Marks.{marked}
+use Rattle.kernel.specs.Jumps.{first_out}
+use Rattle.kernel.specs.Accepting.{parse_filled, accept_size, accept_range, accept_refused, accept_good, accept_astray, right_sized}
 use Rattle.kernel.proofs.accept.accept.Goals as goal
 
 pub returns-in_default : goal.returns-in_default
@@ -23,17 +25,17 @@ returns-in_err-count c =
     let p = err_from_is_err_and c.from_residual.result c.from_residual.ensures.1 in
     rw (p.1, p.2, ← c.in_err-count.was, ← s.0) (accept_refused _ _ _ _ (right_sized _ _ s.1) d _ c.walk.ensures _ c.in_err-count.was)
 
-pub first_astray-requires : goal.first_astray-requires
-first_astray-requires c = (c.in-Some.ensures.1.kernel-most, parse_standing _ _ _ _ _ c.walk.ensures _ c.in_ok-count.was)
+pub of-requires : goal.of-requires
+of-requires c = record { bounded = c.in-Some.ensures.1.kernel-most; whole = parse_filled _ _ _ _ _ c.walk.ensures _ c.in_ok-count.was }
 
-pub returns-in-Nowhere : goal.returns-in-Nowhere
-returns-in-Nowhere c =
+pub returns-in-None : goal.returns-in-None
+returns-in-None c =
     let s = c.in-Some.ensures in
     let d = sym c.in_range.ensures ∙ c.if-not-in_range.false in
-    rw (← s.0) (accept_good _ _ _ _ (right_sized _ _ s.1) d _ c.walk.ensures _ c.in_ok-count.was _ c.first_astray.ensures c.in-Nowhere.is)
+    rw (← s.0) (accept_good _ _ _ _ (right_sized _ _ s.1) d _ c.walk.ensures _ c.in_ok-count.was _ (c.first_astray.ensures ∙ ap (first_out (marked _)) c.of.ensures) c.in-None.is)
 
-pub returns-in-Branch : goal.returns-in-Branch
-returns-in-Branch c =
+pub returns-in-Some-first_astray : goal.returns-in-Some-first_astray
+returns-in-Some-first_astray c =
     let s = c.in-Some.ensures in
     let d = sym c.in_range.ensures ∙ c.if-not-in_range.false in
-    rw (c.at.ensures, ← s.0) (accept_astray _ _ _ _ (right_sized _ _ s.1) d _ c.walk.ensures _ c.in_ok-count.was _ c.first_astray.ensures _ c.in-Branch.is)
+    rw (c.at.ensures, ← s.0) (accept_astray _ _ _ _ (right_sized _ _ s.1) d _ c.walk.ensures _ c.in_ok-count.was _ (c.first_astray.ensures ∙ ap (first_out (marked _)) c.of.ensures) _ c.in-Some-first_astray.is)

@@ -1,12 +1,13 @@
 -- What check refuses is refused; of what it accepts the second pass tells. Assumes nothing.
 use mathlib.Core.Bool.{Bool, true, false}
-use mathlib.Core.Path.{◌≡◌, refl}
+use mathlib.Core.Path.{◌≡◌, refl, ap, ◌∙◌}
+use Rattle.paper.specs.Forward.{forward}
 use mir.Val.{bool_byte}
 use Rattle.std.proofs.lemmas.Result.{err_from_is_err_and}
 use Rattle.paper.specs.Enable.{digit}
 use Rattle.paper.specs.Kernel.{long_and_short}
 use Rattle.kernel.specs.Accepting.{accept_size, unsized}
-use Rattle.kernel.specs.Forward.{forward_refused, forward_kernel, forward_standing, forward_told}
+use Rattle.kernel.specs.Forward.{forward_refused, forward_kernel, forward_filled, forward_told}
 use Rattle.kernel.proofs.forward.forward.Goals as goal
 
 as_digit : (b : Bool) → bool_byte b ≡ digit b
@@ -21,12 +22,12 @@ returns-in_err-accept c =
     let p = err_from_is_err_and c.from_residual.result c.from_residual.ensures.1 in
     rw (p.1, p.2, ← c.in-Some.ensures.cases.same) (forward_refused _ _ _ _ c.accept.ensures _ c.in_err-accept.was)
 
-pub all_forward-requires : goal.all_forward-requires
-all_forward-requires c =
+pub of-requires : goal.of-requires
+of-requires c =
     let k = forward_kernel _ _ _ _ c.accept.ensures _ c.in_ok-accept.was in
-    (k.sizes.kernel-most, forward_standing _ _ _ _ c.accept.ensures _ c.in_ok-accept.was)
+    record { bounded = k.sizes.kernel-most; whole = forward_filled _ _ _ _ c.accept.ensures _ c.in_ok-accept.was }
 
 pub returns : goal.returns
 returns c =
     rw (c.accepted.ensures, ← c.in-Some.ensures.cases.same, c.from.ensures, as_digit)
-    (forward_told _ _ _ _ c.accept.ensures _ c.in_ok-accept.was c.all_forward.result c.all_forward.result c.all_forward.ensures refl)
+    (forward_told _ _ _ _ c.accept.ensures _ c.in_ok-accept.was c.all_forward.result c.all_forward.result (c.all_forward.ensures ∙ ap forward c.of.ensures) refl)
