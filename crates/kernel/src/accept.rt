@@ -10,7 +10,7 @@ use crate::instructions::Instructions;
 use crate::jumps::first_astray;
 use crate::walk::walk;
 use short::dictionary::in_range;
-use table::regions::region_table;
+use table::regions::Regions;
 use words::answer::Refused;
 use words::limits::{DICTIONARY_BYTES, KERNEL_BYTES, PLACES};
 use words::refusal::Refusal;
@@ -41,7 +41,7 @@ pub fn accept(
     if !in_range(dictionary) {
         return Err(Refusal::WideDictionary.into());
     }
-    let regions = region_table();
+    let regions = Regions::new();
     let count = walk(&regions, long, dictionary, kernel, marks)?;
     match first_astray(Instructions::of(dictionary, kernel), marks) {
         None => Ok(count),

@@ -9,7 +9,7 @@ use crate::accept::sized;
 use crate::fetch::Fetched;
 use crate::instruction::judge_at;
 use short::dictionary::in_range;
-use table::regions::region_table;
+use table::regions::Regions;
 use words::answer::{Answer, Refused, accepted};
 use words::limits::PLACES;
 use words::refusal::Refusal;
@@ -40,7 +40,7 @@ pub fn decode(dictionary: &[u8], kernel: &[u8], place: u64) -> Result<Fetched, R
         return Err(Refusal::CutShort.into());
     }
     let from = 8 * (place as usize);
-    let regions = region_table();
+    let regions = Regions::new();
     match judge_at(&regions, false, dictionary, kernel, from) {
         Err(refusal) => Err(refusal.at(from as u64)),
         Ok(f) => Ok(f),

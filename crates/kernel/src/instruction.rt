@@ -3,13 +3,12 @@ ghost use Rattle.std.specs.Prelude.{◌≡◌, ◌≤◌, length};
 ghost use Rattle.paper.specs.Dictionary.{dictionary_of};
 ghost use Rattle.paper.specs.Kernel.{judge_word, judge_short, judge_long, judge_at};
 ghost use Rattle.words.specs.Words.{to_word};
-ghost use Rattle.table.specs.Entries.{region_table};
 ghost use Rattle.kernel.specs.Judging.{judged_is, forms_is};
 
 use crate::fetch::Fetched;
 use judge::refusal::judge;
 use short::expand::expand;
-use table::regions::FIELDS;
+use table::regions::Regions;
 use words::bytes::{Word, read8, read16};
 use words::fields::{is_short, operation, operation_in};
 use words::limits::DICTIONARY_BYTES;
@@ -19,8 +18,7 @@ use words::refusal::Refusal;
 // Where a parameter `long` is true, only long words are taken. A parameter `regions` is the table of what source fields allow.
 
 // 6 to 11 of an expanded word.
-fn judge_word(regions: &[u8; FIELDS], size: u64, w: Word) -> Result<Fetched, Refusal>
-    requires { regions.now ≡ region_table }
+fn judge_word(regions: &Regions, size: u64, w: Word) -> Result<Fetched, Refusal>
     ensures { judged_is result ≡ judge_word size (to_word w) }
 {
     judge(regions, w)?;
@@ -29,12 +27,11 @@ fn judge_word(regions: &[u8; FIELDS], size: u64, w: Word) -> Result<Fetched, Ref
 
 // 4, 5, then 6 to 11, of a short word.
 fn judge_short(
-    regions: &[u8; FIELDS],
+    regions: &Regions,
     long: bool,
     dictionary: &[u8; DICTIONARY_BYTES],
     s: u64,
 ) -> Result<Fetched, Refusal>
-    requires { regions.now ≡ region_table }
     ensures { judged_is result ≡ judge_short (forms_is long) (dictionary_of dictionary.now) s }
 {
     if !is_listed(operation_in(s)) {
@@ -51,8 +48,7 @@ fn judge_short(
 }
 
 // 4, then 6 to 11, of a long word.
-fn judge_long(regions: &[u8; FIELDS], w: Word) -> Result<Fetched, Refusal>
-    requires { regions.now ≡ region_table }
+fn judge_long(regions: &Regions, w: Word) -> Result<Fetched, Refusal>
     ensures { judged_is result ≡ judge_long (to_word w) }
 {
     if !is_listed(operation(w)) {
@@ -63,13 +59,13 @@ fn judge_long(regions: &[u8; FIELDS], w: Word) -> Result<Fetched, Refusal>
 
 // 3 to 11 of the instruction that starts at byte `from`.
 pub(crate) fn judge_at(
-    regions: &[u8; FIELDS],
+    regions: &Regions,
     long: bool,
     dictionary: &[u8; DICTIONARY_BYTES],
     kernel: &[u8],
     from: usize,
 ) -> Result<Fetched, Refusal>
-    requires { (regions.now ≡ region_table) × (from ≤ length kernel.now) }
+    requires { from ≤ length kernel.now }
     ensures { judged_is result ≡ judge_at (forms_is long) (dictionary_of dictionary.now) kernel.now from }
 {
     let left = kernel.len() - from;

@@ -16,7 +16,7 @@ returns-then-not-in_range c =
     rw (c.into-then-not-in_range.ensures, ← s.0) (accept_range _ _ _ _ (right_sized _ _ s.1) (sym c.in_range.ensures ∙ c.if-not-in_range.true))
 
 pub walk-requires : goal.walk-requires
-walk-requires c = (c.region_table-regions.ensures, c.in-Some.ensures.1.kernel-most)
+walk-requires c = c.in-Some.ensures.1.kernel-most
 
 pub returns-in_err-count : goal.returns-in_err-count
 returns-in_err-count c =

@@ -40,7 +40,7 @@ judge_at-requires c =
     let a = c.args in
     let s = c.in-Some.ensures.1 in
     let h : 8 * a.place < length a.kernel.now = ltb-true _ _ (sym c.lies_inside.ensures ∙ c.if-not-lies_inside.false) in
-    (c.region_table-regions.ensures, omega arith)
+    omega arith
 
 pub returns-in-Err : goal.returns-in-Err
 returns-in-Err c =

@@ -22,12 +22,12 @@ returns-in_err-accept c =
     let p = err_from_is_err_and c.from_residual.result c.from_residual.ensures.1 in
     rw (p.1, p.2, ← c.in-Some.ensures.cases.same) (forward_refused _ _ _ _ c.accept.ensures _ c.in_err-accept.was)
 
-pub of-requires : goal.of-requires
-of-requires c =
+pub of-all-requires : goal.of-all-requires
+of-all-requires c =
     let k = forward_kernel _ _ _ _ c.accept.ensures _ c.in_ok-accept.was in
     record { bounded = k.sizes.kernel-most; whole = forward_filled _ _ _ _ c.accept.ensures _ c.in_ok-accept.was }
 
 pub returns : goal.returns
 returns c =
     rw (c.accepted.ensures, ← c.in-Some.ensures.cases.same, c.from.ensures, as_digit)
-    (forward_told _ _ _ _ c.accept.ensures _ c.in_ok-accept.was c.all_forward.result c.all_forward.result (c.all_forward.ensures ∙ ap forward c.of.ensures) refl)
+    (forward_told _ _ _ _ c.accept.ensures _ c.in_ok-accept.was c.all_forward.result c.all_forward.result (c.all_forward.ensures ∙ ap forward c.of-all.ensures) refl)
