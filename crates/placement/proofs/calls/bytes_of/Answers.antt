@@ -5,4 +5,6 @@ use Rattle.placement.proofs.calls.bytes_of.Goals as goal
 
 pub returns : goal.returns
 unfolding six_bytes
-returns c = six_stored _ _ _ _ _ _ _ _ _ _ _ _ c.write.ensures c.write-2.ensures c.write-3.ensures c.write-4.ensures c.write-5.ensures c.write-6.ensures
+returns c =
+    rw (c.from.ensures, c.from-2.ensures, c.from-3.ensures, c.from-4.ensures, c.from-5.ensures, c.from-6.ensures) at
+    (six_stored _ _ _ _ _ _ _ _ _ _ _ _ c.write.ensures c.write-2.ensures c.write-3.ensures c.write-4.ensures c.write-5.ensures c.write-6.ensures)
