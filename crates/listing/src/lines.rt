@@ -1,7 +1,6 @@
 // Reading one instruction: of the one instruction whose lines can stand at a byte of the text, the lines are written and held against what stands there. So
 // nothing else is read.
 ghost use Rattle.std.specs.Prelude.{cond, ◌≡◌, ◌≤◌, ◌<◌, eqb, length, drop, get_or};
-ghost use Rattle.paper.specs.Limits.{dictionary_bytes};
 ghost use Rattle.paper.specs.Dictionary.{dictionary_of};
 ghost use Rattle.paper.specs.Text.{hex_from};
 ghost use Rattle.paper.specs.Listing.{word_at, candidate, instr_at};
@@ -17,6 +16,7 @@ use table::regions::FIELDS;
 use text::read::{find, hex_digits};
 use text::write::width;
 use words::bytes::Word;
+use words::limits::DICTIONARY_BYTES;
 
 // The most bytes that an instruction's lines can have, by any place.
 const LINES_BYTES: usize = 86;
@@ -77,12 +77,12 @@ pub(crate) fn candidate(text: &[u8], place: u64, from: usize) -> Fetched
 // The instruction at a place whose six lines begin at a byte, if it can be read, and the byte after its lines. The table of what source fields allow is lent.
 pub(crate) fn lines_at(
     regions: &[u8; FIELDS],
-    dictionary: &[u8],
+    dictionary: &[u8; DICTIONARY_BYTES],
     text: &[u8],
     place: u64,
     from: usize,
 ) -> Option<(Fetched, usize)>
-    requires { (regions.now ≡ region_table) × (length dictionary.now ≡ dictionary_bytes) × (from ≤ length text.now) }
+    requires { (regions.now ≡ region_table) × (from ≤ length text.now) }
     ensures { LinesAt (instr_at (dictionary_of dictionary.now) text.now place from) place from result }
 {
     let instruction = candidate(text, place, from);

@@ -29,13 +29,13 @@ module _ (order : ℕ) (bytes : List ℕ) (at : Point) (out : List ℕ) where
   pub place_answer : length bytes ≡ record_bytes → order < 3
       → (p : Placement) → p ≡ placement_of bytes
       → (to : Point) → to ≡ answered (order_of order p) at
-      → (stored : List ℕ) → stored ≡ point_bytes to
-      → place_call order bytes at out ≡ deliver stored out
+      → (told : List ℕ) → told ≡ point_bytes to
+      → place_call order bytes at out ≡ deliver told out
   unfolding place_call
-  place_answer h k p ep to et stored eb =
+  place_answer h k p ep to et told e =
       rw (eq-eqb (length bytes) record_bytes h, lt-ltb order 3 k)
       (ap (λ (l : List ℕ). deliver l out)
-      (ap (λ (q : Placement). point_bytes (answered (order_of order q) at)) (sym ep) ∙ ap point_bytes (sym et) ∙ sym eb))
+      (ap (λ (q : Placement). point_bytes (answered (order_of order q) at)) (sym ep) ∙ ap point_bytes (sym et) ∙ sym e))
 
 -- ---- loading
 

@@ -26,9 +26,6 @@ loop-n-preserved c =
       rw (add-one n) (e ∙ ap (λ (x : List ℕ). put_at x (10 + 2 * n) 2 (get_or a.places.now n 0)) l.invariant.2),
     )
 
-pub shape_of-bytes : goal.shape_of-bytes
-shape_of-bytes c = c.loop-n.invariant.1
-
 pub returns : goal.returns
 returns c =
     let e : c.loop-n.n ≡ 16 = omega arith in

@@ -1,8 +1,9 @@
--- The second number's bytes are stored where the first one's end. Assumes nothing.
+-- The second number's bytes are stored where the first's end. Assumes nothing.
+use mathlib.Core.Path.{refl}
+use Rattle.paper.specs.Bits.{bytes_of, put_at}
 use Rattle.paper.specs.Placing.{point_bytes}
-use Rattle.placement.proofs.Sixed.{two_stored}
 use Rattle.placement.proofs.calls.point_bytes.Goals as goal
 
 pub returns : goal.returns
-unfolding point_bytes
-returns c = rw (c.from.ensures, c.from-2.ensures) at (two_stored _ _ _ _ c.write.ensures c.write-2.ensures)
+unfolding point_bytes bytes_of put_at
+returns c = rw (c.write-2.ensures, c.write.ensures, c.from-2.ensures, c.from.ensures) refl
