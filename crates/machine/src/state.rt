@@ -8,7 +8,7 @@ ghost use Rattle.machine.specs.States.{state_is, SaneState, places_put};
 use crate::channels::Channels;
 use lanes::flags::Flags;
 use lanes::mask::bit;
-use words::bytes::{read2, write2};
+use words::bytes::{read2, write};
 use words::limits::STATE_LENGTH;
 
 // Flags, channels, and the place at which the next step is made. Registers are lent beside it, and a0's bytes stay where they are lent.
@@ -93,7 +93,7 @@ fn write_places(bytes: &mut [u8; STATE_LENGTH], places: &[u64; 16])
     ensures { bytes.new ≡ places_put bytes.old places.now 16 }
 {
     for n in 0..16 {
-        write2(bytes, 10 + 2 * n, places[n]);
+        write::<2>(bytes, 10 + 2 * n, places[n]);
     }
 }
 
@@ -102,10 +102,10 @@ pub(crate) fn write_state(bytes: &mut [u8; STATE_LENGTH], s: State)
     requires { Sane s.channels }
     ensures { (registers : List ℕ) → bytes.new ≡ state_bytes (state_is registers (addresses_in bytes.old) s) }
 {
-    write2(bytes, 0, s.flags.flag0);
-    write2(bytes, 2, s.flags.flag1);
-    write2(bytes, 4, s.place);
-    write2(bytes, 6, u64::from(s.channels.awake));
-    write2(bytes, 8, u64::from(s.channels.waiting));
+    write::<2>(bytes, 0, s.flags.flag0);
+    write::<2>(bytes, 2, s.flags.flag1);
+    write::<2>(bytes, 4, s.place);
+    write::<2>(bytes, 6, u64::from(s.channels.awake));
+    write::<2>(bytes, 8, u64::from(s.channels.waiting));
     write_places(bytes, &s.channels.places);
 }

@@ -32,35 +32,13 @@ module _ (order : ℕ) (bytes : List ℕ) (at : Point) (out : List ℕ) where
   pub place_answer : length bytes ≡ record_bytes → order < 3
       → (p : Placement) → p ≡ placement_of bytes
       → (to : Point) → to ≡ answered (order_of order p) at
-      → (both : ℕ) → bytes_of 8 both ≡ point_bytes to
-      → place_call order bytes at out ≡ deliver (bytes_of 8 both) out
+      → (answer : List ℕ) → answer ≡ point_bytes to
+      → place_call order bytes at out ≡ deliver answer out
   unfolding place_call
-  place_answer h k p ep to et both eb =
+  place_answer h k p ep to et answer ea =
       rw (eq-eqb (length bytes) record_bytes h, lt-ltb order 3 k)
       (ap (λ (l : List ℕ). deliver l out)
-      (ap (λ (q : Placement). point_bytes (answered (order_of order q) at)) (sym ep) ∙ ap point_bytes (sym et) ∙ sym eb))
-
--- ---- the fixed kernel
-
-kernel_length : length place_kernel ≡ 128
-unfolding place_kernel long op to from0 from1 bytes_of
-kernel_length = refl
-
-module _ (out : List ℕ) where
-  pub kernel_refused : length out < 128 → place_kernel_call out ≡ kept (refusal 14 0) out
-  unfolding place_kernel_call deliver
-  kernel_refused h = rw (lt-ltb (length out) (length place_kernel) (omega (arith, kernel_length)))
-
-  pub kernel_given : (kernel after : List ℕ) (end : ℕ) → 128 ≤ length out → kernel ≡ place_kernel → end ≡ 0 + length kernel → after ≡ sets out 0 kernel
-      → (verdict 0 end ≡ (place_kernel_call out).answer) × (after ≡ (place_kernel_call out).output)
-  unfolding place_kernel_call deliver
-  kernel_given kernel after end h ek ee ea =
-      let n : end ≡ length place_kernel = omega (arith, ee, ap length ek) in
-      rw (le-ltb (length out) (length place_kernel) (omega (arith, kernel_length))) (
-        ap (verdict 0) n,
-        ea ∙ ap (sets out 0) ek ∙ sets-eq place_kernel out 0 (omega (arith, kernel_length))
-            ∙ ap (λ (n : ℕ). place_kernel ++ drop n out) (let e : 0 + length place_kernel ≡ length place_kernel = omega arith in e),
-      )
+      (ap (λ (q : Placement). point_bytes (answered (order_of order q) at)) (sym ep) ∙ ap point_bytes (sym et) ∙ sym ea))
 
 -- ---- loading
 

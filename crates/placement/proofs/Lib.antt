@@ -1,4 +1,3 @@
 mod Calling
-mod Joined
 mod Sixed
 mod SameBits

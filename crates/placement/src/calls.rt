@@ -8,8 +8,8 @@ ghost use Rattle.placement.specs.Spots.{record_is, spot_is, point_at, loaded_fro
 use crate::Placement;
 use crate::fixed::KERNEL;
 use crate::patterns::{Record, Spot, answer_spot, load};
-use numbers::write4;
-use short::calls::deliver8;
+use numbers::write;
+use short::calls::deliver;
 use text::write::put_text;
 use words::answer::Answer;
 use words::bytes::read4;
@@ -40,11 +40,14 @@ fn record_of(bytes: &[u8]) -> Record
     Record { a, b, c, d, e, f }
 }
 
-// Two patterns as one number, whose bytes are theirs.
-fn joined(x: u32, y: u32) -> u64
-    ensures { bytes_of 8 result ≡ point_bytes (point_at x y) }
+// The bytes of two patterns.
+fn point_bytes(spot: Spot) -> [u8; 8]
+    ensures { result ≡ point_bytes (spot_is spot) }
 {
-    x as u64 + 4294967296 * (y as u64)
+    let mut bytes = [0u8; 8];
+    write::<4>(&mut bytes, 0, u64::from(spot.x));
+    write::<4>(&mut bytes, 4, u64::from(spot.y));
+    bytes
 }
 
 // Answers an order: the bytes of two patterns.
@@ -58,9 +61,7 @@ pub fn place(order: u64, bytes: &[u8], x: u32, y: u32, out: &mut [u8]) -> Answer
         return Answer::Refused(7, 0);
     }
     let k = record_of(bytes);
-    let r = answer_spot(order, k, Spot { x, y });
-    let both = joined(r.x, r.y);
-    deliver8(out, both)
+    deliver(out, &point_bytes(answer_spot(order, k, Spot { x, y })))
 }
 
 // The fixed kernel.
@@ -74,12 +75,7 @@ fn kernel_bytes() -> [u8; 128]
 pub fn place_kernel(out: &mut [u8]) -> Answer
     ensures { Wrote (place_kernel_call out.old) result out.new }
 {
-    if out.len() < 128 {
-        return Answer::Refused(14, 0);
-    }
-    let kernel = kernel_bytes();
-    let end = put_text(out, 0, &kernel);
-    Answer::Told(0, end as u64)
+    deliver(out, &kernel_bytes())
 }
 
 // Puts a record where the fixed kernel finds it, in r6 from its first byte.
@@ -101,12 +97,12 @@ fn bytes_of(k: Record) -> [u8; 24]
     ensures { result ≡ six_bytes k }
 {
     let mut bytes = [0u8; 24];
-    write4(&mut bytes, 0, k.a as u64);
-    write4(&mut bytes, 4, k.b as u64);
-    write4(&mut bytes, 8, k.c as u64);
-    write4(&mut bytes, 12, k.d as u64);
-    write4(&mut bytes, 16, k.e as u64);
-    write4(&mut bytes, 20, k.f as u64);
+    write::<4>(&mut bytes, 0, k.a as u64);
+    write::<4>(&mut bytes, 4, k.b as u64);
+    write::<4>(&mut bytes, 8, k.c as u64);
+    write::<4>(&mut bytes, 12, k.d as u64);
+    write::<4>(&mut bytes, 16, k.e as u64);
+    write::<4>(&mut bytes, 20, k.f as u64);
     bytes
 }
 

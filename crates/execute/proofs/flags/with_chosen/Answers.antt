@@ -9,8 +9,8 @@ returns-then-flag_choice-eq0 c =
       flag1 = rw (← c.flag_choice.ensures.0, c.if-flag_choice-eq0.true);
     }
 
-pub returns : goal.returns
-returns c =
+pub returns-else-flag_choice-eq0 : goal.returns-else-flag_choice-eq0
+returns-else-flag_choice-eq0 c =
     record {
       flag0 = rw (← c.flag_choice.ensures.0, ne_eqb _ _ c.if-flag_choice-eq0.false);
       flag1 = rw (← c.flag_choice.ensures.0, ne_eqb _ _ c.if-flag_choice-eq0.false);

@@ -10,7 +10,7 @@ use Rattle.execute.proofs.Executed.{Made, direct_registers, direct_flags, direct
 use Rattle.execute.proofs.floats.reckon.Goals as goal
 
 pub float_results-requires : goal.float_results-requires
-float_results-requires c = (c.requires.reckoning, c.requires.registers_len.0, refl)
+float_results-requires c = (c.requires.reckoning, c.requires.registers_len.0)
 
 pub write_floats-requires : goal.write_floats-requires
 write_floats-requires c =

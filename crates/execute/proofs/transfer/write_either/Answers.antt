@@ -10,9 +10,9 @@ write_by_element-requires c =
 pub returns-then-dst_is_a0 : goal.returns-then-dst_is_a0
 returns-then-dst_is_a0 c = rw (sym c.dst_is_a0.ensures ∙ c.if-dst_is_a0.true) (refl, c.write_by_element.ensures)
 
-pub write_by_element-requires-2 : goal.write_by_element-requires-2
-write_by_element-requires-2 c =
+pub write_by_element-requires-else-dst_is_a0 : goal.write_by_element-requires-else-dst_is_a0
+write_by_element-requires-else-dst_is_a0 c =
     (c.requires.0, c.requires.1 ∙ ap bytes_in (sym (sym c.dst_is_a0.ensures ∙ c.if-dst_is_a0.false)))
 
-pub returns : goal.returns
-returns c = rw (sym c.dst_is_a0.ensures ∙ c.if-dst_is_a0.false) (c.write_by_element-2.ensures, refl)
+pub returns-else-dst_is_a0 : goal.returns-else-dst_is_a0
+returns-else-dst_is_a0 c = rw (sym c.dst_is_a0.ensures ∙ c.if-dst_is_a0.false) (c.write_by_element-else-dst_is_a0.ensures, refl)

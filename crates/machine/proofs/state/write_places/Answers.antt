@@ -19,7 +19,7 @@ unfolding places_put
 loop-n-preserved c =
     let a = c.args in
     let l = c.loop-n in
-    let e = c.write2.ensures in
+    let e = c.write.ensures in
     let n : ℕ = l.n in (
       omega arith,
       ap length e ∙ length-put_at 2 _ _ _ ∙ l.invariant.1,

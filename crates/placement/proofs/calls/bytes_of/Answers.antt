@@ -5,4 +5,4 @@ use Rattle.placement.proofs.calls.bytes_of.Goals as goal
 
 pub returns : goal.returns
 unfolding six_bytes
-returns c = six_stored _ _ _ _ _ _ _ _ _ _ _ _ c.write4.ensures c.write4-2.ensures c.write4-3.ensures c.write4-4.ensures c.write4-5.ensures c.write4-6.ensures
+returns c = six_stored _ _ _ _ _ _ _ _ _ _ _ _ c.write.ensures c.write-2.ensures c.write-3.ensures c.write-4.ensures c.write-5.ensures c.write-6.ensures
