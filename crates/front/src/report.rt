@@ -3,7 +3,6 @@ ghost use Rattle.std.specs.Prelude.{◌≡◌};
 ghost use Rattle.front.specs.Printed.{printed, report_is};
 
 use kernel::check::check;
-use words::answer::Answer;
 
 // Named as the lines are.
 #[derive(Clone, Copy, Debug, PartialEq, Eq)]
@@ -32,13 +31,12 @@ pub fn report_on(dictionary: &[u8], kernel: &[u8]) -> Report
 {
     let bytes = kernel.len() as u64;
     match check(dictionary, kernel) {
-        Answer::Told(number, count) => Report {
-            verdict: u64::from(number),
+        Ok(told) => Report {
+            verdict: u64::from(told.verdict.number()),
             at: 0,
-            instructions: count,
+            instructions: told.count,
             bytes,
         },
-        Answer::Refused(number, offset) => refused(number, offset),
-        Answer::RefusedWith(number, offset, _) => refused(number, offset),
+        Err(refusing) => refused(refusing.refusal.number(), refusing.offset),
     }
 }

@@ -4,7 +4,6 @@ ghost use Rattle.lister.specs.Shown.{most_text, shown};
 
 use front::lines::lines_on;
 use listing::list::list;
-use words::answer::Answer;
 
 // The most bytes that a listing can have: 70 for each of 4,096 instructions.
 pub const TEXT_BYTES: usize = 286720;
@@ -15,8 +14,7 @@ pub fn show(dictionary: &[u8], kernel: &[u8], out: &mut [u8]) -> usize
     ensures { (result ≡ length (shown dictionary.now kernel.now)) × (result ≤ most_text) × (out.new ≡ shown dictionary.now kernel.now ++ drop result out.old) }
 {
     match list(dictionary, kernel, out) {
-        Answer::Told(_, count) => count as usize,
-        Answer::Refused(_, _) => lines_on(dictionary, kernel, out),
-        Answer::RefusedWith(_, _, _) => lines_on(dictionary, kernel, out),
+        Ok(told) => told.count as usize,
+        Err(_) => lines_on(dictionary, kernel, out),
     }
 }

@@ -9,9 +9,9 @@ ghost use Rattle.listing.specs.Passing.{instrs_in, Listable};
 use crate::reader::read_at;
 use crate::write::{lines_length, put_lines};
 use kernel::accept::accept;
-use kernel::walk::Said;
-use words::answer::Answer;
+use words::answer::{Answer, accepted};
 use words::limits::{DICTIONARY_BYTES, PLACES};
+use words::refusal::Refusal;
 
 // How many bytes the listing of an accepted kernel has.
 fn text_length(dictionary: &[u8; DICTIONARY_BYTES], kernel: &[u8]) -> usize
@@ -51,10 +51,10 @@ fn list_accepted(dictionary: &[u8; DICTIONARY_BYTES], kernel: &[u8], out: &mut [
     let n = text_length(dictionary, kernel);
     let room = out.len();
     if room < n {
-        return Answer::Refused(14, 0);
+        return Err(Refusal::OutputTooShort.into());
     }
     write_text(dictionary, kernel, out);
-    Answer::Told(0, n as u64)
+    accepted(n as u64)
 }
 
 // What check refuses, then 14; the count is the text's bytes.
@@ -62,11 +62,9 @@ pub fn list(dictionary: &[u8], kernel: &[u8], out: &mut [u8]) -> Answer
     ensures { Wrote (list_call dictionary.now kernel.now out.old) result out.new }
 {
     let Some(dictionary) = dictionary.as_array() else {
-        return Answer::Refused(1, 0);
+        return Err(Refusal::WrongSize.into());
     };
     let mut marks = [0u8; PLACES];
-    match accept(false, dictionary, kernel, &mut marks) {
-        Said::Good(_) => list_accepted(dictionary, kernel, out),
-        Said::Bad(number, offset) => Answer::Refused(number, offset),
-    }
+    accept(false, dictionary, kernel, &mut marks)?;
+    list_accepted(dictionary, kernel, out)
 }

@@ -8,13 +8,14 @@ ghost use Rattle.words.specs.Answer.{Wrote};
 ghost use Rattle.listing.specs.Again.{lines_in, CanRead};
 ghost use Rattle.listing.specs.Joining.{Passed};
 
-use crate::jumps::{Astray, first_astray};
+use crate::jumps::first_astray;
 use crate::lay::write_kernel;
-use crate::scan::{Scanned, scan};
+use crate::scan::scan;
 use short::dictionary::in_range;
 use table::regions::region_table;
-use words::answer::Answer;
+use words::answer::{Answer, accepted};
 use words::limits::{DICTIONARY_BYTES, PLACES};
+use words::refusal::Refusal;
 
 // The kernel of so many places that a text was read as, or 14 where the output is shorter.
 fn write_read(
@@ -29,10 +30,10 @@ fn write_read(
 {
     let n = 8 * (places as usize);
     if out.len() < n {
-        return Answer::Refused(14, 0);
+        return Err(Refusal::OutputTooShort.into());
     }
     write_kernel(dictionary, text, out);
-    Answer::Told(0, n as u64)
+    accepted(n as u64)
 }
 
 // A text whose lines can be read, with those marks and so many places: 30 if a jump goes astray, else its kernel.
@@ -47,8 +48,8 @@ fn read_lines(
     ensures { Wrote (read_as (dictionary_of dictionary.now) out.old (read_listing (dictionary_of dictionary.now) text.now)) result out.new }
 {
     match first_astray(dictionary, text, marks) {
-        Astray::Nowhere => write_read(dictionary, text, places, out),
-        Astray::Branch(from) => Answer::Refused(30, from),
+        None => write_read(dictionary, text, places, out),
+        Some(from) => Err(Refusal::NoListing.at(from)),
     }
 }
 
@@ -57,15 +58,13 @@ pub fn read(dictionary: &[u8], text: &[u8], out: &mut [u8]) -> Answer
     ensures { Wrote (read_call dictionary.now text.now out.old) result out.new }
 {
     let Some(dictionary) = dictionary.as_array() else {
-        return Answer::Refused(1, 0);
+        return Err(Refusal::WrongSize.into());
     };
     if !in_range(dictionary) {
-        return Answer::Refused(2, 0);
+        return Err(Refusal::WideDictionary.into());
     }
     let regions = region_table();
     let mut marks = [0u8; PLACES];
-    match scan(&regions, dictionary, text, &mut marks) {
-        Scanned::Whole(places) => read_lines(dictionary, text, &marks, places, out),
-        Scanned::Faulty(from) => Answer::Refused(30, from),
-    }
+    let places = scan(&regions, dictionary, text, &mut marks)?;
+    read_lines(dictionary, text, &marks, places, out)
 }

@@ -8,23 +8,18 @@ ghost use Rattle.listing.specs.Scanning.{Scans};
 
 use crate::lines::lines_at;
 use table::regions::FIELDS;
+use words::answer::Refused;
 use words::limits::{DICTIONARY_BYTES, INSTRUCTION_LIMIT, PLACES};
+use words::refusal::Refusal;
 
-// What is said of a text: how many places its kernel has; or the byte at which the first faulty lines begin.
-#[derive(Clone, Copy)]
-pub enum Scanned {
-    Whole(u64),
-    Faulty(u64),
-}
-
-// The text's instructions, read one after the other. In the marks that are lent it sets a mark, 1, for each place at which one starts and for the end, and
+// The text's instructions, read one after the other: how many places its kernel has, or the refusal of the first faulty lines, by the byte at which they begin. In the marks that are lent it sets a mark, 1, for each place at which one starts and for the end, and
 // none elsewhere; the marks that a faulty text leaves are working storage. The table of what source fields allow is lent.
 pub(crate) fn scan(
     regions: &[u8; FIELDS],
     dictionary: &[u8; DICTIONARY_BYTES],
     text: &[u8],
     marks: &mut [u8; PLACES],
-) -> Scanned
+) -> Result<u64, Refused>
     requires { regions.now ≡ region_table }
     ensures { Scans (lines_from (dictionary_of dictionary.now) text.now instruction_limit 0 0) result marks.new }
 {
@@ -34,10 +29,10 @@ pub(crate) fn scan(
     let mut count: u64 = 0;
     while from < text.len() {
         if count == INSTRUCTION_LIMIT {
-            return Scanned::Faulty(from as u64);
+            return Err(Refusal::NoListing.at(from as u64));
         }
         match lines_at(regions, dictionary, text, place, from) {
-            None => return Scanned::Faulty(from as u64),
+            None => return Err(Refusal::NoListing.at(from as u64)),
             Some((instruction, next)) => {
                 marks[place as usize] = 1;
                 count += 1;
@@ -47,5 +42,5 @@ pub(crate) fn scan(
         }
     }
     marks[place as usize] = 1;
-    Scanned::Whole(place)
+    Ok(place)
 }

@@ -10,10 +10,10 @@ use crate::form::SHORTS;
 use crate::place::place_all;
 use crate::write::write_all;
 use kernel::accept::accept;
-use kernel::walk::Said;
 use short::sets::{IndexSets, gather_all};
-use words::answer::Answer;
+use words::answer::{Answer, accepted};
 use words::limits::{DICTIONARY_BYTES, PLACES};
+use words::refusal::Refusal;
 
 // A kernel of so many bytes or more is worth gathering sets for; in a shorter one numbers are walked.
 const WORTH_SETS: usize = 128;
@@ -51,10 +51,10 @@ fn lay_out(
     );
     let length = 8 * (end as usize);
     if out.len() < length {
-        return Answer::Refused(14, 0);
+        return Err(Refusal::OutputTooShort.into());
     }
     write_all(packs, dictionary, kernel, &shorts, &places, out);
-    Answer::Told(0, length as u64)
+    accepted(length as u64)
 }
 
 // The kernel laid out anew: packed, from long words only, or unpacked.
@@ -63,13 +63,11 @@ fn relay(packs: bool, dictionary: &[u8], kernel: &[u8], out: &mut [u8]) -> Answe
         (accepted (forms_is packs) dictionary.now kernel.now)) result out.new }
 {
     let Some(dictionary) = dictionary.as_array() else {
-        return Answer::Refused(1, 0);
+        return Err(Refusal::WrongSize.into());
     };
     let mut marks = [0u8; PLACES];
-    match accept(packs, dictionary, kernel, &mut marks) {
-        Said::Good(_) => lay_out(packs, dictionary, kernel, out),
-        Said::Bad(number, offset) => Answer::Refused(number, offset),
-    }
+    accept(packs, dictionary, kernel, &mut marks)?;
+    lay_out(packs, dictionary, kernel, out)
 }
 
 // The kernel with each word short that can be, in the output's first bytes.

@@ -8,9 +8,9 @@ ghost use Rattle.packer.specs.Forms.{kernel_of, Taken};
 use crate::common::common;
 use crate::place::place_long;
 use kernel::accept::accept;
-use kernel::walk::Said;
-use words::answer::Answer;
+use words::answer::{Answer, Refused, accepted};
 use words::limits::{DICTIONARY_BYTES, PLACES};
+use words::refusal::Refusal;
 
 // Two accepted kernels, the long one with `ours` instructions and the sent one with `theirs`: 0 if they are the same program, else 31 with how many they have in
 // common. The count is the length of what is to be loaded.
@@ -29,13 +29,14 @@ fn compare(
     let mut places = [0u16; PLACES];
     place_long(dictionary, sent, &mut places);
     let same = common(dictionary, long, sent, &places);
-    if same != ours {
-        return Answer::RefusedWith(31, same, long.len() as u64);
+    if same != ours || same != theirs {
+        return Err(Refused {
+            refusal: Refusal::Differs,
+            offset: same,
+            count: Some(long.len() as u64),
+        });
     }
-    if same != theirs {
-        return Answer::RefusedWith(31, same, long.len() as u64);
-    }
-    Answer::Told(0, sent.len() as u64)
+    accepted(sent.len() as u64)
 }
 
 // The long kernel has passed, with `ours` instructions: the sent one's refusal, or the comparison.
@@ -46,8 +47,11 @@ fn with_sent(dictionary: &[u8; DICTIONARY_BYTES], long: &[u8], sent: &[u8], ours
 {
     let mut marks = [0u8; PLACES];
     match accept(false, dictionary, sent, &mut marks) {
-        Said::Good(theirs) => compare(dictionary, long, sent, ours, theirs),
-        Said::Bad(number, offset) => Answer::RefusedWith(number, offset, long.len() as u64),
+        Ok(theirs) => compare(dictionary, long, sent, ours, theirs),
+        Err(refused) => Err(Refused {
+            count: Some(long.len() as u64),
+            ..refused
+        }),
     }
 }
 
@@ -56,11 +60,9 @@ pub fn pair(dictionary: &[u8], long: &[u8], sent: &[u8]) -> Answer
     ensures { answer_is result ≡ pair_call dictionary.now long.now sent.now }
 {
     let Some(dictionary) = dictionary.as_array() else {
-        return Answer::Refused(1, 0);
+        return Err(Refusal::WrongSize.into());
     };
     let mut marks = [0u8; PLACES];
-    match accept(true, dictionary, long, &mut marks) {
-        Said::Good(ours) => with_sent(dictionary, long, sent, ours),
-        Said::Bad(number, offset) => Answer::Refused(number, offset),
-    }
+    let ours = accept(true, dictionary, long, &mut marks)?;
+    with_sent(dictionary, long, sent, ours)
 }

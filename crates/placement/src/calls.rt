@@ -10,9 +10,10 @@ use crate::fixed::KERNEL;
 use crate::patterns::{Record, Spot, answer_spot, load};
 use numbers::write;
 use short::calls::deliver;
-use words::answer::Answer;
+use words::answer::{Answer, accepted};
 use words::bytes::read4;
 use words::limits::REGISTER_BYTES;
+use words::refusal::Refusal;
 
 // How many bytes a record has.
 pub const RECORD_BYTES: usize = 24;
@@ -57,10 +58,10 @@ pub fn place(order: u64, bytes: &[u8], x: u32, y: u32, out: &mut [u8]) -> Answer
     ensures { Wrote (place_call order bytes.now (point_at x y) out.old) result out.new }
 {
     if bytes.len() != RECORD_BYTES {
-        return Answer::Refused(1, 0);
+        return Err(Refusal::WrongSize.into());
     }
     if order >= 3 {
-        return Answer::Refused(7, 0);
+        return Err(Refusal::NotServed.into());
     }
     let answered = answer_spot(order, record_of(bytes), Spot { x, y });
     deliver(out, &point_bytes(answered))
@@ -85,10 +86,10 @@ pub fn place_load(bytes: &[u8], registers: &mut [u8]) -> Answer
     ensures { Wrote (place_load_call bytes.now registers.old) result registers.new }
 {
     if bytes.len() != RECORD_BYTES || registers.len() != REGISTER_BYTES {
-        return Answer::Refused(1, 0);
+        return Err(Refusal::WrongSize.into());
     }
     registers[R6..R6 + RECORD_BYTES].copy_from_slice(bytes);
-    Answer::Told(0, 0)
+    accepted(0)
 }
 
 // The bytes of a record's six patterns.

@@ -11,7 +11,6 @@ use front::report::refused;
 use listing::read::read;
 use std::io;
 use std::io::{Read, Write};
-use words::answer::Answer;
 use words::limits::{DICTIONARY_BYTES, KERNEL_BYTES};
 
 // One byte more than a listing can have, which is 70 for each of 4,096 instructions.
@@ -44,9 +43,8 @@ pub fn put_restored<W: Write, E: Write>(
     let (dictionary, text) = input.split_at(DICTIONARY_BYTES.min(input.len()));
     let mut kernel = [0u8; KERNEL_BYTES];
     match read(dictionary, text, &mut kernel) {
-        Answer::Told(_, count) => write_full(output, &kernel[..count as usize]),
-        Answer::Refused(number, offset) => say(errors, number, offset),
-        Answer::RefusedWith(number, offset, _) => say(errors, number, offset),
+        Ok(told) => write_full(output, &kernel[..told.count as usize]),
+        Err(refused) => say(errors, refused.refusal.number(), refused.offset),
     }
 }
 

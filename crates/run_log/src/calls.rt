@@ -8,9 +8,10 @@ ghost use Rattle.run_log.specs.Meaning.{entry_is};
 use crate::read::read;
 use crate::write::{Entry, add, legal};
 use lanes::mask::count_awake;
-use words::answer::Answer;
+use words::answer::{Answer, accepted};
 use words::bytes::read2;
 use words::limits::STATE_LENGTH;
+use words::refusal::Refusal;
 
 // The count is within the buffer, and the buffer within a count of 32 bits.
 fn sized(log: &[u8], count: u64) -> bool
@@ -25,11 +26,11 @@ pub fn whole_bytes(log: &[u8], count: u64) -> Answer
     ensures { answer_is result ≡ log_read_call log.now count }
 {
     if !sized(log, count) {
-        return Answer::Refused(1, 0);
+        return Err(Refusal::WrongSize.into());
     }
     match read(&log[..count as usize]) {
-        Some(records) => Answer::Told(0, records.bytes as u64),
-        None => Answer::Refused(32, 0),
+        Some(records) => accepted(records.bytes as u64),
+        None => Err(Refusal::NoLog.into()),
     }
 }
 
@@ -38,11 +39,11 @@ pub fn whole_runs(log: &[u8], count: u64) -> Answer
     ensures { answer_is result ≡ log_runs_call log.now count }
 {
     if !sized(log, count) {
-        return Answer::Refused(1, 0);
+        return Err(Refusal::WrongSize.into());
     }
     match read(&log[..count as usize]) {
-        Some(records) => Answer::Told(0, records.runs),
-        None => Answer::Refused(32, 0),
+        Some(records) => accepted(records.runs),
+        None => Err(Refusal::NoLog.into()),
     }
 }
 
@@ -64,14 +65,14 @@ pub fn append(log: &mut [u8], count: u64, e: Entry) -> Answer
     ensures { Wrote (log_append_call log.old count (entry_is e)) result log.new }
 {
     if !sized(log, count) {
-        return Answer::Refused(1, 0);
+        return Err(Refusal::WrongSize.into());
     }
     if !legal(e) {
-        return Answer::Refused(32, 0);
+        return Err(Refusal::NoLog.into());
     }
     match read(&log[..count as usize]) {
         Some(records) => add(log, count, records, e),
-        None => Answer::Refused(32, 0),
+        None => Err(Refusal::NoLog.into()),
     }
 }
 
@@ -95,7 +96,7 @@ pub fn append_run(log: &mut [u8], count: u64, answer: u64, state: &[u8]) -> Answ
     ensures { Wrote (log_run_call log.old count answer state.now) result log.new }
 {
     if state.len() != STATE_LENGTH {
-        return Answer::Refused(1, 0);
+        return Err(Refusal::WrongSize.into());
     }
     append(log, count, entry_of(answer, state))
 }

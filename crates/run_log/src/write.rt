@@ -7,8 +7,9 @@ ghost use Rattle.run_log.specs.Meaning.{entry_is};
 
 use crate::read::Records;
 use text::write::{put_line, width};
-use words::answer::Answer;
+use words::answer::{Answer, Refused, accepted};
 use words::limits::{BUDGET_LIMIT, LAST_PLACE};
+use words::refusal::Refusal;
 
 // What a finished run leaves in the log.
 #[derive(Clone, Copy)]
@@ -58,8 +59,12 @@ pub fn add(log: &mut [u8], count: u64, whole: Records, e: Entry) -> Answer
     let at = whole.bytes;
     let n = text_length(whole.runs, e);
     if log.len() - at < n {
-        return Answer::RefusedWith(14, 0, count);
+        return Err(Refused {
+            refusal: Refusal::OutputTooShort,
+            offset: 0,
+            count: Some(count),
+        });
     }
     write_record(&mut log[at..], whole.runs, e);
-    Answer::Told(0, (at + n) as u64)
+    accepted((at + n) as u64)
 }
