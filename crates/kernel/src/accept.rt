@@ -8,7 +8,7 @@ ghost use Rattle.kernel.specs.Accepting.{RightSizes};
 use crate::jumps::{Astray, first_astray};
 use crate::walk::{Said, walk};
 use short::dictionary::in_range;
-use table::regions::region_table;
+use table::regions::Regions;
 use words::limits::{DICTIONARY_BYTES, KERNEL_BYTES, PLACES};
 
 // 1: the dictionary has its bytes, the kernel not too many.
@@ -33,7 +33,7 @@ pub fn accept(long: bool, dictionary: &[u8], kernel: &[u8], marks: &mut [u8; PLA
     if !in_range(dictionary) {
         return Said::Bad(2, 0);
     }
-    let regions = region_table();
+    let regions = Regions::new();
     let walked = walk(&regions, long, dictionary, kernel, marks);
     let Said::Good(count) = walked else {
         return walked;

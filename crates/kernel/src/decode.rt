@@ -8,7 +8,7 @@ ghost use Rattle.kernel.specs.Answers.{decoded_is};
 use crate::accept::is_sized;
 use crate::instruction::{Judged, judge_at};
 use short::dictionary::in_range;
-use table::regions::region_table;
+use table::regions::Regions;
 use words::answer::Answer;
 use words::bytes::Word;
 use words::limits::PLACES;
@@ -45,7 +45,7 @@ pub fn decode(dictionary: &[u8], kernel: &[u8], place: u64) -> Decoded
         return Decoded::Refused(3, 0);
     }
     let from = 8 * (place as usize);
-    let regions = region_table();
+    let regions = Regions::new();
     match judge_at(&regions, false, dictionary, kernel, from) {
         Judged::Refused(number) => Decoded::Refused(number, from as u64),
         Judged::Passed(size, w) => Decoded::Passed(size, w),

@@ -4,12 +4,11 @@ ghost use Rattle.paper.specs.Limits.{dictionary_bytes};
 ghost use Rattle.paper.specs.Dictionary.{dictionary_of};
 ghost use Rattle.paper.specs.Kernel.{judge_word, judge_short, judge_long, judge_at};
 ghost use Rattle.words.specs.Words.{to_word};
-ghost use Rattle.table.specs.Entries.{region_table};
 ghost use Rattle.kernel.specs.Judging.{judged_is, forms_is};
 
-use judge::refusal::{judge, number_of};
+use judge::refusal::judge;
 use short::expand::expand;
-use table::regions::FIELDS;
+use table::regions::Regions;
 use words::bytes::{Word, read8, read16};
 use words::fields::{is_short, operation, operation_in};
 use words::operation::{is_branch, is_listed};
@@ -24,20 +23,18 @@ pub enum Judged {
 }
 
 // 6 to 11 of an expanded word.
-fn judge_word(regions: &[u8; FIELDS], size: u8, w: Word) -> Judged
-    requires { regions.now ≡ region_table }
+fn judge_word(regions: &Regions, size: u8, w: Word) -> Judged
     ensures { judged_is result ≡ judge_word size (to_word w) }
 {
-    let number = number_of(judge(regions, w));
-    if number == 0 {
-        return Judged::Passed(size, w);
+    match judge(regions, w) {
+        Ok(()) => Judged::Passed(size, w),
+        Err(refusal) => Judged::Refused(refusal.number()),
     }
-    Judged::Refused(number)
 }
 
 // 4, 5, then 6 to 11, of a short word.
-fn judge_short(regions: &[u8; FIELDS], long: bool, dictionary: &[u8], s: u64) -> Judged
-    requires { (regions.now ≡ region_table) × (length dictionary.now ≡ dictionary_bytes) }
+fn judge_short(regions: &Regions, long: bool, dictionary: &[u8], s: u64) -> Judged
+    requires { length dictionary.now ≡ dictionary_bytes }
     ensures { judged_is result ≡ judge_short (forms_is long) (dictionary_of dictionary.now) s }
 {
     if !is_listed(operation_in(s)) {
@@ -54,8 +51,7 @@ fn judge_short(regions: &[u8; FIELDS], long: bool, dictionary: &[u8], s: u64) ->
 }
 
 // 4, then 6 to 11, of a long word.
-fn judge_long(regions: &[u8; FIELDS], w: Word) -> Judged
-    requires { regions.now ≡ region_table }
+fn judge_long(regions: &Regions, w: Word) -> Judged
     ensures { judged_is result ≡ judge_long (to_word w) }
 {
     if !is_listed(operation(w)) {
@@ -66,13 +62,13 @@ fn judge_long(regions: &[u8; FIELDS], w: Word) -> Judged
 
 // 3 to 11 of the instruction that starts at byte `from`.
 pub(crate) fn judge_at(
-    regions: &[u8; FIELDS],
+    regions: &Regions,
     long: bool,
     dictionary: &[u8],
     kernel: &[u8],
     from: usize,
 ) -> Judged
-    requires { (regions.now ≡ region_table) × (length dictionary.now ≡ dictionary_bytes) × (from ≤ length kernel.now) }
+    requires { (length dictionary.now ≡ dictionary_bytes) × (from ≤ length kernel.now) }
     ensures { judged_is result ≡ judge_at (forms_is long) (dictionary_of dictionary.now) kernel.now from }
 {
     let left = kernel.len() - from;

@@ -3,12 +3,11 @@ ghost use Rattle.std.specs.Prelude.{◌≡◌, ◌≤◌, length};
 ghost use Rattle.paper.specs.Limits.{dictionary_bytes, kernel_bytes};
 ghost use Rattle.paper.specs.Dictionary.{dictionary_of};
 ghost use Rattle.paper.specs.Kernel.{parse};
-ghost use Rattle.table.specs.Entries.{region_table};
 ghost use Rattle.kernel.specs.Judging.{forms_is};
 ghost use Rattle.kernel.specs.Marks.{Says};
 
 use crate::instruction::{Judged, judge_at};
-use table::regions::FIELDS;
+use table::regions::Regions;
 use words::limits::{INSTRUCTION_LIMIT, PLACES};
 
 // What is said of a kernel: how many instructions it has; or a refusal's number, and the byte offset of what is refused.
@@ -22,13 +21,13 @@ pub enum Said {
 // lent it sets a mark, 1, for each place at which one starts and for the end, and none elsewhere. The marks that a refused kernel leaves are working storage.
 // The table of what source fields allow is lent, for the judge to look in.
 pub(crate) fn walk(
-    regions: &[u8; FIELDS],
+    regions: &Regions,
     long: bool,
     dictionary: &[u8],
     kernel: &[u8],
     marks: &mut [u8; PLACES],
 ) -> Said
-    requires { (regions.now ≡ region_table) × (length dictionary.now ≡ dictionary_bytes) × (length kernel.now ≤ kernel_bytes) }
+    requires { (length dictionary.now ≡ dictionary_bytes) × (length kernel.now ≤ kernel_bytes) }
     ensures { Says (parse (forms_is long) (dictionary_of dictionary.now) kernel.now) result marks.new }
 {
     *marks = [0u8; PLACES];

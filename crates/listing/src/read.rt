@@ -12,7 +12,7 @@ use crate::jumps::{Astray, first_astray};
 use crate::lay::write_kernel;
 use crate::scan::{Scanned, scan};
 use short::dictionary::in_range;
-use table::regions::region_table;
+use table::regions::Regions;
 use words::answer::Answer;
 use words::limits::{DICTIONARY_BYTES, PLACES};
 
@@ -57,7 +57,7 @@ pub fn read(dictionary: &[u8], text: &[u8], out: &mut [u8]) -> Answer
     if !in_range(dictionary) {
         return Answer::Refused(2, 0);
     }
-    let regions = region_table();
+    let regions = Regions::new();
     let mut marks = [0u8; PLACES];
     match scan(&regions, dictionary, text, &mut marks) {
         Scanned::Whole(places) => read_lines(dictionary, text, &marks, places, out),

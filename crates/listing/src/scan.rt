@@ -3,11 +3,10 @@ ghost use Rattle.std.specs.Prelude.{◌≡◌, length};
 ghost use Rattle.paper.specs.Limits.{dictionary_bytes, instruction_limit};
 ghost use Rattle.paper.specs.Dictionary.{dictionary_of};
 ghost use Rattle.paper.specs.Listing.{lines_from};
-ghost use Rattle.table.specs.Entries.{region_table};
 ghost use Rattle.listing.specs.Scanning.{Scans};
 
 use crate::lines::{Lines, lines_at};
-use table::regions::FIELDS;
+use table::regions::Regions;
 use words::limits::{INSTRUCTION_LIMIT, PLACES};
 
 // What is said of a text: how many places its kernel has; or the byte at which the first faulty lines begin.
@@ -20,12 +19,12 @@ pub enum Scanned {
 // The text's instructions, read one after the other. In the marks that are lent it sets a mark, 1, for each place at which one starts and for the end, and
 // none elsewhere; the marks that a faulty text leaves are working storage. The table of what source fields allow is lent.
 pub(crate) fn scan(
-    regions: &[u8; FIELDS],
+    regions: &Regions,
     dictionary: &[u8],
     text: &[u8],
     marks: &mut [u8; PLACES],
 ) -> Scanned
-    requires { (regions.now ≡ region_table) × (length dictionary.now ≡ dictionary_bytes) }
+    requires { length dictionary.now ≡ dictionary_bytes }
     ensures { Scans (lines_from (dictionary_of dictionary.now) text.now instruction_limit 0 0) result marks.new }
 {
     *marks = [0u8; PLACES];

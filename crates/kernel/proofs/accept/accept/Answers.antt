@@ -16,7 +16,7 @@ returns-then-not-in_range c = accept_range _ _ _ _ (sym c.is_sized.ensures.0 ∙
 pub walk-walked-requires : goal.walk-walked-requires
 walk-walked-requires c =
     let s = c.is_sized.ensures.1 c.if-not-is_sized.false in
-    (c.region_table-regions.ensures, s.dictionary-is, s.kernel-most)
+    (s.dictionary-is, s.kernel-most)
 
 pub returns-in_default : goal.returns-in_default
 returns-in_default c =

@@ -40,7 +40,7 @@ judge_at-requires c =
     let a = c.args in
     let s = c.is_sized.ensures.1 c.if-not-is_sized.false in
     let h : 8 * a.place < length a.kernel.now = ltb-true _ _ (sym c.lies_inside.ensures ∙ c.if-not-lies_inside.false) in
-    (c.region_table-regions.ensures, s.dictionary-is, omega arith)
+    (s.dictionary-is, omega arith)
 
 pub returns-in-Refused : goal.returns-in-Refused
 returns-in-Refused c =

@@ -18,8 +18,7 @@ returns-then-count-eq-INSTRUCTION_LIMIT c = leads_full _ _ _ _ _ _ _ c.loop-from
 
 pub lines_at-requires : goal.lines_at-requires
 lines_at-requires c =
-    let p = c.requires in
-    (p.0, p.1, c.loop-from.invariant.0)
+    (c.requires, c.loop-from.invariant.0)
 
 pub returns-in-Nothing : goal.returns-in-Nothing
 returns-in-Nothing c =
