@@ -1,9 +1,9 @@
 -- What is said of a word whose operands by address are named directly one by one. Assumes nothing.
-use Rattle.std.specs.Prelude.{Bool, not, cond, ◌&&◌, ◌||◌, ◌≡◌, ℕ, ◌+◌, eqb}
+use Rattle.std.specs.Prelude.{Option, Some, None, Bool, not, cond, ◌&&◌, ◌||◌, ◌≡◌, ℕ, ◌+◌, eqb}
 use Rattle.std.proofs.Math.Bool.{true, false}
 use mathlib.Core.List.{List, [], ◌∷◌, Memᴰ}
 use Rattle.std.proofs.Math.Path.{refl, sym, ap}
-use Rattle.std.proofs.Common.{ap₂, ◌∙◌, subst}
+use Rattle.std.proofs.Common.{ap₂, ◌∙◌}
 use Rattle.paper.specs.Bits.{bits}
 use Rattle.paper.specs.Word.{Source, src0, src1, shift_of, src_file, src_addr_mode, src_indirect, dst_by_address, src_by_address}
 use Rattle.paper.specs.Operation.{Plain, sources}
@@ -16,15 +16,13 @@ use Rattle.laws.specs.Sources.{reads_two, one_or_two, sources_told}
 use Rattle.words.specs.Words.{to_word}
 use Rattle.words.specs.declared.bytes.Word.{Word}
 use Rattle.judge.specs.Sources.{any_source, any_source_lem}
-use Rattle.address.specs.declared.settle.Settled.{Settled}
-use Rattle.address.specs.declared.settle.Settled.TheVariants.{Acts, Broken}
 
 -- ---- what is said
 
 -- That something is broken; or that it is not, and the word to act by.
-abbrev pub Says : Settled → Bool → ℕ → Type 0
-Says (Acts v) broken word = (broken ≡ false) × (to_word v ≡ word)
-Says Broken broken word = broken ≡ true
+abbrev pub Says : Option Word → Bool → ℕ → Type 0
+Says (Some v) broken word = (broken ≡ false) × (to_word v ≡ word)
+Says None broken word = broken ≡ true
 
 -- The destination is by address, and begins outside of the register file.
 abbrev pub dst_outside : List ℕ → ℕ → Bool
@@ -78,7 +76,7 @@ unaddressed p addresses w legal named =
 
 -- Such a word is its own settled word, and is left as it is.
 pub says_none : (p : Plain) (addresses : List ℕ) (v : Word) → LegalPlain p (to_word v) → some_addressed p (to_word v) ≡ false
-    → Says (Acts v) (address_broken p addresses (to_word v)) (settled p addresses (to_word v))
+    → Says (Some v) (address_broken p addresses (to_word v)) (settled p addresses (to_word v))
 says_none p addresses v legal e =
     let named = addressed_not p (to_word v) e in
     (unaddressed p addresses (to_word v) legal named, sym (settled_none addresses p (to_word v) named))
@@ -119,59 +117,45 @@ module _ (addresses : List ℕ) where
   after_first w = outside_kept src1 _ w (first_kept w 42 2 refl) (first_kept w 111 1 refl) (first_kept w 96 13 refl)
 
   -- The destination is not by address, and stays.
-  pub dst_stays : (v : Word) → dst_by_address (to_word v) ≡ false → Says (Acts v) (dst_outside addresses (to_word v)) (dst_direct addresses (to_word v))
+  pub dst_stays : (v : Word) → dst_by_address (to_word v) ≡ false → Says (Some v) (dst_outside addresses (to_word v)) (dst_direct addresses (to_word v))
   unfolding dst_direct
   dst_stays v e = rw e (refl, refl)
 
   -- The destination is by address, and is named directly by its byte.
   pub dst_names : (w v : Word) (b : ℕ) → dst_by_address (to_word w) ≡ true → outside (dst_address addresses (to_word w)) ≡ false
       → place_of (dst_address addresses (to_word w)) ≡ b → to_word v ≡ named_directly 48 b (to_word w)
-      → Says (Acts v) (dst_outside addresses (to_word w)) (dst_direct addresses (to_word w))
+      → Says (Some v) (dst_outside addresses (to_word w)) (dst_direct addresses (to_word w))
   unfolding dst_direct
   dst_names w v b e o p n = rw (e, o, p) (refl, n)
 
   -- The destination is by address, and outside.
-  pub dst_breaks : (w : ℕ) → dst_by_address w ≡ true → outside (dst_address addresses w) ≡ true → Says Broken (dst_outside addresses w) (dst_direct addresses w)
+  pub dst_breaks : (w : ℕ) → dst_by_address w ≡ true → outside (dst_address addresses w) ≡ true → Says None (dst_outside addresses w) (dst_direct addresses w)
   dst_breaks w e o = rw (e, o)
 
   -- Source x is not by address, and stays.
   pub src_stays : (x : Source) (v : Word) → src_by_address x (to_word v) ≡ false
-      → Says (Acts v) (src_outside addresses x (to_word v)) (src_direct addresses x (to_word v))
+      → Says (Some v) (src_outside addresses x (to_word v)) (src_direct addresses x (to_word v))
   unfolding src_direct
   src_stays x v e = rw e (refl, refl)
 
   -- Source x is by address, and is named directly by its byte.
   pub src_names : (x : Source) (w v : Word) (b : ℕ) → src_by_address x (to_word w) ≡ true → outside (src_address addresses x (to_word w)) ≡ false
       → place_of (src_address addresses x (to_word w)) ≡ b → to_word v ≡ named_directly (64 + shift_of x) b (to_word w)
-      → Says (Acts v) (src_outside addresses x (to_word w)) (src_direct addresses x (to_word w))
+      → Says (Some v) (src_outside addresses x (to_word w)) (src_direct addresses x (to_word w))
   unfolding src_direct
   src_names x w v b e o p n = rw (e, o, p) (refl, n)
 
   -- Source x is by address, and outside.
   pub src_breaks : (x : Source) (w : ℕ) → src_by_address x w ≡ true → outside (src_address addresses x w) ≡ true
-      → Says Broken (src_outside addresses x w) (src_direct addresses x w)
+      → Says None (src_outside addresses x w) (src_direct addresses x w)
   src_breaks x w e o = rw (e, o)
 
 -- ---- one after the other
 
--- What is said of an answer that is a word to act by.
-said_acts : (r : Settled) (v : Word) (broken : Bool) (word : ℕ) → r ≡ Acts v → Says r broken word → (broken ≡ false) × (to_word v ≡ word)
-said_acts r v broken word e s = subst (λ (q : Settled). Says q broken word) e s
-
--- What is said of the other answer.
-said_broken : (r : Settled) (broken : Bool) (word : ℕ) → r ≡ Broken → Says r broken word → broken ≡ true
-said_broken r broken word e s = subst (λ (q : Settled). Says q broken word) e s
-
 -- Where the first of two is not broken, the second says of both what it says of the word that it was given.
-pub says_on : (one : Settled) (v : Word) (first : Bool) (word : ℕ) → one ≡ Acts v → Says one first word
-    → (r : Settled) (test : ℕ → Bool) (next : ℕ → ℕ) → Says r (test (to_word v)) (next (to_word v)) → Says r (first || test word) (next word)
-says_on one v first word e s r test next t =
-    let a = said_acts one v first word e s in
-    rw (a.0, sym a.1) t
-
--- Where the first of two is broken, both are.
-pub says_broken : (one : Settled) (first : Bool) (word : ℕ) → one ≡ Broken → Says one first word → (more : Bool) → (first || more) ≡ true
-says_broken one first word e s more = rw (said_broken one first word e s)
+pub says_on : (v : Word) (first : Bool) (word : ℕ) → (first ≡ false) × (to_word v ≡ word)
+    → (r : Option Word) (test : ℕ → Bool) (next : ℕ → ℕ) → Says r (test (to_word v)) (next (to_word v)) → Says r (first || test word) (next word)
+says_on v first word a r test next t = rw (a.0, sym a.1) t
 
 module _ (p : Plain) (addresses : List ℕ) (w : ℕ) where
   -- Of two sources one is outside: the first, or the second of the word with the first named.
@@ -189,21 +173,19 @@ module _ (p : Plain) (addresses : List ℕ) (w : ℕ) where
   some_direct t e = ap (λ (l : List Source). all_direct addresses l w) (sources_told p ∙ ap one_or_two e)
 
   -- What is said of the first source and then of the second is said of the sources, if two are read.
-  pub says_two : (r : Settled) → reads_two p ≡ true
+  pub says_two : (r : Option Word) → reads_two p ≡ true
       → Says r (src_outside addresses src0 w || src_outside addresses src1 (src_direct addresses src0 w)) (src_direct addresses src1 (src_direct addresses src0 w))
       → Says r (sources_outside p addresses w) (sources_direct p addresses w)
   says_two r e s = rw (two_outside e, some_direct true e) s
 
   -- What is said of the first source is said of the sources, if one is read.
-  pub says_one : (r : Settled) → reads_two p ≡ false → Says r (src_outside addresses src0 w || false) (src_direct addresses src0 w)
+  pub says_one : (r : Option Word) → reads_two p ≡ false → Says r (src_outside addresses src0 w || false) (src_direct addresses src0 w)
       → Says r (sources_outside p addresses w) (sources_direct p addresses w)
   says_one r e s = rw (one_outside e, some_direct false e) s
 
   -- Where the first source is outside, one is, whatever more there is.
-  pub says_first : (r : Settled) → r ≡ Broken → Says r (src_outside addresses src0 w) (src_direct addresses src0 w)
-      → Says Broken (sources_outside p addresses w) (sources_direct p addresses w)
-  says_first r e s =
-      rw (any_source_lem p (λ x. src_outside addresses x w), said_broken r (src_outside addresses src0 w) (src_direct addresses src0 w) e s)
+  pub says_first : src_outside addresses src0 w ≡ true → Says None (sources_outside p addresses w) (sources_direct p addresses w)
+  says_first e = rw (any_source_lem p (λ x. src_outside addresses x w), e)
 
   -- Some operand is outside: the destination, or a source of the word with the destination named.
   all_outside : some_outside p addresses w ≡ (dst_outside addresses w || sources_outside p addresses (dst_direct addresses w))
@@ -215,14 +197,14 @@ module _ (p : Plain) (addresses : List ℕ) (w : ℕ) where
       ∙ sym (any_source_lem p (λ x. src_outside addresses x (dst_direct addresses w))))
 
   -- What is said of the destination and then of the sources is said of all operands.
-  pub says_all : (r : Settled)
+  pub says_all : (r : Option Word)
       → Says r (dst_outside addresses w || sources_outside p addresses (dst_direct addresses w)) (sources_direct p addresses (dst_direct addresses w))
       → Says r (some_outside p addresses w) (settled p addresses w)
   unfolding settled
   says_all r s = rw all_outside s
 
   -- What is said of all operands and then of 10 and 11 is said of 22.
-  pub says_settled : (r : Settled) → Says r (some_outside p addresses w || rules_broken p (settled p addresses w)) (settled p addresses w)
+  pub says_settled : (r : Option Word) → Says r (some_outside p addresses w || rules_broken p (settled p addresses w)) (settled p addresses w)
       → Says r (address_broken p addresses w) (settled p addresses w)
   unfolding address_broken
   says_settled r s = s

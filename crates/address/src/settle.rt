@@ -7,9 +7,8 @@ ghost use Rattle.words.specs.Operations.{plain_is};
 ghost use Rattle.words.specs.Words.{to_word, source_is};
 ghost use Rattle.address.specs.Settling.{Says, dst_outside, rules_broken, some_addressed, sources_direct, sources_outside, src_outside};
 
-use crate::byte::{Address, address_of};
+use crate::byte::address_of;
 use crate::direct::{dst_named, src_named};
-use judge::logic::either;
 use judge::regions::{alignment_broken, reach_broken};
 use judge::sources::any_source;
 use words::addresses::{dst_by_address, dst_indirect, src_by_address, src_indirect};
@@ -18,12 +17,7 @@ use words::fields::Source;
 use words::operation::Plain;
 use words::traits::reads_two;
 
-// What an operation acts by: the word with its operands named directly; or nothing, where an address is broken.
-#[derive(Clone, Copy)]
-pub enum Settled {
-    Acts(Word),
-    Broken,
-}
+// What is settled is the word by which an operation acts, its operands named directly; and nothing where an address is broken.
 
 // ---- whether there is something to settle
 
@@ -33,96 +27,78 @@ pub fn is_addressed(p: Plain, w: Word) -> bool
 {
     let first = src_by_address(Source::First, w);
     let second = src_by_address(Source::Second, w);
-    either(dst_by_address(w), any_source(p, first, second))
+    dst_by_address(w) | any_source(p, first, second)
 }
 
 // ---- one operand
 
 // The destination named directly, if it is by address.
-fn settle_dst(w: Word, addresses: &[u8]) -> Settled
+fn settle_dst(w: Word, addresses: &[u8]) -> Option<Word>
     requires { length addresses.now ≡ address_bytes }
     ensures { Says result (dst_outside addresses.now (to_word w)) (dst_direct addresses.now (to_word w)) }
 {
     if !dst_by_address(w) {
-        return Settled::Acts(w);
+        return Some(w);
     }
-    let address = address_of(addresses, dst_indirect(w));
-    match address {
-        Address::Byte(byte) => Settled::Acts(dst_named(w, byte)),
-        Address::Outside => Settled::Broken,
-    }
+    let byte = address_of(addresses, dst_indirect(w))?;
+    Some(dst_named(w, byte))
 }
 
 // So a source.
-fn settle_src(x: Source, w: Word, addresses: &[u8]) -> Settled
+fn settle_src(x: Source, w: Word, addresses: &[u8]) -> Option<Word>
     requires { length addresses.now ≡ address_bytes }
     ensures { Says result (src_outside addresses.now (source_is x) (to_word w)) (src_direct addresses.now (source_is x) (to_word w)) }
 {
     if !src_by_address(x, w) {
-        return Settled::Acts(w);
+        return Some(w);
     }
-    let address = address_of(addresses, src_indirect(x, w));
-    match address {
-        Address::Byte(byte) => Settled::Acts(src_named(x, w, byte)),
-        Address::Outside => Settled::Broken,
-    }
+    let byte = address_of(addresses, src_indirect(x, w))?;
+    Some(src_named(x, w, byte))
 }
 
 // ---- all operands
 
 // The sources that the operation reads.
-fn settle_sources(p: Plain, w: Word, addresses: &[u8]) -> Settled
+fn settle_sources(p: Plain, w: Word, addresses: &[u8]) -> Option<Word>
     requires { length addresses.now ≡ address_bytes }
     ensures { Says result (sources_outside (plain_is p) addresses.now (to_word w)) (sources_direct (plain_is p) addresses.now (to_word w)) }
 {
-    let one = settle_src(Source::First, w, addresses);
-    match one {
-        Settled::Acts(v) => {
-            if reads_two(p) {
-                return settle_src(Source::Second, v, addresses);
-            }
-            Settled::Acts(v)
-        }
-        Settled::Broken => Settled::Broken,
+    let one = settle_src(Source::First, w, addresses)?;
+    if reads_two(p) {
+        settle_src(Source::Second, one, addresses)
+    } else {
+        Some(one)
     }
 }
 
 // The destination, and then the sources: no address may lie outside of the register file.
-fn settle_all(p: Plain, w: Word, addresses: &[u8]) -> Settled
+fn settle_all(p: Plain, w: Word, addresses: &[u8]) -> Option<Word>
     requires { length addresses.now ≡ address_bytes }
     ensures { Says result (some_outside (plain_is p) addresses.now (to_word w)) (settled (plain_is p) addresses.now (to_word w)) }
 {
-    let one = settle_dst(w, addresses);
-    match one {
-        Settled::Acts(v) => settle_sources(p, v, addresses),
-        Settled::Broken => Settled::Broken,
-    }
+    let one = settle_dst(w, addresses)?;
+    settle_sources(p, one, addresses)
 }
 
 // 10 and 11 of a word whose operands are named directly.
-fn judged(p: Plain, w: Word) -> Settled
+fn judged(p: Plain, w: Word) -> Option<Word>
     ensures { Says result (rules_broken (plain_is p) (to_word w)) (to_word w) }
 {
-    if alignment_broken(p, w) {
-        return Settled::Broken;
+    if alignment_broken::<true>(p, w) || reach_broken::<true>(p, w) {
+        None
+    } else {
+        Some(w)
     }
-    if reach_broken(p, w) {
-        return Settled::Broken;
-    }
-    Settled::Acts(w)
 }
 
 // The word by which an operation of a legal word acts, or that 22 is said of it.
-pub fn settle(p: Plain, w: Word, addresses: &[u8]) -> Settled
+pub fn settle(p: Plain, w: Word, addresses: &[u8]) -> Option<Word>
     requires { (length addresses.now ≡ address_bytes) × LegalPlain (plain_is p) (to_word w) }
     ensures { Says result (address_broken (plain_is p) addresses.now (to_word w)) (settled (plain_is p) addresses.now (to_word w)) }
 {
     if !is_addressed(p, w) {
-        return Settled::Acts(w);
+        return Some(w);
     }
-    let all = settle_all(p, w, addresses);
-    match all {
-        Settled::Acts(v) => judged(p, v),
-        Settled::Broken => Settled::Broken,
-    }
+    let all = settle_all(p, w, addresses)?;
+    judged(p, all)
 }

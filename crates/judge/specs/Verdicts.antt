@@ -1,13 +1,40 @@
--- The paper's number of each thing that the judge says. Assumes nothing.
-use Rattle.std.specs.Prelude.{ℕ}
-use Rattle.judge.specs.declared.refusal.Broken.{Broken}
-use Rattle.judge.specs.declared.refusal.Broken.TheVariants.{Nothing, Reserved, Field, Operand, Shape, Alignment, Reach}
+-- The paper's number of what the judge says. Assumes nothing.
+use Rattle.std.specs.Prelude.{false, Result, Ok, Err, ◌≡◌, refl, ℕ, eqb}
+use Rattle.std.specs.Result.{is_ok}
+use Rattle.words.specs.Refusals.{number}
+use Rattle.words.specs.declared.refusal.Refusal.{Refusal}
+use Rattle.words.specs.declared.refusal.Refusal.TheVariants.{WrongSize, WideDictionary, CutShort, Unlisted, WrongForm, ReservedBits, NotServed, OperandRule, RegionShape, Unaligned, OutOfReach, StrayJump, NoShortWord, OutputTooShort, BadState, BudgetOver, TooMany, BadAddress, NoListing, Differs, NoLog}
 
-abbrev pub number_of : Broken → ℕ
-number_of Nothing = 0
-number_of Reserved = 6
-number_of Field = 7
-number_of Operand = 8
-number_of Shape = 9
-number_of Alignment = 10
-number_of Reach = 11
+-- The number of the rule that a word breaks; 0 where it passes.
+abbrev pub number_of : Result (Unit {0}) Refusal → ℕ
+number_of (Ok passed) = 0
+number_of (Err refusal) = number refusal
+
+-- No refusal has the number 0.
+some_number : (f : Refusal) → false ≡ eqb (number f) 0
+some_number WrongSize = refl
+some_number WideDictionary = refl
+some_number CutShort = refl
+some_number Unlisted = refl
+some_number WrongForm = refl
+some_number ReservedBits = refl
+some_number NotServed = refl
+some_number OperandRule = refl
+some_number RegionShape = refl
+some_number Unaligned = refl
+some_number OutOfReach = refl
+some_number StrayJump = refl
+some_number NoShortWord = refl
+some_number OutputTooShort = refl
+some_number BadState = refl
+some_number BudgetOver = refl
+some_number TooMany = refl
+some_number BadAddress = refl
+some_number NoListing = refl
+some_number Differs = refl
+some_number NoLog = refl
+
+-- So a word passes where the number is 0.
+pub passes_by : (r : Result (Unit {0}) Refusal) → is_ok r ≡ eqb (number_of r) 0
+passes_by (Ok passed) = refl
+passes_by (Err refusal) = some_number refusal

@@ -2,7 +2,6 @@
 #![tactic(auto)]
 
 mod dispatch;
-pub mod logic;
 pub mod operands;
 pub mod refusal;
 pub mod regions;

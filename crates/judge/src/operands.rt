@@ -10,7 +10,6 @@ ghost use Rattle.laws.specs.Sources.{reads_two};
 ghost use Rattle.words.specs.Words.{to_word, source_is};
 ghost use Rattle.words.specs.Usual.{Usual};
 
-use crate::logic::{both, either, negated};
 use crate::served::uses_floats;
 use crate::sources::any_source;
 use words::bytes::Word;
@@ -27,44 +26,32 @@ pub fn unequal_halves(x: Source, w: Word) -> bool
     ensures { result ≡ unequal_halves (to_word w) (source_is x) }
 {
     let kind = src_type(x, w);
-    let word = both(2 <= kind, kind <= 3);
-    let differ = negated(low_half(w) == high_half(w));
-    both(is_immediate(x, w), both(word, differ))
+    let word = (2 <= kind) & (kind <= 3);
+    let differ = low_half(w) != high_half(w);
+    is_immediate(x, w) & word & differ
 }
 
 // A modifier on src0 where none is allowed: on an immediate, and on logic and shifts.
 pub fn bad_first_modifier(p: Plain, w: Word) -> bool
     ensures { result ≡ bad_modifier (plain_is p) (to_word w) src0 }
 {
-    let some = negated(src_modifier(Source::First, w) == 0);
-    both(
-        either(is_immediate(Source::First, w), negated(takes_modifiers(p))),
-        some,
-    )
+    let some = src_modifier(Source::First, w) != 0;
+    (is_immediate(Source::First, w) | !takes_modifiers(p)) & some
 }
 
 // The same on src1, which has none as an immediate.
 pub fn bad_second_modifier(p: Plain, w: Word) -> bool
     ensures { result ≡ bad_modifier (plain_is p) (to_word w) src1 }
 {
-    let some = negated(src_modifier(Source::Second, w) == 0);
-    both(
-        both(
-            negated(is_immediate(Source::Second, w)),
-            negated(takes_modifiers(p)),
-        ),
-        some,
-    )
+    let some = src_modifier(Source::Second, w) != 0;
+    !is_immediate(Source::Second, w) & !takes_modifiers(p) & some
 }
 
 // A source is a dword.
 pub fn takes_dwords(w: Word) -> bool
     ensures { result ≡ own_rule_broken mul (to_word w) }
 {
-    either(
-        src_type(Source::First, w) < 2,
-        src_type(Source::Second, w) < 2,
-    )
+    (src_type(Source::First, w) < 2) | (src_type(Source::Second, w) < 2)
 }
 
 // src0 is signed.
@@ -72,7 +59,7 @@ pub fn takes_signed(w: Word) -> bool
     ensures { result ≡ own_rule_broken shr (to_word w) }
 {
     let kind = src_type(Source::First, w);
-    both(kind < 6, kind % 2 == 1)
+    (kind < 6) & (kind % 2 == 1)
 }
 
 // There is no predicate to choose by.
@@ -87,19 +74,19 @@ pub fn own_rule_broken(p: Plain, w: Word) -> bool
     ensures { result ≡ own_rule_broken (plain_is p) (to_word w) }
 {
     match p {
-        Plain::Mov => false,
-        Plain::Sel => unpredicated(w),
-        Plain::Not => false,
-        Plain::And => false,
-        Plain::Or => false,
-        Plain::Xor => false,
-        Plain::Shr => takes_signed(w),
-        Plain::Shl => false,
-        Plain::Asr => negated(takes_signed(w)),
-        Plain::Cmp => false,
-        Plain::Add => false,
         Plain::Mul => takes_dwords(w),
-        Plain::Avg => false,
+        Plain::Shr => takes_signed(w),
+        Plain::Asr => !takes_signed(w),
+        Plain::Sel => unpredicated(w),
+        Plain::Mov
+        | Plain::Not
+        | Plain::And
+        | Plain::Or
+        | Plain::Xor
+        | Plain::Shl
+        | Plain::Cmp
+        | Plain::Add
+        | Plain::Avg => false,
     }
 }
 
@@ -107,7 +94,7 @@ pub fn own_rule_broken(p: Plain, w: Word) -> bool
 pub fn is_misplaced(p: Plain, w: Word) -> bool
     ensures { result ≡ (reads_two (plain_is p) && is_immediate src0 (to_word w)) }
 {
-    both(reads_two(p), is_immediate(Source::First, w))
+    reads_two(p) & is_immediate(Source::First, w)
 }
 
 // Halves differ in a source that is read.
@@ -129,50 +116,52 @@ pub fn modifiers_broken(p: Plain, w: Word) -> bool
 }
 
 // An immediate that is not last, halves that differ, a modifier too many, or an operation's own rule: what is asked of every word.
+#[tactic(auto, unfolding(crate::specs::Rules::whole_rule_broken))]
 fn whole_rule_broken(p: Plain, w: Word) -> bool
     ensures { result ≡ whole_rule_broken (plain_is p) (to_word w) }
 {
     let own = own_rule_broken(p, w);
-    either(
-        is_misplaced(p, w),
-        either(halves_broken(p, w), either(modifiers_broken(p, w), own)),
-    )
+    is_misplaced(p, w) | halves_broken(p, w) | modifiers_broken(p, w) | own
 }
 
 // Some operand is a float and some is none.
+#[tactic(auto, using(crate::specs::Rules::mixed_rule))]
 fn is_mixed(p: Plain, w: Word) -> bool
     ensures { result ≡ mixed (plain_is p) (to_word w) }
 {
-    let first = negated(src_is_float(Source::First, w));
-    let second = negated(src_is_float(Source::Second, w));
-    let other = either(negated(dst_is_float(w)), any_source(p, first, second));
-    both(uses_floats(p, w), other)
+    let first = !src_is_float(Source::First, w);
+    let second = !src_is_float(Source::Second, w);
+    let other = !dst_is_float(w) | any_source(p, first, second);
+    uses_floats(p, w) & other
 }
 
 // Four restricted floats for more than four channels.
 fn vector_too_short(x: Source, w: Word) -> bool
     ensures { result ≡ vector_too_short (to_word w) (source_is x) }
 {
-    both(src_is_vector(x, w), 4 < count_of(exec_size(w)))
+    src_is_vector(x, w) & (4 < count_of(exec_size(w)))
 }
 
 // Floats are mixed with whole numbers, or restricted floats are too few.
+#[tactic(auto, unfolding(crate::specs::Rules::float_rule_broken))]
 fn float_rule_broken(p: Plain, w: Word) -> bool
     ensures { result ≡ float_rule_broken (plain_is p) (to_word w) }
 {
     let first = vector_too_short(Source::First, w);
     let second = vector_too_short(Source::Second, w);
-    either(is_mixed(p, w), any_source(p, first, second))
+    is_mixed(p, w) | any_source(p, first, second)
 }
 
-// 8. Whether the word is unusual is told: where it is not, no operand is a float.
-pub fn operand_rule_broken(unusual: bool, p: Plain, w: Word) -> bool
-    requires { unusual ≡ false → Usual (to_word w) }
+// 8. Of a word that is not unusual nothing is asked for floats: no operand is one.
+#[tactic(auto, using(crate::specs::Rules::operand_rule, crate::specs::Rules::operand_usual))]
+pub fn operand_rule_broken<const UNUSUAL: bool>(p: Plain, w: Word) -> bool
+    requires { UNUSUAL ≡ false → Usual (to_word w) }
     ensures { result ≡ operand_rule_broken (plain_is p) (to_word w) }
 {
     let whole = whole_rule_broken(p, w);
-    if unusual {
-        return either(whole, float_rule_broken(p, w));
+    if UNUSUAL {
+        whole | float_rule_broken(p, w)
+    } else {
+        whole
     }
-    whole
 }

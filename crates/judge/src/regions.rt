@@ -5,12 +5,10 @@ ghost use Rattle.words.specs.Operations.{plain_is};
 ghost use Rattle.words.specs.Words.{to_word, source_is};
 ghost use Rattle.words.specs.Regions.{region_is, Small};
 ghost use Rattle.words.specs.Usual.{Usual};
-ghost use Rattle.table.specs.Entries.{region_table};
 ghost use Rattle.judge.specs.Rules.{operand_test, look_refuses, dst_unaligned, src_unaligned, src_far, dst_far};
 
-use crate::logic::{both, either, negated};
 use crate::sources::any_source;
-use table::regions::{FIELDS, field_passes};
+use table::regions::Regions;
 use words::addresses::{dst_by_address, dst_is_a0, src_by_address, src_is_a0};
 use words::bytes::Word;
 use words::fields::{
@@ -26,24 +24,24 @@ use words::types::size_of;
 pub fn some_operand(p: Plain, w: Word, dst: bool, first: bool, second: bool) -> bool
     ensures { result ≡ operand_test (plain_is p) (to_word w) dst first second }
 {
-    let one = both(negated(is_immediate(Source::First, w)), first);
-    let two = both(negated(is_immediate(Source::Second, w)), second);
-    either(both(negated(is_null(w)), dst), any_source(p, one, two))
+    let one = !is_immediate(Source::First, w) & first;
+    let two = !is_immediate(Source::Second, w) & second;
+    (!is_null(w) & dst) | any_source(p, one, two)
 }
 
 // ---- 9
 
 // A source's region does not pass at this size, by one look in the table. Where 7 has passed, the size has a meaning, and so 9 refuses it.
-fn look_refuses(regions: &[u8; FIELDS], x: Source, w: Word) -> bool
-    requires { regions.now ≡ region_table }
+fn look_refuses(regions: &Regions, x: Source, w: Word) -> bool
     ensures { result ≡ look_refuses (source_is x) (to_word w) }
 {
-    negated(field_passes(regions, src_field(x, w), exec_size(w)))
+    !regions.passes(src_field(x, w), exec_size(w))
 }
 
 // 9, where 7 has passed: the destination's stride is 0, or a source's region is refused.
-pub(crate) fn shape_broken(regions: &[u8; FIELDS], p: Plain, w: Word) -> bool
-    requires { (regions.now ≡ region_table) × (plain_served (plain_is p) (to_word w) ≡ true) }
+#[tactic(auto, using(crate::specs::Looks::look_rule))]
+pub(crate) fn shape_broken(regions: &Regions, p: Plain, w: Word) -> bool
+    requires { plain_served (plain_is p) (to_word w) ≡ true }
     ensures { result ≡ shape_broken (plain_is p) (to_word w) }
 {
     let first = look_refuses(regions, Source::First, w);
@@ -58,48 +56,41 @@ pub fn is_unaligned(subregister: u64, size: u64) -> bool
     ensures { result ≡ unaligned subregister size }
 {
     if size == 0 {
-        return negated(subregister == 0);
+        subregister != 0
+    } else {
+        subregister % size != 0
     }
-    negated(subregister % size == 0)
 }
 
-// Whether the word is unusual is told to the tests of single operands: where it is not, a0 has no part, and nothing is asked for that.
+// UNUSUAL tells whether the word is: where it is not, a0 has no part, and nothing is asked for that.
 
 // The destination's is none, and it is named directly.
-fn dst_unaligned(unusual: bool, w: Word) -> bool
-    requires { unusual ≡ false → Usual (to_word w) }
+fn dst_unaligned<const UNUSUAL: bool>(w: Word) -> bool
+    requires { UNUSUAL ≡ false → Usual (to_word w) }
     ensures { result ≡ dst_unaligned (to_word w) }
 {
     let broken = is_unaligned(dst_subregister(w), size_of(dst_type(w)));
-    both(negated(both(unusual, dst_by_address(w))), broken)
+    !(UNUSUAL & dst_by_address(w)) & broken
 }
 
 // A source's is none, and it is named directly.
-fn src_unaligned(unusual: bool, x: Source, w: Word) -> bool
-    requires { unusual ≡ false → Usual (to_word w) }
+fn src_unaligned<const UNUSUAL: bool>(x: Source, w: Word) -> bool
+    requires { UNUSUAL ≡ false → Usual (to_word w) }
     ensures { result ≡ src_unaligned (source_is x) (to_word w) }
 {
     let broken = is_unaligned(src_subregister(x, w), size_of(src_type(x, w)));
-    both(negated(both(unusual, src_by_address(x, w))), broken)
+    !(UNUSUAL & src_by_address(x, w)) & broken
 }
 
 // 10: an operand that is named directly is misaligned.
-pub fn alignment_broken(p: Plain, w: Word) -> bool
+#[tactic(auto, using(crate::specs::Rules::alignment_rule))]
+pub fn alignment_broken<const UNUSUAL: bool>(p: Plain, w: Word) -> bool
+    requires { UNUSUAL ≡ false → Usual (to_word w) }
     ensures { result ≡ alignment_broken (plain_is p) (to_word w) }
 {
-    let first = src_unaligned(true, Source::First, w);
-    let second = src_unaligned(true, Source::Second, w);
-    some_operand(p, w, dst_unaligned(true, w), first, second)
-}
-
-// 10 of a word that is as most are.
-pub(crate) fn alignment_broken_usual(p: Plain, w: Word) -> bool
-    requires { Usual (to_word w) }
-    ensures { result ≡ alignment_broken (plain_is p) (to_word w) }
-{
-    let first = src_unaligned(false, Source::First, w);
-    let second = src_unaligned(false, Source::Second, w);
-    some_operand(p, w, dst_unaligned(false, w), first, second)
+    let first = src_unaligned::<UNUSUAL>(Source::First, w);
+    let second = src_unaligned::<UNUSUAL>(Source::Second, w);
+    some_operand(p, w, dst_unaligned::<UNUSUAL>(w), first, second)
 }
 
 // ---- 11
@@ -111,16 +102,6 @@ pub fn last_channel(w: Word) -> usize
     count_of(exec_size(w)) - 1
 }
 
-// The byte before another; 0 has none, and stays.
-fn byte_before(end: usize) -> usize
-    ensures { result ≡ end - 1 }
-{
-    if end == 0 {
-        return 0;
-    }
-    end - 1
-}
-
 // How many bytes the file of an operand has: a0, or r0 to r127.
 fn bytes_in(a0: bool) -> usize
     ensures { result ≡ bytes_in a0 }
@@ -129,12 +110,13 @@ fn bytes_in(a0: bool) -> usize
 }
 
 // The first and the last byte lie in registers more than one apart, or past the file's bytes.
+#[tactic(auto, unfolding(paper::specs::Legal::too_far))]
 pub(crate) fn too_far(bytes: usize, origin: usize, element: usize, size: usize) -> bool
     requires { (origin < 16384) × (element < 134217728) × (size ≤ 4) }
     ensures { result ≡ too_far bytes origin element size }
 {
-    let last = byte_before(element + size);
-    either(origin / 32 + 1 < last / 32, bytes <= last)
+    let last = (element + size).saturating_sub(1);
+    (origin / 32 + 1 < last / 32) | (bytes <= last)
 }
 
 // A region does so from its first byte to the element of its last channel.
@@ -146,40 +128,33 @@ pub(crate) fn region_too_far(bytes: usize, r: Region, last: usize) -> bool
 }
 
 // A source reaches too far, and is named directly.
-fn src_far(unusual: bool, x: Source, w: Word) -> bool
-    requires { unusual ≡ false → Usual (to_word w) }
+fn src_far<const UNUSUAL: bool>(x: Source, w: Word) -> bool
+    requires { UNUSUAL ≡ false → Usual (to_word w) }
     ensures { result ≡ src_far (source_is x) (to_word w) }
 {
-    let a0 = both(unusual, src_is_a0(x, w));
+    let a0 = UNUSUAL & src_is_a0(x, w);
     let far = region_too_far(bytes_in(a0), src_region(a0, x, w), last_channel(w));
-    both(negated(both(unusual, src_by_address(x, w))), far)
+    !(UNUSUAL & src_by_address(x, w)) & far
 }
 
 // The destination does, and is named directly.
-fn dst_far(unusual: bool, w: Word) -> bool
-    requires { unusual ≡ false → Usual (to_word w) }
+#[tactic(auto, using(crate::specs::Rules::dst_far_lem))]
+fn dst_far<const UNUSUAL: bool>(w: Word) -> bool
+    requires { UNUSUAL ≡ false → Usual (to_word w) }
     ensures { result ≡ dst_far (to_word w) }
 {
-    let a0 = both(unusual, dst_is_a0(w));
+    let a0 = UNUSUAL & dst_is_a0(w);
     let far = region_too_far(bytes_in(a0), dst_region(a0, w), last_channel(w));
-    both(negated(both(unusual, dst_by_address(w))), far)
+    !(UNUSUAL & dst_by_address(w)) & far
 }
 
 // 11: an operand that is named directly reaches too far.
-pub fn reach_broken(p: Plain, w: Word) -> bool
+#[tactic(auto, using(crate::specs::Rules::reach_rule))]
+pub fn reach_broken<const UNUSUAL: bool>(p: Plain, w: Word) -> bool
+    requires { UNUSUAL ≡ false → Usual (to_word w) }
     ensures { result ≡ reach_broken (plain_is p) (to_word w) }
 {
-    let first = src_far(true, Source::First, w);
-    let second = src_far(true, Source::Second, w);
-    some_operand(p, w, dst_far(true, w), first, second)
-}
-
-// 11 of a word that is as most are.
-pub(crate) fn reach_broken_usual(p: Plain, w: Word) -> bool
-    requires { Usual (to_word w) }
-    ensures { result ≡ reach_broken (plain_is p) (to_word w) }
-{
-    let first = src_far(false, Source::First, w);
-    let second = src_far(false, Source::Second, w);
-    some_operand(p, w, dst_far(false, w), first, second)
+    let first = src_far::<UNUSUAL>(Source::First, w);
+    let second = src_far::<UNUSUAL>(Source::Second, w);
+    some_operand(p, w, dst_far::<UNUSUAL>(w), first, second)
 }

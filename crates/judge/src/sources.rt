@@ -3,7 +3,6 @@ ghost use Rattle.std.specs.Prelude.{◌≡◌};
 ghost use Rattle.judge.specs.Sources.{any_source};
 ghost use Rattle.words.specs.Operations.{plain_is};
 
-use crate::logic::{both, either};
 use words::operation::Plain;
 use words::traits::reads_two;
 
@@ -11,5 +10,5 @@ use words::traits::reads_two;
 pub fn any_source(p: Plain, first: bool, second: bool) -> bool
     ensures { result ≡ any_source (plain_is p) first second }
 {
-    either(first, both(reads_two(p), second))
+    first | (reads_two(p) & second)
 }

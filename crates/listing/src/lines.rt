@@ -5,14 +5,13 @@ ghost use Rattle.paper.specs.Dictionary.{dictionary_of};
 ghost use Rattle.paper.specs.Text.{hex_from};
 ghost use Rattle.paper.specs.Listing.{word_at, candidate, instr_at};
 ghost use Rattle.words.specs.Words.{to_word};
-ghost use Rattle.table.specs.Entries.{region_table};
 ghost use Rattle.kernel.specs.Jumps.{instr_of};
 ghost use Rattle.listing.specs.Reading.{LinesAt};
 
 use crate::taken::is_taken;
 use crate::write::put_lines;
 use kernel::fetch::Fetched;
-use table::regions::FIELDS;
+use table::regions::Regions;
 use text::read::{find, hex_digits};
 use text::write::width;
 use words::bytes::Word;
@@ -76,13 +75,13 @@ pub(crate) fn candidate(text: &[u8], place: u64, from: usize) -> Fetched
 
 // The instruction at a place whose six lines begin at a byte, if it can be read, and the byte after its lines. The table of what source fields allow is lent.
 pub(crate) fn lines_at(
-    regions: &[u8; FIELDS],
+    regions: &Regions,
     dictionary: &[u8; DICTIONARY_BYTES],
     text: &[u8],
     place: u64,
     from: usize,
 ) -> Option<(Fetched, usize)>
-    requires { (regions.now ≡ region_table) × (from ≤ length text.now) }
+    requires { from ≤ length text.now }
     ensures { LinesAt (instr_at (dictionary_of dictionary.now) text.now place from) place from result }
 {
     let instruction = candidate(text, place, from);

@@ -12,7 +12,7 @@ use crate::jumps::first_astray;
 use crate::lay::write_kernel;
 use crate::scan::scan;
 use short::dictionary::in_range;
-use table::regions::region_table;
+use table::regions::Regions;
 use words::answer::{Answer, accepted};
 use words::limits::{DICTIONARY_BYTES, PLACES};
 use words::refusal::Refusal;
@@ -63,7 +63,7 @@ pub fn read(dictionary: &[u8], text: &[u8], out: &mut [u8]) -> Answer
     if !in_range(dictionary) {
         return Err(Refusal::WideDictionary.into());
     }
-    let regions = region_table();
+    let regions = Regions::new();
     let mut marks = [0u8; PLACES];
     let places = scan(&regions, dictionary, text, &mut marks)?;
     read_lines(dictionary, text, &marks, places, out)

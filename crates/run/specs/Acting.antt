@@ -1,5 +1,5 @@
 -- How a step is made, in the paper's terms. Assumes nothing.
-use Rattle.std.specs.Prelude.{Bool, true, ◌||◌, ◌≡◌, refl, ℕ}
+use Rattle.std.specs.Prelude.{Option, Some, None, Bool, true, ◌||◌, ◌≡◌, refl, ℕ}
 use Rattle.std.proofs.Math.Bool.{false}
 use Rattle.std.proofs.lemmas.Bool.{false≢true}
 use mathlib.Core.List.{List, map}
@@ -19,11 +19,10 @@ use Rattle.laws.specs.SettledLegal.{settled_legal}
 use Rattle.words.specs.declared.operation.Plain as words
 use Rattle.words.specs.Operations.{plain_is}
 use Rattle.words.specs.Words.{to_word}
+use Rattle.words.specs.declared.bytes.Word.{Word}
 use Rattle.words.specs.Usual.{Usual, usual_named}
 use Rattle.execute.specs.Readable.{Acting, Counting, Reckoning, OnRegisters, effect-acting, a0_told, a0_moves, a0-whole, float_destination}
 use Rattle.address.specs.Settling.{Says, unaddressed}
-use Rattle.address.specs.declared.settle.Settled.{Settled}
-use Rattle.address.specs.declared.settle.Settled.TheVariants as settle
 use Rattle.run.specs.declared.acting.Act.{Act}
 use Rattle.run.specs.declared.acting.Act.TheVariants.{Steps, Moves, Reckons, Broken}
 
@@ -42,11 +41,11 @@ ActsFor (Reckons q v) addresses w =
 ActsFor Broken addresses w = address_stops addresses w ≡ true
 
 -- A settled word of operation p steps, or moves where an operand is a0, or works on floats where its destination is one.
-abbrev pub TellsOf : words.Plain → Act → Settled → Type 0
-TellsOf p (Steps v) s = (s ≡ settle.Acts v) × ((dst_is_a0 (to_word v) || src_is_a0 src0 (to_word v)) ≡ false) × (dst_is_float (to_word v) ≡ false)
-TellsOf p (Moves v) s = (s ≡ settle.Acts v) × ((dst_is_a0 (to_word v) || src_is_a0 src0 (to_word v)) ≡ true)
-TellsOf p (Reckons q v) s = (s ≡ settle.Acts v) × (q ≡ p) × (dst_is_float (to_word v) ≡ true)
-TellsOf p Broken s = s ≡ settle.Broken
+abbrev pub TellsOf : words.Plain → Act → Option Word → Type 0
+TellsOf p (Steps v) s = (s ≡ Some v) × ((dst_is_a0 (to_word v) || src_is_a0 src0 (to_word v)) ≡ false) × (dst_is_float (to_word v) ≡ false)
+TellsOf p (Moves v) s = (s ≡ Some v) × ((dst_is_a0 (to_word v) || src_is_a0 src0 (to_word v)) ≡ true)
+TellsOf p (Reckons q v) s = (s ≡ Some v) × (q ≡ p) × (dst_is_float (to_word v) ≡ true)
+TellsOf p Broken s = s ≡ None
 
 -- Whether an operand is a float is told by the destination.
 floats_told : (p : Plain) (w : ℕ) → Acting p w → uses_floats p w ≡ dst_is_float w
@@ -116,19 +115,19 @@ module _ (addresses : List ℕ) (w : ℕ) where
 
 -- What is told of a settled word holds of the word.
 pub acts_said : (addresses : List ℕ) (w : ℕ) (p : words.Plain) → operation w ≡ plain (plain_is p) → refusal_of w ≡ 0
-    → (s : Settled) → Says s (address_broken (plain_is p) addresses w) (settled (plain_is p) addresses w) → (r : Act) → TellsOf p r s → ActsFor r addresses w
+    → (s : Option Word) → Says s (address_broken (plain_is p) addresses w) (settled (plain_is p) addresses w) → (r : Act) → TellsOf p r s → ActsFor r addresses w
 acts_said addresses w p o legal s says (Steps v) (e, none, whole) =
-    let (b, same) = subst (λ (x : Settled). Says x (address_broken (plain_is p) addresses w) (settled (plain_is p) addresses w)) e says in
+    let (b, same) = subst (λ (x : Option Word). Says x (address_broken (plain_is p) addresses w) (settled (plain_is p) addresses w)) e says in
     acts_steps addresses w (plain_is p) o legal (to_word v) b same none whole
 acts_said addresses w p o legal s says (Moves v) (e, some) =
-    let (b, same) = subst (λ (x : Settled). Says x (address_broken (plain_is p) addresses w) (settled (plain_is p) addresses w)) e says in
+    let (b, same) = subst (λ (x : Option Word). Says x (address_broken (plain_is p) addresses w) (settled (plain_is p) addresses w)) e says in
     acts_moves addresses w (plain_is p) o legal (to_word v) b same some
 acts_said addresses w p o legal s says (Reckons q v) (e, f, some) =
-    let (b, same) = subst (λ (x : Settled). Says x (address_broken (plain_is p) addresses w) (settled (plain_is p) addresses w)) e says in
+    let (b, same) = subst (λ (x : Option Word). Says x (address_broken (plain_is p) addresses w) (settled (plain_is p) addresses w)) e says in
     subst (λ (x : words.Plain). (address_stops addresses w ≡ false) × ((operation (to_word v) ≡ plain (plain_is x)) × Reckoning (plain_is x) (to_word v)) × SameStep addresses w (to_word v)) (sym f)
     (acts_reckons addresses w (plain_is p) o legal (to_word v) b same some)
 acts_said addresses w p o legal s says Broken e =
-    settles_broken addresses w (plain_is p) o legal (subst (λ (x : Settled). Says x (address_broken (plain_is p) addresses w) (settled (plain_is p) addresses w)) e says)
+    settles_broken addresses w (plain_is p) o legal (subst (λ (x : Option Word). Says x (address_broken (plain_is p) addresses w) (settled (plain_is p) addresses w)) e says)
 
 -- The operation has operands.
 abbrev pub has_operands : Operation → Bool

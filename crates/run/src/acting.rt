@@ -6,7 +6,7 @@ ghost use Rattle.words.specs.Words.{to_word};
 ghost use Rattle.run.specs.Acting.{TellsOf, ActsFor};
 ghost use Rattle.words.specs.Usual.{Usual};
 
-use address::settle::{Settled, settle};
+use address::settle::settle;
 use execute::transfer::uses_a0;
 use words::bytes::Word;
 use words::fields::operation;
@@ -23,12 +23,12 @@ pub enum Act {
     Broken,
 }
 
-// A settled word of an operation steps, or moves where an operand is a0, or works on floats, which its destination tells.
-fn told(p: Plain, word: Settled) -> Act
+// A settled word of an operation steps, or moves where an operand is a0, or works on floats, which its destination tells. None is an address that is broken.
+fn told(p: Plain, word: Option<Word>) -> Act
     ensures { TellsOf p result word }
 {
     match word {
-        Settled::Acts(w) => {
+        Some(w) => {
             if uses_a0(w) {
                 Act::Moves(w)
             } else if dst_is_float(w) {
@@ -37,7 +37,7 @@ fn told(p: Plain, word: Settled) -> Act
                 Act::Steps(w)
             }
         }
-        Settled::Broken => Act::Broken,
+        None => Act::Broken,
     }
 }
 

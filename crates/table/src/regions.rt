@@ -6,28 +6,36 @@ ghost use Rattle.table.specs.Entries.{entry_of, region_table};
 use crate::entries::ENTRIES;
 
 // How many values the twelve bits of a source field have.
-pub const FIELDS: usize = 4096;
+const FIELDS: usize = 4096;
 
 // The table, made once for all the looks of a call and lent to them: each function that names the constant has a copy of its own.
-pub fn region_table() -> [u8; FIELDS]
-    ensures { result ≡ region_table }
-{
-    ENTRIES
+#[derive(Drop)]
+pub struct Regions {
+    entries: [u8; FIELDS],
+    ghost is_table: { entries ≡ region_table },
 }
 
-// The entry of a field in the table that is lent.
-fn entry(regions: &[u8; FIELDS], field: usize) -> u8
-    requires { (regions.now ≡ region_table) × (field < 4096) }
-    ensures { result ≡ entry_of field }
-{
-    regions[field]
-}
+impl Regions {
+    // The one table that there is.
+    pub fn new() -> Regions {
+        Regions { entries: ENTRIES }
+    }
 
-// Bit `size` of a field's entry: the field passes at that code of ExecSize.
-pub fn field_passes(regions: &[u8; FIELDS], field: u64, size: u64) -> bool
-    requires { (regions.now ≡ region_table) × (field < 4096) × (size < 8) }
-    ensures { result ≡ bit (entry_of field) size }
-{
-    let byte = entry(regions, field as usize) as u64;
-    (byte >> size) % 2 == 1
+    // The entry of a field.
+    #[tactic(auto, using(crate::specs::Entries::table_entry))]
+    fn entry(&self, field: usize) -> u8
+        requires { field < 4096 }
+        ensures { result ≡ entry_of field }
+    {
+        self.entries[field]
+    }
+
+    // Bit `size` of a field's entry: the field passes at that code of ExecSize.
+    pub fn passes(&self, field: u64, size: u64) -> bool
+        requires { (field < 4096) × (size < 8) }
+        ensures { result ≡ bit (entry_of field) size }
+    {
+        let byte = u64::from(self.entry(field as usize));
+        (byte >> size) % 2 == 1
+    }
 }

@@ -1,9 +1,9 @@
--- Without an operand by address the word acts as it is; else the settled word is judged. Assumes nothing.
+-- A word without an operand by address is left as it is; what is said of all operands and then of 10 and 11 is said of 22. Assumes nothing.
 use mathlib.Core.Path.{sym, ◌∙◌}
+use Rattle.std.specs.Prelude.{None}
 use Rattle.words.specs.Operations.{plain_is}
 use Rattle.words.specs.Words.{to_word}
-use Rattle.address.specs.Settling.{rules_broken, says_none, says_on, says_broken, says_settled}
-use Rattle.address.specs.declared.settle.Settled.TheVariants.{Broken}
+use Rattle.address.specs.Settling.{rules_broken, says_none, says_on, says_settled}
 use Rattle.address.proofs.settle.settle.Goals as goal
 
 pub returns-then-not-is_addressed : goal.returns-then-not-is_addressed
@@ -11,16 +11,13 @@ returns-then-not-is_addressed c =
     let a = c.args in
     says_none (plain_is a.p) a.addresses.now a.w c.requires.1 (sym c.is_addressed.ensures ∙ c.if-not-is_addressed.true)
 
-pub returns-in-Acts : goal.returns-in-Acts
-returns-in-Acts c =
+pub returns-in_err-all : goal.returns-in_err-all
+returns-in_err-all c =
     let a = c.args in
-    let all = c.settle_all-all in
-    says_settled (plain_is a.p) a.addresses.now (to_word a.w) c.judged.result
-    (says_on all.result _ _ _ c.in-Acts.is all.ensures c.judged.result (rules_broken (plain_is a.p)) (λ w. w) c.judged.ensures)
+    rw c.from_residual.ensures (says_settled (plain_is a.p) a.addresses.now (to_word a.w) None (rw c.in_err-all.ensures))
 
-pub returns-in-Broken : goal.returns-in-Broken
-returns-in-Broken c =
+pub returns : goal.returns
+returns c =
     let a = c.args in
-    let all = c.settle_all-all in
-    says_settled (plain_is a.p) a.addresses.now (to_word a.w) Broken
-    (says_broken all.result _ _ c.in-Broken.is all.ensures _)
+    says_settled (plain_is a.p) a.addresses.now (to_word a.w) c.judged.result
+    (says_on c.in_ok-all.all _ _ c.in_ok-all.ensures c.judged.result (rules_broken (plain_is a.p)) (λ w. w) c.judged.ensures)

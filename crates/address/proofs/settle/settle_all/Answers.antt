@@ -1,21 +1,18 @@
--- The sources are settled after the destination. Assumes nothing.
+-- What is said of the destination and then of the sources is said of all operands. Assumes nothing.
+use Rattle.std.specs.Prelude.{None}
 use Rattle.words.specs.Operations.{plain_is}
 use Rattle.words.specs.Words.{to_word}
-use Rattle.address.specs.Settling.{sources_outside, sources_direct, says_on, says_broken, says_all}
-use Rattle.address.specs.declared.settle.Settled.TheVariants.{Broken}
+use Rattle.address.specs.Settling.{sources_direct, sources_outside, says_all, says_on}
 use Rattle.address.proofs.settle.settle_all.Goals as goal
 
-pub returns-in-Acts : goal.returns-in-Acts
-returns-in-Acts c =
+pub returns-in_err-one : goal.returns-in_err-one
+returns-in_err-one c =
     let a = c.args in
-    let one = c.settle_dst-one in
-    says_all (plain_is a.p) a.addresses.now (to_word a.w) c.settle_sources.result
-    (says_on one.result _ _ _ c.in-Acts.is one.ensures c.settle_sources.result
-    (sources_outside (plain_is a.p) a.addresses.now) (sources_direct (plain_is a.p) a.addresses.now) c.settle_sources.ensures)
+    rw c.from_residual.ensures (says_all (plain_is a.p) a.addresses.now (to_word a.w) None (rw c.in_err-one.ensures))
 
-pub returns-in-Broken : goal.returns-in-Broken
-returns-in-Broken c =
+pub returns : goal.returns
+returns c =
     let a = c.args in
-    let one = c.settle_dst-one in
-    says_all (plain_is a.p) a.addresses.now (to_word a.w) Broken
-    (says_broken one.result _ _ c.in-Broken.is one.ensures _)
+    says_all (plain_is a.p) a.addresses.now (to_word a.w) c.settle_sources.result
+    (says_on c.in_ok-one.one _ _ c.in_ok-one.ensures c.settle_sources.result
+    (sources_outside (plain_is a.p) a.addresses.now) (sources_direct (plain_is a.p) a.addresses.now) c.settle_sources.ensures)

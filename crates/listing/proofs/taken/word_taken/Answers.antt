@@ -4,6 +4,7 @@ use Prim.Native.Nat.{ℕ}
 use lib.Dec.{eqb}
 use borrow.Author.Tests.{eq-eqb, ne_eqb}
 use Rattle.paper.specs.Operation.{is_listed}
+use Rattle.judge.specs.Verdicts.{passes_by}
 use Rattle.listing.specs.Reading.{taken_short, taken_unlisted, taken_judged}
 use Rattle.listing.proofs.taken.word_taken.Goals as goal
 
@@ -19,4 +20,4 @@ pub returns : goal.returns
 returns c =
     taken_judged _ (ap (λ (x : ℕ). eqb x 1) (sym c.cmpt_ctrl.ensures.0) ∙ ne_eqb _ _ c.if-cmpt_ctrl-eq1.false)
     (sym (c.is_listed.ensures ∙ ap is_listed c.operation.ensures) ∙ c.if-not-is_listed.false) _
-    (ap (λ (x : ℕ). eqb x 0) (c.number_of.ensures.0 ∙ c.judge.ensures))
+    (c.is_ok.ensures.value ∙ passes_by c.judge.result ∙ ap (λ (x : ℕ). eqb x 0) c.judge.ensures)

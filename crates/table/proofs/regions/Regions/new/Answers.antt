@@ -3,8 +3,8 @@ use mathlib.Core.Path.{refl}
 use Rattle.paper.specs.Legal.{hangs, shape_refused}
 use Rattle.paper.specs.Enable.{of_bits}
 use Rattle.table.specs.Entries.{entry_of, region_table}
-use Rattle.table.proofs.regions.region_table.Goals as goal
+use Rattle.table.proofs.regions.Regions.new.Goals as goal
 
-pub returns : goal.returns
+pub invariant_of-result : goal.invariant_of-result
 unfolding region_table entry_of of_bits shape_refused hangs
-returns c = refl
+invariant_of-result c = record { is_table = refl }
