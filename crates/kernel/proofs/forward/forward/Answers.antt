@@ -24,7 +24,7 @@ of-requires c =
 pub returns-in-Good : goal.returns-in-Good
 returns-in-Good c =
     rw (← c.in-Some.ensures.cases.same, c.from.ensures, as_digit)
-    (forward_told _ _ _ _ c.accept.ensures _ c.in-Good.is c.all_forward.result c.all_forward.result (c.all_forward.ensures ∙ ap forward c.of.ensures) refl)
+    (forward_told _ _ _ _ c.accept.ensures _ c.in-Good.is c.all_forward.result c.all_forward.result (c.all_forward.ensures ∙ ap forward c.of.ensures.left) refl)
 
 pub returns-in-Bad : goal.returns-in-Bad
 returns-in-Bad c = rw (← c.in-Some.ensures.cases.same) (forward_refused _ _ _ _ c.accept.ensures _ _ c.in-Bad.is)
