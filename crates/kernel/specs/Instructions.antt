@@ -1,5 +1,6 @@
 -- What going over a kernel's instructions gives, in the paper's terms. Assumes nothing.
-use Rattle.std.specs.Prelude.{List, [], ◌∷◌, ◌≡◌, ◌+◌, ◌*◌, ◌/◌, ◌<◌, ◌≤◌, length, Option, MatchOption}
+use Rattle.std.specs.Prelude.{List, [], ◌∷◌, ◌≡◌, ℕ, ◌+◌, ◌*◌, ◌/◌, ◌<◌, ◌≤◌, length, Option, Some, None, MatchOption}
+use Rattle.std.proofs.Common.{◌∙◌}
 use Rattle.paper.specs.Dictionary.{dictionary_of}
 use Rattle.paper.specs.Kernel.{Instr}
 use Rattle.words.specs.Words.{to_word}
@@ -26,3 +27,31 @@ Reads s r t =
     × (t.dictionary.now ≡ s.dictionary.now)
     × (t.kernel.now ≡ s.kernel.now)
     × (t.from ≡ s.from + 8 * i.size))
+
+-- A pass goes over a kernel.
+pub record Over (dictionary kernel : List ℕ) (s : Instructions) : Type 0 where
+  pub dictionary-is : s.dictionary.now ≡ dictionary
+  pub kernel-is : s.kernel.now ≡ kernel
+
+-- It comes to instruction i, and goes on from t.
+pub record Comes (dictionary kernel : List ℕ) (s : Instructions) (i : Instruction) (t : Instructions) : Type 0 where
+  pub inside : s.from < length kernel
+  pub place-is : i.place ≡ s.from / 8
+  pub fetched : Fetches (dictionary_of dictionary) kernel s.from i.size (to_word i.word)
+  pub next : t.from ≡ s.from + 8 * i.size
+  pub over : Over dictionary kernel t
+
+module _ {dictionary kernel : List ℕ} (s : Instructions) (over : Over dictionary kernel s) where
+  pub comes : (i : Instruction) (t : Instructions) → Reads s (Some i) t → Comes dictionary kernel s i t
+  comes i t r =
+      record {
+        inside = rw over.kernel-is at r.1;
+        place-is = r.2;
+        fetched = rw (over.dictionary-is, over.kernel-is) at r.3;
+        next = r.6;
+        over = record { dictionary-is = r.4 ∙ over.dictionary-is; kernel-is = r.5 ∙ over.kernel-is };
+      }
+
+  -- It has come to the end.
+  pub ends : (t : Instructions) → Reads s None t → length kernel ≤ s.from
+  ends t r = rw over.kernel-is at r.2

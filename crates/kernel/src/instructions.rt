@@ -46,13 +46,14 @@ pub struct Instructions<'a> {
 impl<'a> Instructions<'a> {
     ghost use Rattle.paper.specs.Dictionary.{dictionary_of};
     ghost use Rattle.kernel.specs.Reading.{instrs_from};
-    ghost use Rattle.kernel.specs.Instructions.{instrs_left};
+    ghost use Rattle.kernel.specs.Instructions.{instrs_left, Over};
 
     // All of a kernel's.
     pub fn of(dictionary: &'a [u8; DICTIONARY_BYTES], kernel: &'a [u8]) -> Instructions<'a>
         requires bounded { length kernel.now ≤ kernel_bytes }
         requires whole { filled kernel.now 0 ≡ true }
-        ensures { instrs_left result ≡ instrs_from (dictionary_of dictionary.now) kernel.now 0 }
+        ensures left { instrs_left result ≡ instrs_from (dictionary_of dictionary.now) kernel.now 0 }
+        ensures over { Over dictionary.now kernel.now result × (result.from ≡ 0) }
     {
         Instructions {
             dictionary,

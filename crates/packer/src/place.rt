@@ -10,7 +10,7 @@ ghost use Rattle.packer.specs.Stages.{Placed};
 ghost use Rattle.packer.specs.Keeping.{AllKept};
 
 use crate::form::{SHORTS, form, places_taken};
-use kernel::fetch::word_at;
+use kernel::instructions::Instructions;
 use short::sets::IndexSets;
 use words::limits::{DICTIONARY_BYTES, PLACES};
 
@@ -32,20 +32,15 @@ pub(crate) fn place_all(
     ensures all_kept { AllKept (form_of packs (dictionary_of dictionary.now)) (kernel_of packs dictionary.now kernel.now)
         shorts.new }
 {
-    let mut from: usize = 0;
     let mut to: u64 = 0;
     let mut n: usize = 0;
-    while from < kernel.len() {
-        let f = word_at(dictionary, kernel, from);
-        let here = from / 8;
-        places[here] = to as u16;
-        let short = form(packs, dictionary, sets, f.word);
+    for i in Instructions::of(dictionary, kernel) {
+        places[i.place as usize] = to as u16;
+        let short = form(packs, dictionary, sets, i.word);
         shorts[n] = short;
         to += places_taken(short);
         n += 1;
-        from += 8 * (f.size as usize);
     }
-    let end = from / 8;
-    places[end] = to as u16;
+    places[kernel.len() / 8] = to as u16;
     to
 }

@@ -32,10 +32,10 @@ pub returns-in-None : goal.returns-in-None
 returns-in-None c =
     let s = c.in-Some.ensures in
     let d = sym c.in_range.ensures ∙ c.if-not-in_range.false in
-    rw (← s.0) (accept_good _ _ _ _ (right_sized _ _ s.1) d _ c.walk.ensures _ c.in_ok-count.was _ (c.first_astray.ensures ∙ ap (first_out (marked _)) c.of.ensures) c.in-None.is)
+    rw (← s.0) (accept_good _ _ _ _ (right_sized _ _ s.1) d _ c.walk.ensures _ c.in_ok-count.was _ (c.first_astray.ensures ∙ ap (first_out (marked _)) c.of.ensures.left) c.in-None.is)
 
 pub returns-in-Some-first_astray : goal.returns-in-Some-first_astray
 returns-in-Some-first_astray c =
     let s = c.in-Some.ensures in
     let d = sym c.in_range.ensures ∙ c.if-not-in_range.false in
-    rw (c.at.ensures, ← s.0) (accept_astray _ _ _ _ (right_sized _ _ s.1) d _ c.walk.ensures _ c.in_ok-count.was _ (c.first_astray.ensures ∙ ap (first_out (marked _)) c.of.ensures) _ c.in-Some-first_astray.is)
+    rw (c.at.ensures, ← s.0) (accept_astray _ _ _ _ (right_sized _ _ s.1) d _ c.walk.ensures _ c.in_ok-count.was _ (c.first_astray.ensures ∙ ap (first_out (marked _)) c.of.ensures.left) _ c.in-Some-first_astray.is)

@@ -30,4 +30,4 @@ of-all-requires c =
 pub returns : goal.returns
 returns c =
     rw (c.accepted.ensures, ← c.in-Some.ensures.cases.same, c.from.ensures, as_digit)
-    (forward_told _ _ _ _ c.accept.ensures _ c.in_ok-accept.was c.all_forward.result c.all_forward.result (c.all_forward.ensures ∙ ap forward c.of-all.ensures) refl)
+    (forward_told _ _ _ _ c.accept.ensures _ c.in_ok-accept.was c.all_forward.result c.all_forward.result (c.all_forward.ensures ∙ ap forward c.of-all.ensures.left) refl)

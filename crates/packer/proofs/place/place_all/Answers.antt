@@ -1,102 +1,85 @@
--- The loop's invariant: where the pass stands, the places stored and the forms kept so far. The measure is what is left of the kernel. Assumes nothing.
-use mathlib.Core.Path.{◌∙◌}
+-- The next instruction is placed and its form is kept; at the end all are. Assumes nothing.
+use mathlib.Core.Path.{◌≡◌, ◌∙◌}
+use Prim.Native.Nat.{◌/◌}
 use native.Mathlib.Omega.{arith}
-use lib.ListN.{length-set}
-use Rattle.packer.specs.Stages.{stage_start, stage_inside, stage_few, stage_whole, stage_next, end_to, placed_start, placed_next, placed_end}
+use lib.ListN.{length, length-set}
+use Rattle.kernel.specs.Reading.{stands_filled}
+use Rattle.kernel.specs.Instructions.{Over, comes, ends}
+use Rattle.packer.specs.Stages.{stage_start, stage_inside, stage_few, stage_next, end_to, placed_start, placed_next, placed_end}
 use Rattle.packer.specs.Keeping.{kept_start, kept_next, kept_end, number_start, number_next, number_low}
 use Rattle.packer.proofs.place.place_all.Goals as goal
 
-pub loop-from-init : goal.loop-from-init
-loop-from-init c =
-    let k = c.requires.taken.0 in
-    ((c.requires.shorts_len.1, c.requires.shorts_len.0), stage_start _ _ _ _ k _, placed_start _ _ _ _ k _ c.args.places.now, number_start _ _ _ _ k, kept_start _ _ _ _ k _ c.args.shorts.now)
+pub of-i-items-requires : goal.of-i-items-requires
+of-i-items-requires c =
+    let k = c.requires.taken.0 in record { bounded = k.sizes.kernel-most; whole = stands_filled _ _ _ _ k.stands }
 
-pub word_at-f-requires : goal.word_at-f-requires
-word_at-f-requires c = stage_whole _ _ _ _ c.requires.taken.0 _ _ _ c.loop-from.invariant.1 c.loop-from-test.true
+pub loop-i-init : goal.loop-i-init
+loop-i-init c =
+    let k = c.requires.taken.0 in
+    let start : Over c.args.dictionary.now c.args.kernel.now c.into_iter-i-iterator.result × (c.into_iter-i-iterator.result.from ≡ 0) =
+    rw c.into_iter-i-iterator.ensures.into_iter_gives c.of-i-items.ensures.over in
+    let z = start.1 in
+    record {
+      over = start.0;
+      places_long = c.requires.shorts_len.1;
+      shorts_long = c.requires.shorts_len.0;
+      stage = rw z (stage_start _ _ _ _ k _);
+      placed = rw z (placed_start _ _ _ _ k _ c.args.places.now);
+      number = rw z (number_start _ _ _ _ k);
+      kept = kept_start _ _ _ _ k _ c.args.shorts.now;
+    }
 
 pub overflow_cast-places : goal.overflow_cast-places
-overflow_cast-places c =
-    let k = c.requires.taken.0 in
-    record { fits = omega (arith, stage_few _ _ _ _ k _ _ _ c.loop-from.invariant.1) }
-
-pub bounds-places-here : goal.bounds-places-here
-bounds-places-here c = let k = c.requires.taken.0 in omega (arith, c.loop-from-test.true, k.sizes.kernel-most)
-
-pub form-short-requires : goal.form-short-requires
-form-short-requires c = c.requires.taken.1
+overflow_cast-places c = record { fits = omega (arith, stage_few _ _ _ _ c.requires.taken.0 _ _ _ c.loop-i.invariant.stage) }
 
 pub offset_bounds-shorts-n : goal.offset_bounds-shorts-n
 offset_bounds-shorts-n c =
-    let k = c.requires.taken.0 in
-    let l = c.loop-from in
-    let low = number_low _ _ _ _ k _ _ _ _ l.invariant.1 l.invariant.3 c.loop-from-test.true _ _ c.word_at-f.ensures in
-    record { fits = omega (arith, low) }
+    let i = c.loop-i.invariant in
+    let g = comes c.loop-i.i-iterator i.over c.in-Some.i c.next.new.self c.in-Some.ensures.steps in
+    record { fits = omega (arith, number_low _ _ _ _ c.requires.taken.0 _ _ _ _ i.stage i.number g.inside _ _ g.fetched) }
 
 pub bounds-shorts-n : goal.bounds-shorts-n
 bounds-shorts-n c =
-    let k = c.requires.taken.0 in
-    let l = c.loop-from in
-    let low = number_low _ _ _ _ k _ _ _ _ l.invariant.1 l.invariant.3 c.loop-from-test.true _ _ c.word_at-f.ensures in
-    omega (arith, low)
+    let i = c.loop-i.invariant in
+    let g = comes c.loop-i.i-iterator i.over c.in-Some.i c.next.new.self c.in-Some.ensures.steps in
+    omega (arith, number_low _ _ _ _ c.requires.taken.0 _ _ _ _ i.stage i.number g.inside _ _ g.fetched)
 
 pub overflow_add-to : goal.overflow_add-to
-overflow_add-to c =
-    let k = c.requires.taken.0 in
-    let l = c.loop-from in
-    omega (arith, stage_few _ _ _ _ k _ _ _ l.invariant.1, c.places_taken-to.ensures.2)
+overflow_add-to c = omega (arith, stage_few _ _ _ _ c.requires.taken.0 _ _ _ c.loop-i.invariant.stage, c.places_taken-to.ensures.2)
 
 pub overflow_add-n : goal.overflow_add-n
 overflow_add-n c =
+    let i = c.loop-i.invariant in
+    let g = comes c.loop-i.i-iterator i.over c.in-Some.i c.next.new.self c.in-Some.ensures.steps in
+    record { fits = omega (arith, number_low _ _ _ _ c.requires.taken.0 _ _ _ _ i.stage i.number g.inside _ _ g.fetched) }
+
+pub loop-i-preserved : goal.loop-i-preserved
+loop-i-preserved c =
     let k = c.requires.taken.0 in
-    let l = c.loop-from in
-    let low = number_low _ _ _ _ k _ _ _ _ l.invariant.1 l.invariant.3 c.loop-from-test.true _ _ c.word_at-f.ensures in
-    record { fits = omega (arith, low) }
-
-pub overflow_mul-from : goal.overflow_mul-from
-overflow_mul-from c =
-    let f = c.word_at-f.ensures in
-    omega (arith, f.few)
-
-pub overflow_add-from : goal.overflow_add-from
-overflow_add-from c =
-    let k = c.requires.taken.0 in
-    let t = c.loop-from-test.true in
-    let f = c.word_at-f.ensures in
-    omega (arith, t, f.few, k.sizes.kernel-most)
-
-pub loop-from-smaller : goal.loop-from-smaller
-loop-from-smaller c =
-    let t = c.loop-from-test.true in
-    let f = c.word_at-f.ensures in
-    omega (arith, t, f.some)
-
-pub loop-from-preserved : goal.loop-from-preserved
-loop-from-preserved c =
-    let k = c.requires.taken.0 in
-    let l = c.loop-from in
-    let t = c.loop-from-test.true in
-    let f = c.word_at-f.ensures in
-    let o = c.form-short.ensures in (
-      (length-set l.places _ _ ∙ l.invariant.0.0, length-set l.shorts _ _ ∙ l.invariant.0.1),
-      stage_next _ _ _ _ k _ _ _ l.invariant.1 t _ _ f _ _ o c.places_taken-to.ensures.0,
-      placed_next _ _ _ _ k _ _ _ l.invariant.1 l.places l.invariant.0.0 l.invariant.2 t _ _ f,
-      number_next _ _ _ _ k _ _ _ _ l.invariant.1 l.invariant.3 t _ _ f,
-      kept_next _ _ _ _ k _ _ _ _ l.invariant.1 l.invariant.3 t _ _ f l.shorts _ l.invariant.0.1 l.invariant.4 o,
-    )
+    let i = c.loop-i.invariant in
+    let g = comes c.loop-i.i-iterator i.over c.in-Some.i c.next.new.self c.in-Some.ensures.steps in
+    let o = c.form-short.ensures in
+    record {
+      over = g.over;
+      places_long = length-set c.loop-i.places _ _ ∙ i.places_long;
+      shorts_long = length-set c.loop-i.shorts _ _ ∙ i.shorts_long;
+      stage = rw g.next (stage_next _ _ _ _ k _ _ _ i.stage g.inside _ _ g.fetched _ _ o c.places_taken-to.ensures.0);
+      placed = rw (g.place-is, g.next) (placed_next _ _ _ _ k _ _ _ i.stage c.loop-i.places i.places_long i.placed g.inside _ _ g.fetched);
+      number = rw g.next (number_next _ _ _ _ k _ _ _ _ i.stage i.number g.inside _ _ g.fetched);
+      kept = kept_next _ _ _ _ k _ _ _ _ i.stage i.number g.inside _ _ g.fetched c.loop-i.shorts _ i.shorts_long i.kept o;
+    }
 
 pub overflow_cast-places-2 : goal.overflow_cast-places-2
-overflow_cast-places-2 c =
-    let k = c.requires.taken.0 in
-    record { fits = omega (arith, stage_few _ _ _ _ k _ _ _ c.loop-from.invariant.1) }
-
-pub offset_bounds-places-end : goal.offset_bounds-places-end
-offset_bounds-places-end c = let k = c.requires.taken.0 in omega (arith, stage_inside _ _ _ _ k _ _ _ c.loop-from.invariant.1, k.sizes.kernel-most)
-
-pub bounds-places-end : goal.bounds-places-end
-bounds-places-end c = let k = c.requires.taken.0 in omega (arith, stage_inside _ _ _ _ k _ _ _ c.loop-from.invariant.1, k.sizes.kernel-most)
+overflow_cast-places-2 c = record { fits = omega (arith, stage_few _ _ _ _ c.requires.taken.0 _ _ _ c.loop-i.invariant.stage) }
 
 pub returns : goal.returns
 returns c =
     let k = c.requires.taken.0 in
-    let l = c.loop-from in
-    let over = c.loop-from-test.false in record { value = end_to _ _ _ _ k _ _ _ l.invariant.1 over; placed = placed_end _ _ _ _ k _ _ _ l.invariant.1 l.places l.invariant.0.0 l.invariant.2 over; all_kept = kept_end _ _ _ _ k _ _ _ _ l.invariant.1 l.invariant.3 over l.shorts l.invariant.4 }
+    let i = c.loop-i.invariant in
+    let over = ends c.loop-i.i-iterator i.over c.next.new.self c.in-None.ensures.steps in
+    let last : length c.args.kernel.now / 8 ≡ c.loop-i.i-iterator.from / 8 = omega (arith, over, stage_inside _ _ _ _ k _ _ _ i.stage) in
+    record {
+      value = end_to _ _ _ _ k _ _ _ i.stage over;
+      placed = rw last (placed_end _ _ _ _ k _ _ _ i.stage c.loop-i.places i.places_long i.placed over);
+      all_kept = kept_end _ _ _ _ k _ _ _ _ i.stage i.number over c.loop-i.shorts i.kept;
+    }
