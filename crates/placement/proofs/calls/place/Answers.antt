@@ -3,10 +3,14 @@ use Rattle.placement.proofs.Calling.{as_written, as_called, place_unsized, place
 use Rattle.placement.proofs.calls.place.Goals as goal
 
 pub returns-then-bytes-ne-RECORD_BYTES : goal.returns-then-bytes-ne-RECORD_BYTES
-returns-then-bytes-ne-RECORD_BYTES c = as_written _ _ _ (place_unsized _ _ _ _ c.if-bytes-ne-RECORD_BYTES.true)
+returns-then-bytes-ne-RECORD_BYTES c =
+    rw c.into.ensures
+    (as_written _ _ _ (place_unsized _ _ _ _ c.if-bytes-ne-RECORD_BYTES.true))
 
 pub returns-then-order-ge3 : goal.returns-then-order-ge3
-returns-then-order-ge3 c = as_written _ _ _ (place_unknown _ _ _ _ c.if-bytes-ne-RECORD_BYTES.false c.if-order-ge3.true)
+returns-then-order-ge3 c =
+    rw c.into-then-order-ge3.ensures
+    (as_written _ _ _ (place_unknown _ _ _ _ c.if-bytes-ne-RECORD_BYTES.false c.if-order-ge3.true))
 
 pub returns : goal.returns
 returns c =

@@ -7,10 +7,14 @@ use Rattle.run_log.specs.Calls.{sized_count, part_length, append_unsized, append
 use Rattle.run_log.proofs.calls.append.Goals as goal
 
 pub returns-then-not-sized : goal.returns-then-not-sized
-returns-then-not-sized c = append_unsized _ _ (entry_is c.args.e) (sym c.sized.ensures ∙ c.if-not-sized.true)
+returns-then-not-sized c =
+    rw c.into.ensures
+    (append_unsized _ _ (entry_is c.args.e) (sym c.sized.ensures ∙ c.if-not-sized.true))
 
 pub returns-then-not-legal : goal.returns-then-not-legal
-returns-then-not-legal c = append_illegal _ _ (entry_is c.args.e) (sym c.sized.ensures ∙ c.if-not-sized.false) (sym c.legal.ensures ∙ c.if-not-legal.true)
+returns-then-not-legal c =
+    rw c.into-then-not-legal.ensures
+    (append_illegal _ _ (entry_is c.args.e) (sym c.sized.ensures ∙ c.if-not-sized.false) (sym c.legal.ensures ∙ c.if-not-legal.true))
 
 pub slice_bounds-read-end : goal.slice_bounds-read-end
 slice_bounds-read-end c = sized_count _ _ (sym c.sized.ensures ∙ c.if-not-sized.false)
@@ -27,4 +31,6 @@ returns-in-Some c =
     z.ensures
 
 pub returns-in-None : goal.returns-in-None
-returns-in-None c = append_none _ _ (entry_is c.args.e) (sym c.sized.ensures ∙ c.if-not-sized.false) (sym c.legal.ensures ∙ c.if-not-legal.false) (sym c.in-None.ensures.0)
+returns-in-None c =
+    rw c.into-in-None.ensures
+    (append_none _ _ (entry_is c.args.e) (sym c.sized.ensures ∙ c.if-not-sized.false) (sym c.legal.ensures ∙ c.if-not-legal.false) (sym c.in-None.ensures.0))

@@ -8,8 +8,9 @@ use Rattle.run_log.proofs.calls.append_run.Goals as goal
 
 pub returns-then-state-ne-STATE_LENGTH : goal.returns-then-state-ne-STATE_LENGTH
 returns-then-state-ne-STATE_LENGTH c =
-    let a = c.args in
-    run_unsized a.log.now a.count a.answer a.state.now c.if-state-ne-STATE_LENGTH.true
+    rw c.into.ensures
+    (let a = c.args in
+    run_unsized a.log.now a.count a.answer a.state.now c.if-state-ne-STATE_LENGTH.true)
 
 pub returns : goal.returns
 returns c =

@@ -17,9 +17,10 @@ returns-then-log-at c =
 
 pub returns : goal.returns
 returns c =
-    let a = c.args in
+    rw c.accepted.ensures
+    (let a = c.args in
     let e = c.text_length-n.ensures in
     let t = record_text a.whole.runs (entry_is a.e) in
     let h : a.whole.bytes + length (record_text a.whole.runs (entry_is a.e)) ≤ length a.log.now = omega (arith, e, c.requires, c.if-log-at.false) in
     fits_wrote a.log.now t a.count a.whole.bytes _ c.text_length-n.result h e
-    (ap (put_mid a.whole.bytes (length a.log.now - a.whole.bytes) a.log.now) c.write_record.ensures ∙ tail_stored a.log.now t a.whole.bytes h)
+    (ap (put_mid a.whole.bytes (length a.log.now - a.whole.bytes) a.log.now) c.write_record.ensures ∙ tail_stored a.log.now t a.whole.bytes h))
