@@ -1,7 +1,7 @@
 -- A number as bytes: what one byte more does. Assumes nothing.
-use Rattle.std.specs.Prelude.{List, ◌≡◌, ℕ, suc, ◌+◌, ◌*◌, ◌/◌, ◌%◌, ◌^◌, ◌<◌, get_or, set}
+use Rattle.std.specs.Prelude.{List, ◌≡◌, ℕ, suc, ◌+◌, ◌*◌, ◌^◌, ◌<◌, get_or}
 use Rattle.std.proofs.Common.{refl, ap, pow-suc, add-one, arith}
-use Rattle.paper.specs.Bits.{number, number_at, put_at}
+use Rattle.paper.specs.Bits.{number, number_at}
 use Rattle.laws.specs.Bytes.{number_at-suc}
 
 -- No bytes write 0.
@@ -20,8 +20,3 @@ read_step l from k m i v b h e n =
 -- With another byte, what i bytes write takes i + 1.
 pub worth_step : (v b i : ℕ) → v < 256 ^ i → b < 256 → v * 256 + b < 256 ^ (i + 1)
 worth_step v b i h k = rw (add-one i, pow-suc) (omega arith)
-
--- One byte stored, and then the others.
-pub put_step : (l : List ℕ) (at n m v : ℕ) → n ≡ suc m → put_at (set l at (v % 256)) (at + 1) m (v / 256) ≡ put_at l at n v
-unfolding put_at
-put_step l at n m v e = rw e

@@ -46,10 +46,10 @@ module _ (bytes : List ℕ) (at size : ℕ) (t : Bool) (test : t ≡ room bytes 
   unfolding number_in
   read_none e = rw (sym test ∙ e)
 
-  pub put_there : t ≡ true → (v : ℕ) (after : List ℕ) → after ≡ put_at bytes at size v → (after ≡ put_in bytes at size v) × (true ≡ room bytes at size)
+  pub put_there : t ≡ true → (v : ℕ) (after : List ℕ) → after ≡ put_at bytes at size v → after ≡ put_in bytes at size v
   unfolding put_in
-  put_there e v after h = (rw (sym test ∙ e) h, sym e ∙ test)
+  put_there e v after h = rw (sym test ∙ e) h
 
-  pub put_none : t ≡ false → (v : ℕ) → (bytes ≡ put_in bytes at size v) × (false ≡ room bytes at size)
+  pub put_none : t ≡ false → (v : ℕ) → bytes ≡ put_in bytes at size v
   unfolding put_in
-  put_none e v = (rw (sym test ∙ e), sym e ∙ test)
+  put_none e v = rw (sym test ∙ e)

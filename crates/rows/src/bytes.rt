@@ -2,6 +2,8 @@
 ghost use Rattle.std.specs.Prelude.{◌≡◌, ◌≤◌, false};
 ghost use Rattle.rows.specs.Room.{room, number_in, put_in};
 
+use words::bytes::write;
+
 // There is room for `size` bytes from `at` on.
 fn has_room(bytes: &[u8], at: usize, size: usize) -> bool
     ensures { result ≡ room bytes.now at size }
@@ -33,10 +35,6 @@ pub fn put_number<const SIZE: usize>(bytes: &mut [u8], at: usize, v: u64) -> boo
     if !has_room(bytes, at, SIZE) {
         return false;
     }
-    let mut rest = v;
-    for i in 0..SIZE {
-        bytes[at + i] = (rest % 256) as u8;
-        rest /= 256;
-    }
+    write::<SIZE>(bytes, at, v);
     true
 }
