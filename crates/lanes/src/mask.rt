@@ -7,7 +7,7 @@ ghost use Rattle.lanes.specs.Masks.{predicate_mask, unmasked_mask, passed_mask, 
 use crate::votes::vote_mask;
 
 // The mask of all sixteen channels.
-pub(crate) const ALL: u64 = 65535;
+pub const ALL: u64 = 65535;
 
 // Bit k of a mask is 1.
 pub fn bit(mask: u64, k: u64) -> bool

@@ -5,6 +5,7 @@ ghost use Rattle.listing.specs.Again.{lines_in, CanRead, MarksAre, astray_is};
 
 use crate::lines::candidate;
 use crate::write::lines_length;
+use kernel::instructions::Instruction;
 use kernel::jumps::jump_lands;
 use words::limits::{DICTIONARY_BYTES, PLACES};
 
@@ -16,7 +17,11 @@ pub enum Astray {
 }
 
 // The first branch with a distance that leads to no mark. The marks are those of the text's instructions and of the end.
-pub(crate) fn first_astray(dictionary: &[u8; DICTIONARY_BYTES], text: &[u8], marks: &[u8; PLACES]) -> Astray
+pub(crate) fn first_astray(
+    dictionary: &[u8; DICTIONARY_BYTES],
+    text: &[u8],
+    marks: &[u8; PLACES],
+) -> Astray
     requires { CanRead dictionary.now text.now × MarksAre (lines_in dictionary.now text.now) marks.now }
     ensures { astray_is result ≡ astray_lines (lines_in dictionary.now text.now) (lines_in dictionary.now text.now) 0 }
 {
@@ -25,7 +30,12 @@ pub(crate) fn first_astray(dictionary: &[u8; DICTIONARY_BYTES], text: &[u8], mar
     while from < text.len() {
         let f = candidate(text, place, from);
         let size = f.size;
-        if !jump_lands(marks, f.word, place, size) {
+        let i = Instruction {
+            place,
+            size,
+            word: f.word,
+        };
+        if !jump_lands(marks, i) {
             return Astray::Branch(from as u64);
         }
         from += lines_length(place, size);

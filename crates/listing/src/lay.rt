@@ -11,7 +11,7 @@ ghost use Rattle.listing.specs.Laying.{form_in};
 use crate::lines::candidate;
 use crate::write::lines_length;
 use short::shorten::shorten;
-use words::bytes::{Word, write8, write16};
+use words::bytes::{Word, write, write16};
 use words::limits::DICTIONARY_BYTES;
 
 // The bytes of a word in the form of so many places.
@@ -24,7 +24,7 @@ fn put_word(dictionary: &[u8; DICTIONARY_BYTES], out: &mut [u8], at: usize, size
         return;
     }
     match shorten(dictionary, None, w) {
-        Some(s) => write8(out, at, s),
+        Some(s) => write::<8>(out, at, s),
         None => write16(out, at, w),
     }
 }

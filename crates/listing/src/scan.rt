@@ -6,7 +6,7 @@ ghost use Rattle.paper.specs.Listing.{lines_from};
 ghost use Rattle.table.specs.Entries.{region_table};
 ghost use Rattle.listing.specs.Scanning.{Scans};
 
-use crate::lines::{Lines, lines_at};
+use crate::lines::lines_at;
 use table::regions::FIELDS;
 use words::limits::{DICTIONARY_BYTES, INSTRUCTION_LIMIT, PLACES};
 
@@ -37,19 +37,15 @@ pub(crate) fn scan(
             return Scanned::Faulty(from as u64);
         }
         match lines_at(regions, dictionary, text, place, from) {
-            Lines::Nothing => {
-                return Scanned::Faulty(from as u64);
-            }
-            Lines::Instruction(size, _, next) => {
-                let here = place as usize;
-                marks[here] = 1;
+            None => return Scanned::Faulty(from as u64),
+            Some((instruction, next)) => {
+                marks[place as usize] = 1;
                 count += 1;
-                place += size;
+                place += instruction.size;
                 from = next;
             }
         }
     }
-    let end = place as usize;
-    marks[end] = 1;
+    marks[place as usize] = 1;
     Scanned::Whole(place)
 }

@@ -1,6 +1,6 @@
 // One step, at a known instruction.
 ghost use Rattle.std.specs.Prelude.{List, ◌≡◌, ℕ, ◌<◌, length, get_or};
-ghost use Rattle.paper.specs.Limits.{address_bytes, register_bytes};
+ghost use Rattle.paper.specs.Limits.{address_bytes};
 ghost use Rattle.paper.specs.Operation.{mov, plain, operation};
 ghost use Rattle.paper.specs.Machine.{Channel, State, perform, step_at};
 ghost use Rattle.words.specs.Words.{to_word};
@@ -22,6 +22,7 @@ use execute::transfer::transfer;
 use lanes::flags::Flags;
 use words::bytes::Word;
 use words::fields::opcode;
+use words::limits::REGISTER_BYTES;
 use words::operation::{Operation, Plain};
 
 // Where a run stands: the flags, who is awake, and the place of the next step. Registers are lent beside it, a0's bytes, and who waits where.
@@ -39,10 +40,10 @@ fn perform(
     ways: Ways,
     flags: Flags,
     up: u16,
-    registers: &mut [u8],
+    registers: &mut [u8; REGISTER_BYTES],
     here: &mut [u16],
 ) -> Stand
-    requires o_value { (operation_is o ≡ operation (to_word w)) × OnRegisters (to_word w) × (length registers.old ≡ register_bytes) }
+    requires o_value { (operation_is o ≡ operation (to_word w)) × OnRegisters (to_word w) }
     requires flag0_bound { (flags.flag0 < 65536) × (flags.flag1 < 65536) × Within (length here.old) (ways_is ways) }
     ensures by_index { (addresses : List ℕ) (cs : List Channel) → Posted up here.old cs → Shows registers.new addresses here.new result
         (perform (operation_is o) (to_word w) (ways_is ways) (store_of registers.old flags addresses) cs) }
@@ -74,8 +75,14 @@ fn perform(
 }
 
 // One step where an accepted word stands whose operands are named directly, none of them a0 or a float; it first wakes the channels that wait there. a0 stays.
-pub fn step_at(w: Word, ways: Ways, s: Stand, registers: &mut [u8], here: &mut [u16]) -> Stand
-    requires on_registers { OnRegisters (to_word w) × (length registers.old ≡ register_bytes) × Within (length here.old) (ways_is ways) }
+pub fn step_at(
+    w: Word,
+    ways: Ways,
+    s: Stand,
+    registers: &mut [u8; REGISTER_BYTES],
+    here: &mut [u16],
+) -> Stand
+    requires on_registers { OnRegisters (to_word w) × Within (length here.old) (ways_is ways) }
     requires sound { Sound s × (s.place < length here.old) }
     ensures by_index { (addresses : List ℕ) (t : State) → Shows registers.old addresses here.old s t
         → Shows registers.new addresses here.new result (step_at (to_word w) s.place (ways_is ways) t) }
@@ -91,11 +98,11 @@ pub fn move_at(
     w: Word,
     ways: Ways,
     s: Stand,
-    registers: &mut [u8],
+    registers: &mut [u8; REGISTER_BYTES],
     addresses: &mut [u8],
     here: &mut [u16],
 ) -> Stand
-    requires w_value { (operation (to_word w) ≡ plain mov) × Counting mov (to_word w) × (length registers.old ≡ register_bytes) × (length addresses.old ≡ address_bytes) }
+    requires w_value { (operation (to_word w) ≡ plain mov) × Counting mov (to_word w) × (length addresses.old ≡ address_bytes) }
     requires sound { Sound s × (s.place < length here.old) }
     ensures shows { (t : State) → Shows registers.old addresses.old here.old s t
         → Shows registers.new addresses.new here.new result (step_at (to_word w) s.place (ways_is ways) t) }
@@ -116,10 +123,10 @@ pub fn float_at(
     w: Word,
     ways: Ways,
     s: Stand,
-    registers: &mut [u8],
+    registers: &mut [u8; REGISTER_BYTES],
     here: &mut [u16],
 ) -> Stand
-    requires w_value { (operation (to_word w) ≡ plain (plain_is p)) × Reckoning (plain_is p) (to_word w) × (length registers.old ≡ register_bytes) }
+    requires w_value { (operation (to_word w) ≡ plain (plain_is p)) × Reckoning (plain_is p) (to_word w) }
     requires sound { Sound s × (s.place < length here.old) }
     ensures by_index { (addresses : List ℕ) (t : State) → Shows registers.old addresses here.old s t
         → Shows registers.new addresses here.new result (step_at (to_word w) s.place (ways_is ways) t) }

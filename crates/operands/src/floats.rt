@@ -10,11 +10,11 @@ ghost use Rattle.lanes.specs.Mapped.{Mapped};
 ghost use Rattle.words.specs.Words.{to_word};
 ghost use Rattle.words.specs.Regions.{region_is, Small};
 ghost use Rattle.operands.specs.Shapes.{region_from};
-ghost use Rattle.operands.specs.Source.{source_at};
+ghost use Rattle.operands.specs.Source.{source_of};
 ghost use Rattle.operands.specs.Floats.{FloatsIn, FloatsRead, FloatsAt};
 
 use crate::gather::{is_beside, is_single};
-use crate::source::source_at;
+use crate::source::source_of;
 use numbers::read4;
 use single::restricted::vector_pattern;
 use single::sign::modify_pattern;
@@ -125,10 +125,10 @@ fn float_vector(four: u32, n: usize, patterns: &mut [u32; 16])
 
 // What the channels of a source read where it has floats, none of its elements being in a0. Which source it is is known when this is compiled, so that its fields are taken from known bits.
 pub fn floats_of<const SECOND: bool>(w: Word, n: usize, registers: &[u8], patterns: &mut [u32; 16])
-    requires { FloatsIn (source_at SECOND) (to_word w) × (n ≡ channels (to_word w)) × (length registers.now ≡ bytes_in (src_is_a0 (source_at SECOND) (to_word w))) × (src_is_a0 (source_at SECOND) (to_word w) ≡ false) }
-    ensures { FloatsRead (to_word w) registers.now (source_at SECOND) n patterns.old patterns.new }
+    requires { FloatsIn (source_of SECOND) (to_word w) × (n ≡ channels (to_word w)) × (length registers.now ≡ bytes_in (src_is_a0 (source_of SECOND) (to_word w))) × (src_is_a0 (source_of SECOND) (to_word w) ≡ false) }
+    ensures { FloatsRead (to_word w) registers.now (source_of SECOND) n patterns.old patterns.new }
 {
-    let x = source_at::<SECOND>();
+    let x = source_of::<SECOND>();
     match operand_of(true, false, x, w) {
         Operand::Fixed(pattern) => float_spread(pattern as u32, n, patterns),
         Operand::Vector(four) => float_vector(four as u32, n, patterns),

@@ -5,10 +5,10 @@ ghost use Rattle.paper.specs.Legal.{bytes_in};
 ghost use Rattle.words.specs.Words.{to_word};
 ghost use Rattle.operands.specs.Sources.{Readable, OperandRead};
 ghost use Rattle.operands.specs.Single.{alone, none};
-ghost use Rattle.operands.specs.Source.{source_at};
+ghost use Rattle.operands.specs.Source.{source_of};
 
 use crate::read::read_as;
-use crate::source::source_at;
+use crate::source::source_of;
 use element::modifier::modify;
 use element::value::load;
 use words::bytes::Word;
@@ -17,10 +17,10 @@ use words::operand::{Operand, operand_of};
 
 // What the first channel of a source reads. Which source it is is known when this is compiled, so that its fields are taken from known bits.
 pub fn number_of<const SECOND: bool>(w: Word, registers: &[u8]) -> u64
-    requires { Readable (source_at SECOND) (to_word w) × (length registers.now ≡ bytes_in (src_is_a0 (source_at SECOND) (to_word w))) × (src_is_a0 (source_at SECOND) (to_word w) ≡ false) }
-    ensures { OperandRead (to_word w) registers.now (source_at SECOND) 1 none (alone result) }
+    requires { Readable (source_of SECOND) (to_word w) × (length registers.now ≡ bytes_in (src_is_a0 (source_of SECOND) (to_word w))) × (src_is_a0 (source_of SECOND) (to_word w) ≡ false) }
+    ensures { OperandRead (to_word w) registers.now (source_of SECOND) 1 none (alone result) }
 {
-    let x = source_at::<SECOND>();
+    let x = source_of::<SECOND>();
     let kind = src_type(x, w);
     match operand_of(false, false, x, w) {
         Operand::Fixed(pattern) => load(kind, pattern),

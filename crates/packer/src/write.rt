@@ -17,7 +17,7 @@ use crate::form::{SHORTS, places_taken};
 use distances::branch::{Distances, distances_in};
 use distances::distance::{Distance, aim};
 use kernel::instructions::{Instruction, Instructions};
-use words::bytes::{Word, write8, write16};
+use words::bytes::{Word, write, write16};
 use words::limits::{DICTIONARY_BYTES, PLACES};
 
 // Stores a word in its form from byte `from` on.
@@ -29,7 +29,7 @@ fn write_word(short: u64, w: Word, out: &mut [u8], from: usize)
     if short == 0 {
         write16(out, from, w);
     } else {
-        write8(out, from, short);
+        write::<8>(out, from, short);
     }
 }
 

@@ -1,3 +1,2 @@
 mod Calling
-mod Sixed
 mod SameBits

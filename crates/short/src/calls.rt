@@ -10,7 +10,7 @@ use crate::dictionary::in_range;
 use crate::expand::expand;
 use crate::shorten::shorten;
 use words::answer::Answer;
-use words::bytes::{Word, read8, read16, write8, write16};
+use words::bytes::{Word, read8, read16, write, write16};
 use words::fields::{cmpt_ctrl, is_short, operation, operation_in};
 use words::limits::DICTIONARY_BYTES;
 use words::operation::{is_branch, is_listed};
@@ -32,7 +32,7 @@ fn eight_bytes(v: u64) -> [u8; 8]
     ensures { result ≡ bytes_of 8 v }
 {
     let mut bytes = [0u8; 8];
-    write8(&mut bytes, 0, v);
+    write::<8>(&mut bytes, 0, v);
     bytes
 }
 

@@ -31,8 +31,8 @@ returns-then-size-ne1 c =
     let e : encode (form_in D a.size w) w ≡ bytes_of 16 w = form_none D a.size w c.if-size-ne1.true in
     c.write16.ensures ∙ (put_sets 16 a.out.now a.at w ∙ ap (sets a.out.now a.at) (sym e))
 
-pub write8-requires : goal.write8-requires
-write8-requires c =
+pub write-requires : goal.write-requires
+write-requires c =
     let a = c.args in
     let D = dictionary_of a.dictionary.now in
     let w = to_word a.w in
@@ -57,7 +57,7 @@ returns-in-Some c =
     let w = to_word a.w in
     let v = c.in-Some.s in
     let e : encode (form_in D a.size w) w ≡ bytes_of 8 v = form_is D a.size w c.if-size-ne1.false (some v) (ap shorter_is (sym c.in-Some.is) ∙ c.shorten.ensures) in
-    c.write8.ensures ∙ (put_sets 8 a.out.now a.at v ∙ ap (sets a.out.now a.at) (sym e))
+    c.write.ensures ∙ (put_sets 8 a.out.now a.at v ∙ ap (sets a.out.now a.at) (sym e))
 
 pub returns-in-None : goal.returns-in-None
 returns-in-None c =

@@ -5,7 +5,7 @@ use Rattle.machine.specs.Ends.{leave_state}
 use Rattle.machine.proofs.ends.leave.Goals as goal
 
 pub write_state-requires : goal.write_state-requires
-write_state-requires c = (c.requires.bytes_len.0, (c.channels_from.ensures _ c.requires.by_index.2.posted).1)
+write_state-requires c = (c.channels_from.ensures _ c.requires.3.posted).1
 
 pub returns : goal.returns
 returns c =

@@ -8,15 +8,6 @@ use Rattle.words.specs.Operands.{fixed_told, vector_told, direct_told}
 use Rattle.operands.specs.Sources.{operand_fixed, operand_direct, elements_near, count-channels, region_read}
 use Rattle.operands.proofs.elements.operand_by_element.Goals as goal
 
-pub operand_of-requires : goal.operand_of-requires
-operand_of-requires c = ((λ e. c.requires.0.whole), c.src_is_a0.ensures)
-
-pub load-requires : goal.load-requires
-load-requires c =
-    let w = to_word c.args.w in
-    let t = fixed_told src0 w _ c.operand_of.ensures _ c.in-Fixed.is in
-    rw c.src_type-kind.ensures.0 (c.requires.0.type, t.2)
-
 pub spread-requires : goal.spread-requires
 spread-requires c =
     let w = to_word c.args.w in
@@ -37,12 +28,6 @@ returns-in-Fixed c =
     let w = to_word c.args.w in
     let t = fixed_told src0 w _ c.operand_of.ensures _ c.in-Fixed.is in
     operand_fixed w c.args.file.now src0 _ _ _ c.requires.0 _ _ _ t.0 c.src_type-kind.ensures.0 t.1 c.load.ensures c.spread.ensures
-
-pub returns-in-Vector : goal.returns-in-Vector
-returns-in-Vector c =
-    let w = to_word c.args.w in
-    let t = vector_told src0 w _ c.operand_of.ensures _ c.in-Vector.is in
-    absurd (true≢false (sym t.0 ∙ c.requires.0.whole))
 
 pub returns-in-Direct : goal.returns-in-Direct
 returns-in-Direct c =

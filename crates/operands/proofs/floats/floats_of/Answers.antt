@@ -10,32 +10,17 @@ use Rattle.operands.specs.Sources.{count-channels, channels_some}
 use Rattle.operands.specs.Floats.{FloatsIn, FloatsRead, fixed_fits, float_direct, floats_inside, floats_fixed, floats_vector, floats_signed, floats_direct}
 use Rattle.operands.proofs.floats.floats_of.Goals as goal
 
-pub operand_of-requires : goal.operand_of-requires
-operand_of-requires g c = ((λ f. absurd (true≢false f)), rw c.source_at-x.ensures (sym c.requires.3))
-
-pub overflow_cast-pattern : goal.overflow_cast-pattern
-overflow_cast-pattern g c =
-    let x = source_is c.source_at-x.result in
-    let w = to_word c.args.w in
-    let t = fixed_told x w _ c.operand_of.ensures _ c.in-Fixed.is in
-    let v = fixed_no_vector x w _ c.operand_of.ensures _ c.in-Fixed.is in
-    record { fits = fixed_fits x w (subst (λ s. FloatsIn s w) (sym c.source_at-x.ensures) c.requires.0) _ v t.2 }
-
 pub float_spread-requires : goal.float_spread-requires
 float_spread-requires g c = rw c.requires.1 (count-channels (to_word c.args.w) c.requires.0.count)
-
-pub overflow_cast-four : goal.overflow_cast-four
-overflow_cast-four g c =
-    record { fits = (vector_told (source_is c.source_at-x.result) (to_word c.args.w) _ c.operand_of.ensures _ c.in-Vector.is).2 }
 
 pub float_vector-requires : goal.float_vector-requires
 float_vector-requires g c = rw c.requires.1 (count-channels (to_word c.args.w) c.requires.0.count)
 
 pub float_gather-requires : goal.float_gather-requires
 float_gather-requires g c =
-    let x = source_is c.source_at-x.result in
+    let x = source_is c.source_of-x.result in
     let w = to_word c.args.w in
-    let e = c.source_at-x.ensures in
+    let e = c.source_of-x.ensures in
     let t = direct_told x w _ c.operand_of.ensures _ c.in-Direct.is in
     let is = subst (λ s. FloatsIn s w) (sym e) c.requires.0 in
     let four = of_four c.in-Direct.r (t.3 ∙ ap size_of (float_direct x w is t.0)) in
@@ -49,9 +34,9 @@ sign_all-requires g c = rw c.requires.1 (count-channels (to_word c.args.w) c.req
 
 pub returns-in-Fixed : goal.returns-in-Fixed
 returns-in-Fixed g c =
-    let x = source_is c.source_at-x.result in
+    let x = source_is c.source_of-x.result in
     let w = to_word c.args.w in
-    let e = c.source_at-x.ensures in
+    let e = c.source_of-x.ensures in
     let t = fixed_told x w _ c.operand_of.ensures _ c.in-Fixed.is in
     let v = fixed_no_vector x w _ c.operand_of.ensures _ c.in-Fixed.is in
     let is = subst (λ s. FloatsIn s w) (sym e) c.requires.0 in
@@ -60,9 +45,9 @@ returns-in-Fixed g c =
 
 pub returns-in-Vector : goal.returns-in-Vector
 returns-in-Vector g c =
-    let x = source_is c.source_at-x.result in
+    let x = source_is c.source_of-x.result in
     let w = to_word c.args.w in
-    let e = c.source_at-x.ensures in
+    let e = c.source_of-x.ensures in
     let t = vector_told x w _ c.operand_of.ensures _ c.in-Vector.is in
     let is = subst (λ s. FloatsIn s w) (sym e) c.requires.0 in
     subst (λ s. FloatsRead w c.args.registers.now s c.args.n c.args.patterns.now c.float_vector.new.patterns) e
@@ -70,9 +55,9 @@ returns-in-Vector g c =
 
 pub returns-in-Direct : goal.returns-in-Direct
 returns-in-Direct g c =
-    let x = source_is c.source_at-x.result in
+    let x = source_is c.source_of-x.result in
     let w = to_word c.args.w in
-    let e = c.source_at-x.ensures in
+    let e = c.source_of-x.ensures in
     let t = direct_told x w _ c.operand_of.ensures _ c.in-Direct.is in
     let is = subst (λ s. FloatsIn s w) (sym e) c.requires.0 in
     let four = of_four c.in-Direct.r (t.3 ∙ ap size_of (float_direct x w is t.0)) in

@@ -8,21 +8,11 @@ use Rattle.operands.specs.Sources.{Readable, OperandRead}
 use Rattle.operands.specs.Single.{alone, none, alone_fixed, alone_direct, element_near, element_inside}
 use Rattle.operands.proofs.one.number_of.Goals as goal
 
-pub operand_of-requires : goal.operand_of-requires
-operand_of-requires g c =
-    let e = c.source_at-x.ensures in
-    ((λ f. rw e c.requires.0.whole), rw e (sym c.requires.2))
-
-pub load-requires : goal.load-requires
-load-requires g c =
-    let t = fixed_told (source_is c.source_at-x.result) (to_word c.args.w) _ c.operand_of.ensures _ c.in-Fixed.is in
-    rw c.src_type-kind.ensures.0 (rw c.source_at-x.ensures c.requires.0.type, t.2)
-
 pub read_as-v-requires : goal.read_as-v-requires
 read_as-v-requires g c =
-    let x = source_is c.source_at-x.result in
+    let x = source_is c.source_of-x.result in
     let w = to_word c.args.w in
-    let e = c.source_at-x.ensures in
+    let e = c.source_of-x.ensures in
     let t = direct_told x w _ c.operand_of.ensures _ c.in-Direct.is in
     let is = subst (λ s. Readable s w) (sym e) c.requires.0 in
     (t.3 ∙ sym (ap size_of c.src_type-kind.ensures.0), element_inside x w _ is t.0 t.1 _ (rw e c.requires.1), rw c.src_type-kind.ensures.0 is.type)
@@ -32,24 +22,19 @@ modify-requires g c = element_near _ _ _ _ _ c.read_as-v.ensures
 
 pub returns-in-Fixed : goal.returns-in-Fixed
 returns-in-Fixed g c =
-    let x = source_is c.source_at-x.result in
+    let x = source_is c.source_of-x.result in
     let w = to_word c.args.w in
-    let e = c.source_at-x.ensures in
+    let e = c.source_of-x.ensures in
     let t = fixed_told x w _ c.operand_of.ensures _ c.in-Fixed.is in
     let is = subst (λ s. Readable s w) (sym e) c.requires.0 in
     subst (λ s. OperandRead w c.args.registers.now s 1 none (alone c.load.result)) e
     (alone_fixed w c.args.registers.now x is _ _ _ t.0 c.src_type-kind.ensures.0 t.1 c.load.ensures)
 
-pub returns-in-Vector : goal.returns-in-Vector
-returns-in-Vector g c =
-    let t = vector_told (source_is c.source_at-x.result) (to_word c.args.w) _ c.operand_of.ensures _ c.in-Vector.is in
-    absurd (true≢false (sym t.0 ∙ rw c.source_at-x.ensures c.requires.0.whole))
-
 pub returns-in-Direct : goal.returns-in-Direct
 returns-in-Direct g c =
-    let x = source_is c.source_at-x.result in
+    let x = source_is c.source_of-x.result in
     let w = to_word c.args.w in
-    let e = c.source_at-x.ensures in
+    let e = c.source_of-x.ensures in
     let t = direct_told x w _ c.operand_of.ensures _ c.in-Direct.is in
     let is = subst (λ s. Readable s w) (sym e) c.requires.0 in
     subst (λ s. OperandRead w c.args.registers.now s 1 none (alone c.modify.result)) e

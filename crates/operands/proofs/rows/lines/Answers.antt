@@ -10,15 +10,6 @@ pub loop-k-init : goal.loop-k-init
 unfolding ElementsRead
 loop-k-init c = mapped_none _ _ c.told-values
 
-pub element_at-from-requires : goal.element_at-from-requires
-element_at-from-requires c =
-    let p = c.requires.small in
-    (p.0, omega arith)
-
-pub read_as-requires : goal.read_as-requires
-read_as-requires c =
-    (c.requires.small.2, rw c.element_at-from.ensures.0 (c.requires.by_index c.loop-k.k c.loop-k-test.true), c.requires.small.4)
-
 pub loop-k-preserved : goal.loop-k-preserved
 unfolding ElementsRead
 loop-k-preserved c = mapped_more _ c.loop-k.k _ _ _ (omega arith) c.loop-k.invariant (rw (← c.element_at-from.ensures.0) c.read_as.ensures)

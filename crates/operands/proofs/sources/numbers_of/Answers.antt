@@ -7,24 +7,14 @@ use Rattle.words.specs.Operands.{fixed_told, vector_told, direct_told}
 use Rattle.operands.specs.Sources.{Readable, OperandRead, operand_fixed, operand_direct, elements_near, count-channels, channels_some, region_read}
 use Rattle.operands.proofs.sources.numbers_of.Goals as goal
 
-pub operand_of-requires : goal.operand_of-requires
-operand_of-requires g c =
-    let e = c.source_at-x.ensures in
-    ((λ f. rw e c.requires.0.whole), rw e (sym c.requires.3))
-
-pub load-requires : goal.load-requires
-load-requires g c =
-    let t = fixed_told (source_is c.source_at-x.result) (to_word c.args.w) _ c.operand_of.ensures _ c.in-Fixed.is in
-    rw c.src_type-kind.ensures.0 (rw c.source_at-x.ensures c.requires.0.type, t.2)
-
 pub spread-requires : goal.spread-requires
 spread-requires g c = rw c.requires.1 (count-channels (to_word c.args.w) c.requires.0.count)
 
 pub gather-requires : goal.gather-requires
 gather-requires g c =
-    let x = source_is c.source_at-x.result in
+    let x = source_is c.source_of-x.result in
     let w = to_word c.args.w in
-    let e = c.source_at-x.ensures in
+    let e = c.source_of-x.ensures in
     let t = direct_told x w _ c.operand_of.ensures _ c.in-Direct.is in
     let is = subst (λ s. Readable s w) (sym e) c.requires.0 in
     record {
@@ -38,24 +28,19 @@ modify_all-requires g c =
 
 pub returns-in-Fixed : goal.returns-in-Fixed
 returns-in-Fixed g c =
-    let x = source_is c.source_at-x.result in
+    let x = source_is c.source_of-x.result in
     let w = to_word c.args.w in
-    let e = c.source_at-x.ensures in
+    let e = c.source_of-x.ensures in
     let t = fixed_told x w _ c.operand_of.ensures _ c.in-Fixed.is in
     let is = subst (λ s. Readable s w) (sym e) c.requires.0 in
     subst (λ s. OperandRead w c.args.registers.now s c.args.n c.args.values.now c.spread.new.values) e
     (operand_fixed w c.args.registers.now x _ _ _ is _ _ _ t.0 c.src_type-kind.ensures.0 t.1 c.load.ensures c.spread.ensures)
 
-pub returns-in-Vector : goal.returns-in-Vector
-returns-in-Vector g c =
-    let t = vector_told (source_is c.source_at-x.result) (to_word c.args.w) _ c.operand_of.ensures _ c.in-Vector.is in
-    absurd (true≢false (sym t.0 ∙ rw c.source_at-x.ensures c.requires.0.whole))
-
 pub returns-in-Direct : goal.returns-in-Direct
 returns-in-Direct g c =
-    let x = source_is c.source_at-x.result in
+    let x = source_is c.source_of-x.result in
     let w = to_word c.args.w in
-    let e = c.source_at-x.ensures in
+    let e = c.source_of-x.ensures in
     let t = direct_told x w _ c.operand_of.ensures _ c.in-Direct.is in
     let is = subst (λ s. Readable s w) (sym e) c.requires.0 in
     subst (λ s. OperandRead w c.args.registers.now s c.args.n c.args.values.now c.modify_all.new.values) e

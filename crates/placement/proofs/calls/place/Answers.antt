@@ -11,5 +11,7 @@ returns-then-order-ge3 c = as_written _ _ _ (place_unknown _ _ _ _ c.if-bytes-ne
 pub returns : goal.returns
 returns c =
     as_called _ _ _ _
-    (place_answer _ _ _ _ c.if-bytes-ne-RECORD_BYTES.false c.if-order-ge3.false _ c.record_of-k.ensures _ c.answer_spot.ensures _ c.point_bytes.ensures)
+    (place_answer _ _ _ _ c.if-bytes-ne-RECORD_BYTES.false c.if-order-ge3.false _
+    c.record_of.ensures _ c.answer_spot-answered.ensures _
+    c.point_bytes.ensures)
     c.deliver.ensures

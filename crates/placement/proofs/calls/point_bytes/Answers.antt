@@ -6,4 +6,4 @@ use Rattle.placement.proofs.calls.point_bytes.Goals as goal
 
 pub returns : goal.returns
 unfolding point_bytes bytes_of put_at
-returns c = rw (c.write4-2.ensures, c.write4.ensures, c.from-2.ensures, c.from.ensures) refl
+returns c = rw (c.write-2.ensures, c.write.ensures, c.from-2.ensures, c.from.ensures) refl

@@ -1,8 +1,0 @@
--- The loop's invariant: the results of the channels passed are made. Its measure: the channels left. Assumes nothing.
-use Prim.Native.Nat.{◌-◌, ◌≤◌}
-use Rattle.paper.specs.Operation.{cmp}
-use Rattle.execute.specs.Floats.{Reckoned}
-use Rattle.execute.proofs.floats.compare_all.Given as goal
-
-abbrev pub invariant-loop-k : goal.invariant-loop-k
-invariant-loop-k l = (l.k ≤ l.n) × Reckoned cmp l.condition l.k l.initial.first l.second l.first
