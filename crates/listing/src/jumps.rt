@@ -5,6 +5,7 @@ ghost use Rattle.listing.specs.Again.{lines_in, CanRead, MarksAre, astray_is};
 
 use crate::lines::candidate;
 use crate::write::lines_length;
+use kernel::instructions::Instruction;
 use kernel::jumps::jump_lands;
 use words::limits::{DICTIONARY_BYTES, PLACES};
 
@@ -22,7 +23,12 @@ pub(crate) fn first_astray(
     while from < text.len() {
         let f = candidate(text, place, from);
         let size = f.size;
-        if !jump_lands(marks, f.word, place, size) {
+        let i = Instruction {
+            place,
+            size,
+            word: f.word,
+        };
+        if !jump_lands(marks, i) {
             return Some(from as u64);
         }
         from += lines_length(place, size);

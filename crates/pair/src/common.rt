@@ -6,7 +6,7 @@ ghost use Rattle.words.specs.Words.{to_word};
 ghost use Rattle.packer.specs.Forms.{kernel_of, Taken};
 ghost use Rattle.packer.specs.Stages.{Placed};
 
-use kernel::fetch::word_at;
+use kernel::instructions::Instructions;
 use packer::write::rewrite;
 use words::bytes::{Word, read16};
 use words::limits::{DICTIONARY_BYTES, PLACES};
@@ -33,22 +33,18 @@ pub(crate) fn common(
     requires placed { Placed long_form (kernel_of false dictionary.now sent.now) places.now }
     ensures { result ≡ agreed (program (kernel_of true dictionary.now long.now)) (program (kernel_of false dictionary.now sent.now)) }
 {
-    let mut from: usize = 0;
     let mut n: u64 = 0;
-    while from < sent.len() {
+    for i in Instructions::of(dictionary, sent) {
         let at = 16 * (n as usize);
         if long.len() <= at {
             return n;
         }
-        let f = word_at(dictionary, sent, from);
-        let here = (from / 8) as u64;
-        let w = rewrite(places, f.word, here, f.size, 2 * n, 2 * n + 2);
+        let w = rewrite(places, i, 2 * n, 2 * n + 2);
         let l = read16(long, at);
         if !same_word(w, l) {
             return n;
         }
         n += 1;
-        from += 8 * (f.size as usize);
     }
     n
 }

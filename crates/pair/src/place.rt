@@ -5,7 +5,7 @@ ghost use Rattle.kernel.specs.Marks.{place_count};
 ghost use Rattle.packer.specs.Forms.{kernel_of, Taken};
 ghost use Rattle.packer.specs.Stages.{Placed};
 
-use kernel::fetch::word_at;
+use kernel::instructions::Instructions;
 use words::limits::{DICTIONARY_BYTES, PLACES};
 
 // Stores at each place at which an instruction starts, and at the end's, the place at which it comes to stand: twice the instruction's number.
@@ -18,15 +18,10 @@ pub(crate) fn place_long(
     requires places_len { length places.old ≡ place_count }
     ensures { Placed long_form (kernel_of false dictionary.now kernel.now) places.new }
 {
-    let mut from: usize = 0;
     let mut to: u16 = 0;
-    while from < kernel.len() {
-        let f = word_at(dictionary, kernel, from);
-        let here = from / 8;
-        places[here] = to;
+    for i in Instructions::of(dictionary, kernel) {
+        places[i.place as usize] = to;
         to += 2;
-        from += 8 * (f.size as usize);
     }
-    let end = from / 8;
-    places[end] = to;
+    places[kernel.len() / 8] = to;
 }

@@ -1,72 +1,72 @@
--- The loop's invariant: where the pass stands, and that all before it is the same. The measure is what is left of the sent kernel. Assumes nothing.
-use mathlib.Core.Path.{sym, ◌∙◌}
+-- The next instruction is the same, or the first that is not. Assumes nothing.
+use mathlib.Core.Path.{◌≡◌, sym, ◌∙◌}
 use native.Mathlib.Omega.{arith}
 use borrow.Author.Tests.{eqb-true, eqb-false}
-use Rattle.pair.specs.Comparing.{reached_start, reached_few, reached_end, reached_over, reached_whole, reached_room, reached_more, reached_differs, reached_targets, reached_next}
+use Rattle.kernel.specs.Reading.{stands_filled}
+use Rattle.kernel.specs.Instructions.{Over, comes, ends}
+use Rattle.pair.specs.Comparing.{reached_start, reached_few, reached_end, reached_over, reached_room, reached_more, reached_differs, reached_targets, reached_next}
 use Rattle.pair.proofs.common.common.Goals as goal
 
-pub loop-from-init : goal.loop-from-init
-loop-from-init c = reached_start _ _ _ _ _ c.requires.taken.0 c.requires.taken.1
+pub of-i-items-requires : goal.of-i-items-requires
+of-i-items-requires c =
+    let k = c.requires.taken.1 in record { bounded = k.sizes.kernel-most; whole = stands_filled _ _ _ _ k.stands }
+
+pub loop-i-init : goal.loop-i-init
+loop-i-init c =
+    let start : Over c.args.dictionary.now c.args.sent.now c.into_iter-i-iterator.result × (c.into_iter-i-iterator.result.from ≡ 0) =
+    rw c.into_iter-i-iterator.ensures.into_iter_gives c.of-i-items.ensures.over in
+    record { over = start.0; reached = rw start.1 (reached_start _ _ _ _ _ c.requires.taken.0 c.requires.taken.1) }
 
 pub overflow_mul-at : goal.overflow_mul-at
-overflow_mul-at c = omega (arith, reached_few _ _ _ _ _ c.requires.taken.0 c.requires.taken.1 _ _ c.loop-from.invariant)
+overflow_mul-at c = omega (arith, reached_few _ _ _ _ _ c.requires.taken.0 c.requires.taken.1 _ _ c.loop-i.invariant.reached)
 
 pub returns-then-long-at : goal.returns-then-long-at
-returns-then-long-at c = reached_over _ _ _ _ _ c.requires.taken.0 c.requires.taken.1 _ _ c.loop-from.invariant c.if-long-at.true
-
-pub word_at-f-requires : goal.word_at-f-requires
-word_at-f-requires c =
-    reached_whole _ _ _ _ _ c.requires.taken.0 c.requires.taken.1 _ _ c.loop-from.invariant c.loop-from-test.true
+returns-then-long-at c = reached_over _ _ _ _ _ c.requires.taken.0 c.requires.taken.1 _ _ c.loop-i.invariant.reached c.if-long-at.true
 
 pub overflow_mul-n : goal.overflow_mul-n
-overflow_mul-n c = omega (arith, reached_few _ _ _ _ _ c.requires.taken.0 c.requires.taken.1 _ _ c.loop-from.invariant)
+overflow_mul-n c = omega (arith, reached_few _ _ _ _ _ c.requires.taken.0 c.requires.taken.1 _ _ c.loop-i.invariant.reached)
 
-pub overflow_mul-n-in-loop-from : goal.overflow_mul-n-in-loop-from
-overflow_mul-n-in-loop-from c = omega (arith, reached_few _ _ _ _ _ c.requires.taken.0 c.requires.taken.1 _ _ c.loop-from.invariant)
+pub overflow_mul-n-in-loop-i : goal.overflow_mul-n-in-loop-i
+overflow_mul-n-in-loop-i c = omega (arith, reached_few _ _ _ _ _ c.requires.taken.0 c.requires.taken.1 _ _ c.loop-i.invariant.reached)
 
 pub overflow_add-n : goal.overflow_add-n
-overflow_add-n c = omega (arith, reached_few _ _ _ _ _ c.requires.taken.0 c.requires.taken.1 _ _ c.loop-from.invariant)
+overflow_add-n c = omega (arith, reached_few _ _ _ _ _ c.requires.taken.0 c.requires.taken.1 _ _ c.loop-i.invariant.reached)
 
 pub rewrite-w-requires : goal.rewrite-w-requires
 rewrite-w-requires c =
-    let r = c.loop-from.invariant in
-    let t = c.loop-from-test.true in
-    let f = c.word_at-f.ensures in (
-      omega (arith, t, c.requires.taken.1.sizes.kernel-most),
-      f.few,
+    let r = c.loop-i.invariant.reached in
+    let g = comes c.loop-i.i-iterator c.loop-i.invariant.over c.in-Some.i c.next.new.self c.in-Some.ensures.steps in (
       reached_few _ _ _ _ _ c.requires.taken.0 c.requires.taken.1 _ _ r,
-      reached_next _ _ _ _ _ c.requires.taken.0 c.requires.taken.1 _ _ r t c.if-long-at.false _ _ f,
-      reached_targets _ _ _ _ _ c.requires.taken.0 c.requires.taken.1 _ _ r t c.if-long-at.false _ _ f c.args.places.now c.requires.placed,
+      reached_next _ _ _ _ _ c.requires.taken.0 c.requires.taken.1 _ _ r g.inside c.if-long-at.false _ _ g.fetched,
+      rw g.place-is (reached_targets _ _ _ _ _ c.requires.taken.0 c.requires.taken.1 _ _ r g.inside c.if-long-at.false _ _ g.fetched c.args.places.now c.requires.placed),
     )
 
 pub read16-l-requires : goal.read16-l-requires
-read16-l-requires c = reached_room _ _ _ _ _ c.requires.taken.0 c.requires.taken.1 _ _ c.loop-from.invariant c.if-long-at.false
+read16-l-requires c = reached_room _ _ _ _ _ c.requires.taken.0 c.requires.taken.1 _ _ c.loop-i.invariant.reached c.if-long-at.false
 
 pub returns-then-not-same_word : goal.returns-then-not-same_word
 returns-then-not-same_word c =
+    let g = comes c.loop-i.i-iterator c.loop-i.invariant.over c.in-Some.i c.next.new.self c.in-Some.ensures.steps in
     let other = eqb-false _ _ (sym c.same_word.ensures ∙ c.if-not-same_word.true) in
-    reached_differs _ _ _ _ _ c.requires.taken.0 c.requires.taken.1 _ _ c.loop-from.invariant c.loop-from-test.true c.if-long-at.false _ _ c.word_at-f.ensures
-    c.args.places.now c.requires.placed _ c.rewrite-w.ensures (λ e. other (e ∙ sym c.read16-l.ensures))
+    reached_differs _ _ _ _ _ c.requires.taken.0 c.requires.taken.1 _ _ c.loop-i.invariant.reached g.inside c.if-long-at.false _ _ g.fetched
+    c.args.places.now c.requires.placed _ (rw g.place-is at c.rewrite-w.ensures) (λ e. other (e ∙ sym c.read16-l.ensures))
 
-pub overflow_add-n-in-loop-from : goal.overflow_add-n-in-loop-from
-overflow_add-n-in-loop-from c = omega (arith, reached_few _ _ _ _ _ c.requires.taken.0 c.requires.taken.1 _ _ c.loop-from.invariant)
+pub overflow_add-n-in-loop-i : goal.overflow_add-n-in-loop-i
+overflow_add-n-in-loop-i c = omega (arith, reached_few _ _ _ _ _ c.requires.taken.0 c.requires.taken.1 _ _ c.loop-i.invariant.reached)
 
-pub overflow_mul-from : goal.overflow_mul-from
-overflow_mul-from c = let f = c.word_at-f.ensures in omega (arith, f.few)
-
-pub overflow_add-from : goal.overflow_add-from
-overflow_add-from c =
-    let f = c.word_at-f.ensures in
-    omega (arith, c.loop-from-test.true, f.few, c.requires.taken.1.sizes.kernel-most)
-
-pub loop-from-smaller : goal.loop-from-smaller
-loop-from-smaller c = let f = c.word_at-f.ensures in omega (arith, c.loop-from-test.true, f.some)
-
-pub loop-from-preserved : goal.loop-from-preserved
-loop-from-preserved c =
+pub loop-i-preserved : goal.loop-i-preserved
+loop-i-preserved c =
+    let g = comes c.loop-i.i-iterator c.loop-i.invariant.over c.in-Some.i c.next.new.self c.in-Some.ensures.steps in
     let same = eqb-true _ _ (sym c.same_word.ensures ∙ c.if-not-same_word.false) in
-    reached_more _ _ _ _ _ c.requires.taken.0 c.requires.taken.1 _ _ c.loop-from.invariant c.loop-from-test.true c.if-long-at.false _ _ c.word_at-f.ensures
-    c.args.places.now c.requires.placed _ c.rewrite-w.ensures (same ∙ c.read16-l.ensures)
+    record {
+      over = g.over;
+      reached =
+          rw g.next
+          (reached_more _ _ _ _ _ c.requires.taken.0 c.requires.taken.1 _ _ c.loop-i.invariant.reached g.inside c.if-long-at.false _ _ g.fetched
+          c.args.places.now c.requires.placed _ (rw g.place-is at c.rewrite-w.ensures) (same ∙ c.read16-l.ensures));
+    }
 
 pub returns : goal.returns
-returns c = reached_end _ _ _ _ _ c.requires.taken.0 c.requires.taken.1 _ _ c.loop-from.invariant c.loop-from-test.false
+returns c =
+    reached_end _ _ _ _ _ c.requires.taken.0 c.requires.taken.1 _ _ c.loop-i.invariant.reached
+    (ends c.loop-i.i-iterator c.loop-i.invariant.over c.next.new.self c.in-None.ensures.steps)
