@@ -17,6 +17,7 @@ use words::fields::exec_size;
 use words::operation::Plain;
 
 // An instruction that is no branch and has no operand in a0, whatever a0 holds: it stays. One channel has a way of its own.
+// Registers are a slice, as a run lends them, and their length stands in the contracts: to make an array of them would ask for the length at each step.
 pub fn execute(p: Plain, w: Word, awake: u64, flags: Flags, registers: &mut [u8]) -> Flags
     requires counting { Counting (plain_is p) (to_word w) × (uses_a0 (plain_is p) (to_word w) ≡ false) }
     requires registers_len { (length registers.old ≡ register_bytes) × (awake < 65536) × (flags.flag0 < 65536) × (flags.flag1 < 65536) }

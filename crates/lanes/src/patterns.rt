@@ -1,4 +1,5 @@
 // Patterns of 32 bits stored for all channels, where they are enabled: what `scatter` does, from an array of half the size.
+// The two are no instances of one generic function: `scattered` is said of numbers, and not of a type parameter's values.
 ghost use Rattle.std.specs.Prelude.{◌≡◌, ℕ, ◌+◌, ◌*◌, ◌<◌, ◌≤◌, length, get_or};
 ghost use Rattle.paper.specs.Bits.{bit};
 ghost use Rattle.paper.specs.Effect.{scattered};

@@ -1,4 +1,6 @@
 // What the channels of a source of floats read, as 32-bit patterns; modified.
+// Its loops are those of whole numbers (`line`, `lines`, `spread`, `modify_each`) over arrays of half the size, which a run goes through faster. They are no instances of one
+// generic function, since what is said of them (`Mapped`) is said of numbers, and not of a type parameter's values.
 ghost use Rattle.std.specs.Prelude.{false, ◌≡◌, ℕ, ◌+◌, ◌*◌, ◌^◌, ◌≤◌, ◌<◌, length};
 ghost use Rattle.paper.specs.Bits.{number_at};
 ghost use Rattle.paper.specs.Word.{src_is_a0};

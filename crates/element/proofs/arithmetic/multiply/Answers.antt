@@ -1,16 +1,8 @@
 -- The factors are taken over the base 2^16, where no product wraps, and the product is put over 2^63 (`ex_multiply`). Assumes nothing.
 use native.Mathlib.Omega.{arith}
-use Prim.Native.Nat.{◌-◌, ◌^◌}
-use Rattle.element.proofs.Operations.{ex_multiply, product_most}
+use Prim.Native.Nat.{◌-◌}
+use Rattle.element.proofs.Operations.{ex_multiply}
 use Rattle.element.proofs.arithmetic.multiply.Goals as goal
-
-pub overflow_mul-result : goal.overflow_mul-result
-overflow_mul-result c =
-    omega (arith, product_most (c.args.a - 9223372036854710272) (c.args.b - 9223372036854710272) (2 ^ 17) (2 ^ 17) (omega arith) (omega arith))
-
-pub overflow_add-result-2 : goal.overflow_add-result-2
-overflow_add-result-2 c =
-    omega (arith, product_most (c.args.a - 9223372036854710272) (c.args.b - 9223372036854710272) (2 ^ 17) (2 ^ 17) (omega arith) (omega arith))
 
 pub returns : goal.returns
 returns c =

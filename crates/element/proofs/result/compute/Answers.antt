@@ -2,13 +2,7 @@
 use mathlib.Core.Path.{ap, ◌∙◌}
 use mathlib.Core.Logic.{⊎_elim}
 use Rattle.paper.specs.Element.{result, one_if}
-use Rattle.words.specs.Operations.{plain_is}
-use Rattle.element.specs.Biased.{ex}
-use Rattle.element.specs.Base.{ex-cond}
 use Rattle.element.proofs.result.compute.Goals as goal
-
-pub multiply-requires : goal.multiply-requires
-multiply-requires c = c.requires.factors (ap plain_is c.in-Mul.is)
 
 pub returns-in-Mov : goal.returns-in-Mov
 unfolding result

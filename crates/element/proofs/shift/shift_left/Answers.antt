@@ -4,11 +4,8 @@ use Prim.Native.Nat.{ℕ, ◌^◌}
 use mathlib.Core.Path.{ap, ◌∙◌}
 use lib.IntN.{pos, ◌*ℤ◌}
 use Rattle.element.specs.Biased.{ex}
-use Rattle.element.proofs.Operations.{ex_shift_left, shift_left_fits, lowered_most}
+use Rattle.element.proofs.Operations.{ex_shift_left, shift_left_fits}
 use Rattle.element.proofs.shift.shift_left.Goals as goal
-
-pub overflow_sub-result-3 : goal.overflow_sub-result-3
-overflow_sub-result-3 c = lowered_most c.shift_count-n.result c.shift_count-n.ensures.1
 
 pub overflow_add-result : goal.overflow_add-result
 overflow_add-result c =

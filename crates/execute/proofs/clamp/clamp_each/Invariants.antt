@@ -1,5 +1,4 @@
 -- The loop's invariant: the results of the channels passed are clamped. Assumes nothing.
-use Prim.Native.Nat.{◌-◌, ◌≤◌}
 use mathlib.Core.Bool.{true}
 use Rattle.execute.specs.Results.{Kept}
 use Rattle.execute.proofs.clamp.clamp_each.Given as goal

@@ -1,6 +1,5 @@
 -- The flag is made of the masks that the contract names. Assumes nothing.
 use mathlib.Core.Path.{sym, ap, ◌∙◌}
-use native.Mathlib.Omega.{arith}
 use Rattle.words.specs.Words.{to_word}
 use Rattle.execute.proofs.Executed.{flag_from_lem}
 use Rattle.execute.specs.Compared.{lowest_bits}

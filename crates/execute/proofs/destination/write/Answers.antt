@@ -1,11 +1,6 @@
 -- The test is the choice of the definition, and what is handed to `scatter` is the destination's region, which lies inside the registers. Assumes nothing.
-use mathlib.Core.Path.{◌≡◌, sym, ap}
-use mathlib.Core.Bool.{false}
-use Rattle.paper.specs.Word.{dst_type, is_null}
+use mathlib.Core.Path.{ap}
 use Rattle.paper.specs.Region.{Region}
-use Rattle.words.specs.Words.{to_word}
-use Rattle.lanes.specs.Sizes.{type_size}
-use Rattle.operands.specs.Sources.{count-channels}
 use Rattle.execute.specs.Effects.{written}
 use Rattle.execute.proofs.destination.write.Goals as goal
 

@@ -1,11 +1,6 @@
 -- The test is the choice of the definition, and what is handed to `store_each` is the destination's region, which lies inside its file. Assumes nothing.
-use mathlib.Core.Path.{◌≡◌, ap}
-use mathlib.Core.Bool.{false}
-use Rattle.paper.specs.Word.{dst_type, is_null}
+use mathlib.Core.Path.{ap}
 use Rattle.paper.specs.Region.{Region}
-use Rattle.words.specs.Words.{to_word}
-use Rattle.lanes.specs.Sizes.{type_size}
-use Rattle.operands.specs.Sources.{count-channels}
 use Rattle.execute.specs.Effects.{written}
 use Rattle.execute.proofs.destination.write_by_element.Goals as goal
 

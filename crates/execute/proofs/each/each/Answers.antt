@@ -1,5 +1,4 @@
 -- The loop's invariant: the results of the channels passed are made. Assumes nothing.
-use mathlib.Core.Path.{◌≡◌}
 use native.Mathlib.Omega.{arith}
 use Rattle.lanes.specs.Mapped.{mapped_none, mapped_more}
 use Rattle.execute.specs.Results.{Combined}

@@ -1,5 +1,4 @@
 -- The loop's invariant: the results of the channels passed are made. Assumes nothing.
-use Prim.Native.Nat.{◌-◌, ◌≤◌}
 use Rattle.words.specs.Operations.{plain_is}
 use Rattle.execute.specs.Results.{Combined}
 use Rattle.execute.proofs.each.each.Given as goal

@@ -1,6 +1,4 @@
 -- One channel has ExecSize code 0; a0 stays. Assumes nothing.
-use mathlib.Core.Path.{sym, ap, ◌∙◌}
-use Rattle.paper.specs.Region.{count_of}
 use Rattle.words.specs.Words.{to_word}
 use Rattle.words.specs.Operations.{plain_is}
 use Rattle.lanes.specs.Masks.{awake_list}

@@ -1,12 +1,12 @@
 -- The stages one after the other: patterns, results, what is stored. Assumes nothing.
-use mathlib.Core.Path.{refl, sym, ap, ◌∙◌}
+use mathlib.Core.Path.{sym, ap, ◌∙◌}
 use Rattle.paper.specs.Word.{src0}
 use Rattle.paper.specs.Legal.{bytes_in}
 use Rattle.laws.specs.Sources.{first_source}
 use Rattle.words.specs.Operations.{plain_is}
 use Rattle.words.specs.Words.{to_word}
 use Rattle.execute.specs.Readable.{legal-count, not_source, float_registers, legal-floats}
-use Rattle.execute.specs.Floats.{floats_sixteen, floats_made}
+use Rattle.execute.specs.Floats.{floats_made}
 use Rattle.execute.proofs.floats.float_results.Goals as goal
 
 pub channels-n-requires : goal.channels-n-requires

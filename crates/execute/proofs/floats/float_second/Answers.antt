@@ -6,7 +6,7 @@ use Rattle.laws.specs.Sources.{second_source}
 use Rattle.words.specs.Operations.{plain_is}
 use Rattle.words.specs.Words.{to_word}
 use Rattle.execute.specs.Readable.{not_source, float_registers, legal-floats}
-use Rattle.execute.specs.Floats.{second_told, no_second}
+use Rattle.execute.specs.Floats.{second_told}
 use Rattle.execute.proofs.floats.float_second.Goals as goal
 
 pub floats_of-requires : goal.floats_of-requires

@@ -1,13 +1,11 @@
 -- The test is the choice of the definition, and what is handed to `scatter_patterns` is the destination's region, which lies inside the registers. Assumes nothing.
-use mathlib.Core.Path.{◌≡◌, sym, ap}
+use mathlib.Core.Path.{◌≡◌, ap}
 use mathlib.Core.Bool.{false}
 use Rattle.paper.specs.Word.{is_null}
 use Rattle.paper.specs.Region.{Region}
 use Rattle.words.specs.Words.{to_word}
-use Rattle.operands.specs.Sources.{count-channels}
 use Rattle.execute.specs.Effects.{written}
 use Rattle.execute.specs.Floats.{floats_written}
-use borrow.Author.Rules.{rules}
 use Rattle.execute.proofs.floats.write_floats.Goals as goal
 
 pub returns-then-is_null : goal.returns-then-is_null

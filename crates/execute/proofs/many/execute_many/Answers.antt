@@ -7,7 +7,7 @@ use Rattle.words.specs.Words.{to_word}
 use Rattle.words.specs.Operations.{plain_is}
 use Rattle.execute.specs.Readable.{not-destination, not_source, legal_writable}
 use Rattle.execute.proofs.Executed.{Made, direct_registers, direct_flags, direct_less}
-use mathlib.Core.Path.{refl, sym, ap, ◌∙◌}
+use mathlib.Core.Path.{sym, ap, ◌∙◌}
 use Rattle.execute.proofs.many.execute_many.Goals as goal
 
 pub results-requires : goal.results-requires

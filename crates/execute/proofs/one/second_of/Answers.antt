@@ -1,13 +1,12 @@
 -- Where src1 is not read, what stands for 0 is near. Assumes nothing.
-use mathlib.Core.Path.{refl, sym, ◌∙◌, ap}
+use mathlib.Core.Path.{sym, ◌∙◌, ap}
 use Rattle.paper.specs.Word.{src1}
 use Rattle.paper.specs.Legal.{bytes_in}
 use Rattle.words.specs.Operations.{plain_is}
 use Rattle.laws.specs.Sources.{second_source}
 use Rattle.words.specs.Words.{to_word}
 use Rattle.execute.specs.Readable.{one_file, legal_readable, not_source}
-use Rattle.execute.specs.Results.{second_read, second_none}
-use Rattle.execute.specs.Single.{zero_near}
+use Rattle.execute.specs.Results.{second_read}
 use Rattle.execute.proofs.one.second_of.Goals as goal
 
 pub number_of-requires : goal.number_of-requires

@@ -1,13 +1,10 @@
 -- The test is the choice of the definition, and the element is the destination's first. Assumes nothing.
-use mathlib.Core.Path.{◌≡◌, sym, ap}
+use mathlib.Core.Path.{◌≡◌}
 use mathlib.Core.Bool.{false}
-use native.Mathlib.Omega.{arith}
-use Rattle.paper.specs.Word.{dst_type, is_null}
-use Rattle.paper.specs.Region.{Region}
+use Rattle.paper.specs.Word.{is_null}
 use Rattle.words.specs.Words.{to_word}
-use Rattle.lanes.specs.Sizes.{type_size}
 use Rattle.execute.specs.Effects.{written}
-use Rattle.execute.specs.Single.{store_inside, written-alone}
+use Rattle.execute.specs.Single.{written-alone}
 use Rattle.execute.proofs.one.store.Goals as goal
 
 pub returns-then-is_null : goal.returns-then-is_null

@@ -1,5 +1,5 @@
 -- The stages one after the other: operands, results, what is stored. Assumes nothing.
-use mathlib.Core.Path.{refl, ap}
+use mathlib.Core.Path.{ap}
 use Prim.Native.Nat.{ℕ}
 use lib.Dec.{eqb}
 use Rattle.paper.specs.Word.{src0}
@@ -7,7 +7,7 @@ use Rattle.words.specs.Operations.{plain_is}
 use Rattle.laws.specs.Sources.{first_source}
 use Rattle.words.specs.Words.{to_word}
 use Rattle.execute.specs.Readable.{legal-count, legal-whole, legal_readable, not_source}
-use Rattle.execute.specs.Results.{zeros-near, read_sixteen, read_operands, combined_sixteen, results_made}
+use Rattle.execute.specs.Results.{read_operands, results_made}
 use Rattle.execute.proofs.results.results.Goals as goal
 
 pub channels-n-requires : goal.channels-n-requires

@@ -6,7 +6,7 @@ use Rattle.words.specs.Operations.{plain_is}
 use Rattle.laws.specs.Sources.{second_source}
 use Rattle.words.specs.Words.{to_word}
 use Rattle.execute.specs.Readable.{one_file, legal_readable, not_source}
-use Rattle.execute.specs.Results.{second_read, second_none}
+use Rattle.execute.specs.Results.{second_read}
 use Rattle.execute.proofs.results.second.Goals as goal
 
 pub numbers_of-requires : goal.numbers_of-requires

@@ -8,7 +8,7 @@ use Rattle.paper.specs.Legal.{bytes_in}
 use Rattle.laws.specs.Sources.{first_source}
 use Rattle.words.specs.Words.{to_word}
 use Rattle.execute.specs.Readable.{legal-count, legal-whole, legal_readable}
-use Rattle.execute.specs.Results.{read_sixteen, moved_made}
+use Rattle.execute.specs.Results.{moved_made}
 use Rattle.execute.proofs.transfer.moved.Goals as goal
 
 pub channels-n-requires : goal.channels-n-requires

@@ -1,6 +1,4 @@
 -- The loop's invariant: the elements of the channels passed are read. Assumes nothing.
-use borrow.Author.Rules.{rules}
-use mathlib.Core.Path.{◌≡◌}
 use native.Mathlib.Omega.{arith}
 use Rattle.lanes.specs.Mapped.{mapped_none, mapped_more}
 use Rattle.operands.specs.Reads.{ElementsRead}

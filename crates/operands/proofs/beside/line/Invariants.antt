@@ -1,5 +1,4 @@
 -- The loop's invariant: the elements of the channels passed are read. Assumes nothing.
-use Prim.Native.Nat.{◌-◌, ◌≤◌}
 use Prim.Native.Nat.{◌+◌, ◌*◌}
 use Rattle.operands.specs.Reads.{ElementsRead}
 use Rattle.operands.proofs.beside.line.Given as goal

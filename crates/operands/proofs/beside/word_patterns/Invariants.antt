@@ -1,6 +1,6 @@
 -- The loop's invariant: the patterns of the channels passed are read. Assumes nothing.
 use mathlib.Core.Path.{◌≡◌}
-use Prim.Native.Nat.{◌+◌, ◌-◌, ◌*◌, ◌≤◌}
+use Prim.Native.Nat.{◌+◌, ◌*◌}
 use Rattle.paper.specs.Bits.{number_at}
 use Rattle.lanes.specs.Mapped.{Mapped}
 use Rattle.operands.proofs.beside.word_patterns.Given as goal

@@ -1,5 +1,4 @@
 -- The loop's invariant: the channels passed have what their patterns mean. Assumes nothing.
-use Prim.Native.Nat.{◌-◌, ◌≤◌}
 use lib.ListN.{get_or}
 use Rattle.lanes.specs.Mapped.{Mapped}
 use Rattle.operands.specs.Reads.{Reads}

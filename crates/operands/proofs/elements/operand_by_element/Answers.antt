@@ -1,10 +1,9 @@
 -- An immediate is the same for all channels; elements are read one by one and modified. Assumes nothing.
-use mathlib.Core.Bool.{true≢false}
 use mathlib.Core.Path.{refl, sym, ap, ◌∙◌}
 use Rattle.paper.specs.Value.{size_of}
 use Rattle.paper.specs.Word.{src0}
 use Rattle.words.specs.Words.{to_word}
-use Rattle.words.specs.Operands.{fixed_told, vector_told, direct_told}
+use Rattle.words.specs.Operands.{fixed_told, direct_told}
 use Rattle.operands.specs.Sources.{operand_fixed, operand_direct, elements_near, count-channels, region_read}
 use Rattle.operands.proofs.elements.operand_by_element.Goals as goal
 

@@ -1,5 +1,5 @@
 -- The loop's invariant: the elements of the channels passed are read. Assumes nothing.
-use Prim.Native.Nat.{◌+◌, ◌-◌, ◌*◌, ◌≤◌}
+use Prim.Native.Nat.{◌+◌, ◌*◌}
 use Rattle.operands.specs.Floats.{FloatsAt}
 use Rattle.operands.proofs.floats.float_line.Given as goal
 

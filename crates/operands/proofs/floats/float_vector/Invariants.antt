@@ -1,6 +1,6 @@
 -- The loop's invariant: the channels passed have their own restricted float. Assumes nothing.
 use mathlib.Core.Path.{◌≡◌}
-use Prim.Native.Nat.{◌-◌, ◌^◌, ◌≤◌, ◌<◌}
+use Prim.Native.Nat.{◌^◌, ◌<◌}
 use Rattle.lanes.specs.Mapped.{Mapped}
 use Rattle.paper.specs.Restricted.{vector_float}
 use Rattle.operands.proofs.floats.float_vector.Given as goal

@@ -1,5 +1,4 @@
 -- An immediate is the same for all channels, or each has its own; elements are read by their region's shape and modified. Assumes nothing.
-use mathlib.Core.Bool.{true≢false}
 use mathlib.Core.Path.{sym, ap, ◌∙◌, subst}
 use Rattle.paper.specs.Value.{size_of}
 use Rattle.words.specs.Words.{to_word, source_is}
@@ -7,7 +6,7 @@ use Rattle.words.specs.Operands.{fixed_told, fixed_no_vector, vector_told, direc
 use Rattle.words.specs.Regions.{region_is, Small}
 use Rattle.operands.specs.Shapes.{of_four}
 use Rattle.operands.specs.Sources.{count-channels, channels_some}
-use Rattle.operands.specs.Floats.{FloatsIn, FloatsRead, fixed_fits, float_direct, floats_inside, floats_fixed, floats_vector, floats_signed, floats_direct}
+use Rattle.operands.specs.Floats.{FloatsIn, FloatsRead, float_direct, floats_inside, floats_fixed, floats_vector, floats_signed, floats_direct}
 use Rattle.operands.proofs.floats.floats_of.Goals as goal
 
 pub float_spread-requires : goal.float_spread-requires

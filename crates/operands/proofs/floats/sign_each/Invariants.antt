@@ -1,6 +1,6 @@
 -- The loop's invariant: the patterns of the channels passed are modified. Assumes nothing.
 use mathlib.Core.Path.{◌≡◌}
-use Prim.Native.Nat.{◌-◌, ◌^◌, ◌≤◌, ◌<◌}
+use Prim.Native.Nat.{◌^◌, ◌<◌}
 use Rattle.lanes.specs.Mapped.{Mapped}
 use Rattle.paper.specs.Single.{sign_modified}
 use Rattle.operands.proofs.floats.sign_each.Given as goal

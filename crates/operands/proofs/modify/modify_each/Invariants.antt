@@ -1,6 +1,5 @@
 -- The loop's invariant: the numbers of the channels passed are modified. Assumes nothing.
 use mathlib.Core.Path.{◌≡◌}
-use Prim.Native.Nat.{◌-◌, ◌≤◌}
 use Rattle.lanes.specs.Mapped.{Mapped}
 use Rattle.paper.specs.Value.{modified}
 use Rattle.element.specs.Biased.{ex, Keeps}

@@ -1,9 +1,8 @@
 -- An immediate is the same for all channels; the first element is read and modified. Assumes nothing.
-use mathlib.Core.Bool.{true≢false}
 use mathlib.Core.Path.{sym, ap, ◌∙◌, subst}
 use Rattle.paper.specs.Value.{size_of}
 use Rattle.words.specs.Words.{to_word, source_is}
-use Rattle.words.specs.Operands.{fixed_told, vector_told, direct_told}
+use Rattle.words.specs.Operands.{fixed_told, direct_told}
 use Rattle.operands.specs.Sources.{Readable, OperandRead}
 use Rattle.operands.specs.Single.{alone, none, alone_fixed, alone_direct, element_near, element_inside}
 use Rattle.operands.proofs.one.number_of.Goals as goal

@@ -1,6 +1,4 @@
 -- An element has as many bits as its type, so that its value can be told. Assumes nothing.
-use Rattle.laws.specs.Values.{whole_type}
-use Rattle.lanes.specs.Sizes.{type_size}
 use Rattle.operands.specs.Reads.{ElementRead, element_less}
 use Rattle.operands.proofs.read.read_as.Goals as goal
 

@@ -1,5 +1,4 @@
 -- The loop's invariant: the elements of the channels passed are read. Assumes nothing.
-use Prim.Native.Nat.{◌-◌, ◌≤◌}
 use Rattle.paper.specs.Region.{element_at}
 use Rattle.words.specs.Regions.{region_is}
 use Rattle.operands.specs.Reads.{ElementsRead}

@@ -1,9 +1,8 @@
 -- An immediate is the same for all channels; elements are gathered and modified. Assumes nothing.
-use mathlib.Core.Bool.{true≢false}
 use mathlib.Core.Path.{sym, ap, ◌∙◌, subst}
 use Rattle.paper.specs.Value.{size_of}
 use Rattle.words.specs.Words.{to_word, source_is}
-use Rattle.words.specs.Operands.{fixed_told, vector_told, direct_told}
+use Rattle.words.specs.Operands.{fixed_told, direct_told}
 use Rattle.operands.specs.Sources.{Readable, OperandRead, operand_fixed, operand_direct, elements_near, count-channels, channels_some, region_read}
 use Rattle.operands.proofs.sources.numbers_of.Goals as goal
 

@@ -1,6 +1,5 @@
 -- The loop's invariant: the channels passed have the number. Assumes nothing.
 use mathlib.Core.Path.{◌≡◌}
-use Prim.Native.Nat.{◌-◌, ◌≤◌}
 use Rattle.lanes.specs.Mapped.{Mapped}
 use Rattle.operands.proofs.spread.spread.Given as goal
 

@@ -9,18 +9,6 @@ past x n h far =
     let more : 2 ^ 32 ≤ 2 ^ (8 * n) = pow_mono {i = 32} {j = 8 * n} (omega arith) in
     ap (λ (q : ℕ). q % 256) (div-eq_of_lt (omega arith))
 
-pub returns-in-0 : goal.returns-in-0
-returns-in-0 c = rw c.in-0.is (omega arith)
-
-pub returns-in-1 : goal.returns-in-1
-returns-in-1 c = rw c.in-1.is
-
-pub returns-in-2 : goal.returns-in-2
-returns-in-2 c = rw c.in-2.is
-
-pub returns-in-3 : goal.returns-in-3
-returns-in-3 c = rw c.in-3.is
-
 pub returns-in_default : goal.returns-in_default
 returns-in_default c =
     let a = c.args in
