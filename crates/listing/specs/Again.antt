@@ -16,8 +16,7 @@ use Rattle.laws.specs.Names.{Laid}
 use Rattle.text.specs.Reading.{after_text}
 use Rattle.kernel.specs.Marks.{place_count, marked}
 use Rattle.kernel.specs.Jumps.{land_by, instr_of, all_same}
-use Rattle.listing.specs.declared.jumps.Astray.{Astray}
-use Rattle.listing.specs.declared.jumps.Astray.TheVariants.{Nowhere, Branch}
+use Rattle.std.specs.Prelude as std
 use Rattle.listing.specs.Lines.{candidate_is, lines_length}
 use Rattle.listing.specs.Texts.{Readable, ReadFrom, size_most}
 
@@ -38,9 +37,9 @@ abbrev pub MarksAre : List Instr → List ℕ → Type 0
 MarksAre k marks = (p : ℕ) → marked marks p ≡ lands k p
 
 -- What the code's answer is: none, or the byte.
-abbrev pub astray_is : Astray → Option ℕ
-astray_is Nowhere = none
-astray_is (Branch from) = some from
+abbrev pub astray_is : std.Option ℕ → Option ℕ
+astray_is std.None = none
+astray_is (std.Some from) = some from
 
 -- ---- what is still to come
 

@@ -1,5 +1,5 @@
 -- From the first pass over a text to what the other two ask, how long its kernel is, and what the call then answers. Assumes nothing.
-use Rattle.std.specs.Prelude.{true, false, List, [], ◌∷◌, ◌≡◌, ℕ, ◌+◌, ◌*◌, ◌≤◌, length}
+use Rattle.std.specs.Prelude.{Ok, Err, true, false, List, [], ◌∷◌, ◌≡◌, ℕ, ◌+◌, ◌*◌, ◌≤◌, length}
 use Rattle.std.proofs.Math.Path.{refl, ap}
 use Rattle.std.proofs.Common.{sym, ◌∙◌, arith, eq-eqb, ne_eqb}
 use Rattle.paper.specs.Limits.{dictionary_bytes, instruction_limit}
@@ -9,16 +9,13 @@ use Rattle.paper.specs.Jump.{next_of, end_from, end_of}
 use Rattle.paper.specs.Calls.{deliver}
 use Rattle.paper.specs.Listing.{Listing, faulty, listed, lines_from, astray_lines, landed, with_targets, read_listing, kernel_of, read_as, read_call}
 use Rattle.laws.specs.Names.{Laid}
-use Rattle.words.specs.declared.answer.Answer.{Answer}
-use Rattle.words.specs.declared.answer.Answer.TheVariants.{Refused}
-use Rattle.words.specs.Answer.{Wrote}
-use Rattle.listing.specs.declared.scan.Scanned.{Scanned}
-use Rattle.listing.specs.declared.scan.Scanned.TheVariants.{Whole, Faulty}
-use Rattle.listing.specs.declared.jumps.Astray.{Astray}
-use Rattle.listing.specs.declared.jumps.Astray.TheVariants.{Nowhere, Branch}
+use Rattle.std.specs.Prelude as std
+use Rattle.words.specs.declared.refusal.Refusal.TheVariants.{WrongSize, WideDictionary, NoListing}
+use Rattle.words.specs.declared.answer.Refused.{Refused}
+use Rattle.words.specs.Answer.{Answer, Wrote, refused_at}
 use Rattle.listing.specs.Texts.{Readable, size_most, lines_only}
 use Rattle.listing.specs.Kernels.{kernel_length}
-use Rattle.listing.specs.Scanning.{Scans}
+use Rattle.listing.specs.Scanning.{Scanned, Scans}
 use Rattle.listing.specs.Again.{lines_in, CanRead, MarksAre, astray_is}
 
 -- ---- the first pass
@@ -42,25 +39,25 @@ pub record Passed (dictionary s marks : List ℕ) (places : ℕ) : Type 0 where
   pub few : places ≤ 2 * instruction_limit
 
 -- A text that is faulty has no places, one that can be read no fault.
-no_places : {A : Type 0} (places from : ℕ) → Whole places ≡ Faulty from → A
-no_places places from e = let z : ◌≡◌ {A = ℕ} 0 1 = cc in absurd (omega arith)
+no_places : {A : Type 0} (places : ℕ) (f : Refused) → ◌≡◌ {A = Scanned} (Ok places) (Err f) → A
+no_places places f e = let z : ◌≡◌ {A = ℕ} 0 1 = cc in absurd (omega arith)
 
-same_places : (a b : ℕ) → Whole a ≡ Whole b → a ≡ b
+same_places : (a b : ℕ) → ◌≡◌ {A = Scanned} (Ok a) (Ok b) → a ≡ b
 same_places a b e = cc
 
-same_byte : (a b : ℕ) → Faulty a ≡ Faulty b → a ≡ b
-same_byte a b e = cc
+same_refusal : (f g : Refused) → ◌≡◌ {A = Scanned} (Err f) (Err g) → f ≡ g
+same_refusal f g e = cc
 
 module _ (dictionary s marks : List ℕ) (r : Scanned) where
   abbrev lines : Listing
   lines = lines_from (dictionary_of dictionary) s instruction_limit 0 0
 
-  pub passed : Scans lines r marks → (places : ℕ) → r ≡ Whole places → Passed dictionary s marks places
+  pub passed : Scans lines r marks → (places : ℕ) → r ≡ Ok places → Passed dictionary s marks places
   unfolding lines_in Scans
   passed scans places e = go lines refl scans
     where
       go : (q : Listing) → lines ≡ q → Scans q r marks → Passed dictionary s marks places
-      go (faulty from) l h = no_places places from (sym e ∙ h)
+      go (faulty from) l h = no_places places (refused_at NoListing from) (sym e ∙ h)
       go (listed k) l h =
           let D = dictionary_of dictionary in
           let own : lines_in dictionary s ≡ k = rw l in
@@ -75,25 +72,28 @@ module _ (dictionary s marks : List ℕ) (r : Scanned) where
           }
 
   -- The byte of a fault.
-  pub faulted : Scans lines r marks → (from : ℕ) → r ≡ Faulty from → lines ≡ faulty from
+  pub faulted : Scans lines r marks → (f : Refused) → r ≡ Err f → (f ≡ refused_at NoListing f.offset) × (lines ≡ faulty f.offset)
   unfolding Scans
-  faulted scans from e = go lines refl scans
+  faulted scans f e = go lines refl scans
     where
-      go : (q : Listing) → lines ≡ q → Scans q r marks → q ≡ faulty from
-      go (faulty m) l h = ap faulty (same_byte m from (sym h ∙ e))
-      go (listed k) l h = no_places (end_of k) from (sym h.0 ∙ e)
+      go : (q : Listing) → lines ≡ q → Scans q r marks → (f ≡ refused_at NoListing f.offset) × (q ≡ faulty f.offset)
+      go (faulty m) l h =
+          let same : f ≡ refused_at NoListing m = same_refusal f (refused_at NoListing m) (sym e ∙ h) in
+          let from : m ≡ f.offset = sym (ap (λ (g : Refused). g.offset) same) in
+          (same ∙ ap (refused_at NoListing) from, ap faulty from)
+      go (listed k) l h = no_places (end_of k) f (sym h.0 ∙ e)
 
 -- ---- what is read
 
-module _ (dictionary s marks : List ℕ) (places : ℕ) (p : Passed dictionary s marks places) (a : Astray)
+module _ (dictionary s marks : List ℕ) (places : ℕ) (p : Passed dictionary s marks places) (a : std.Option ℕ)
     (is : astray_is a ≡ astray_lines (lines_in dictionary s) (lines_in dictionary s) 0) where
   -- A jump that goes astray is told.
-  pub read_astray : (from : ℕ) → a ≡ Branch from → read_listing (dictionary_of dictionary) s ≡ faulty from
+  pub read_astray : (from : ℕ) → a ≡ std.Some from → read_listing (dictionary_of dictionary) s ≡ faulty from
   unfolding read_listing with_targets
   read_astray from e = ap with_targets p.lines ∙ ap (landed (lines_in dictionary s)) (sym is ∙ ap astray_is e)
 
   -- If all land, the instructions are read.
-  pub read-landed : a ≡ Nowhere → read_listing (dictionary_of dictionary) s ≡ listed (lines_in dictionary s)
+  pub read-landed : a ≡ std.None → read_listing (dictionary_of dictionary) s ≡ listed (lines_in dictionary s)
   unfolding read_listing with_targets
   read-landed e = ap with_targets p.lines ∙ ap (landed (lines_in dictionary s)) (sym is ∙ ap astray_is e)
 
@@ -105,7 +105,7 @@ read-faulty D s from e = ap with_targets e
 -- ---- the answer
 
 module _ (D : Dictionary) (s out : List ℕ) where
-  pub told_faulty : (from : ℕ) → read_listing D s ≡ faulty from → Wrote (read_as D out (read_listing D s)) (Refused 30 from) out
+  pub told_faulty : (from : ℕ) → read_listing D s ≡ faulty from → Wrote (read_as D out (read_listing D s)) (Err (refused_at NoListing from)) out
   told_faulty from e = rw e (refl, refl)
 
   pub told_kernel : (k : List Instr) → read_listing D s ≡ listed k → (r : Answer) (after : List ℕ) → Wrote (deliver (kernel_of D k) out) r after
@@ -113,12 +113,12 @@ module _ (D : Dictionary) (s out : List ℕ) where
   told_kernel k e r after w = rw e w
 
 module _ (dictionary s out : List ℕ) where
-  pub read_size : (length dictionary ≡ dictionary_bytes → ⊥) → Wrote (read_call dictionary s out) (Refused 1 0) out
+  pub read_size : (length dictionary ≡ dictionary_bytes → ⊥) → Wrote (read_call dictionary s out) (Err (refused_at WrongSize 0)) out
   unfolding read_call
   read_size h = rw (ne_eqb (length dictionary) dictionary_bytes h) (refl, refl)
 
   module _ (size : length dictionary ≡ dictionary_bytes) where
-    pub read_range : in_range (dictionary_of dictionary) ≡ false → Wrote (read_call dictionary s out) (Refused 2 0) out
+    pub read_range : in_range (dictionary_of dictionary) ≡ false → Wrote (read_call dictionary s out) (Err (refused_at WideDictionary 0)) out
     unfolding read_call
     read_range e = rw (eq-eqb (length dictionary) dictionary_bytes size, e) (refl, refl)
 

@@ -1,5 +1,5 @@
 -- What is left of a text from where the code's first pass stands, and that it says of the whole what the pass says in the end. Assumes nothing.
-use Rattle.std.specs.Prelude.{Bool, true, false, cond, ◌||◌, List, [], ◌≡◌, eqb, length, drop, set}
+use Rattle.std.specs.Prelude.{Result, Ok, Err, Bool, true, false, cond, ◌||◌, List, [], ◌≡◌, eqb, length, drop, set}
 use Rattle.std.proofs.Math.Option.{Option, none, some}
 use Rattle.std.proofs.Math.Path.{refl}
 use Rattle.std.proofs.Common.{sym, ap, ◌∙◌, subst, length-append, length-drop, lt-ltb, le-ltb, eqb-true, eq-eqb, ne_eqb}
@@ -12,21 +12,26 @@ use Rattle.paper.specs.Kernel.{Instr}
 use Rattle.paper.specs.Jump.{next_of, fetch, found, end_from, end_of, lands}
 use Rattle.paper.specs.Listing.{instr_text, instr_at, Listing, faulty, listed, follow, lines_from}
 use Rattle.kernel.specs.Marks.{place_count, marked, mark_more}
-use Rattle.listing.specs.declared.scan.Scanned.{Scanned}
-use Rattle.listing.specs.declared.scan.Scanned.TheVariants.{Whole, Faulty}
+use Rattle.words.specs.declared.refusal.Refusal.TheVariants.{NoListing}
+use Rattle.words.specs.declared.answer.Refused.{Refused}
+use Rattle.words.specs.Answer.{refused_at}
 use Rattle.listing.specs.Lines.{instr_only, lines_length}
 use Rattle.listing.specs.Texts.{size_most}
 
+-- What is said of a text: the place of its end, or its refusal.
+abbrev pub Scanned : Type 0
+Scanned = Result ℕ Refused
+
 -- What is said of a text that is read so: the place of its end, and the marks; or where it is faulty.
 unfoldable pub Scans : Listing → Scanned → List ℕ → Type 0
-Scans (faulty from) r marks = r ≡ Faulty from
-Scans (listed k) r marks = (r ≡ Whole (end_of k)) × ((p : ℕ) → marked marks p ≡ lands k p)
+Scans (faulty from) r marks = r ≡ Err (refused_at NoListing from)
+Scans (listed k) r marks = (r ≡ Ok (end_of k)) × ((p : ℕ) → marked marks p ≡ lands k p)
 
 -- What the answer r and the marks m' say of what is left, read as q, from place p on, with the marks m made before it.
 unfoldable pub Goes : ℕ → List ℕ → Listing → Scanned → List ℕ → Type 0
-Goes p m (faulty from) r m' = r ≡ Faulty from
+Goes p m (faulty from) r m' = r ≡ Err (refused_at NoListing from)
 Goes p m (listed k) r m' =
-    (r ≡ Whole (end_from p k)) × ((x : ℕ) → marked m' x ≡ (marked m x || (found (fetch k x) || eqb x (end_from p k))))
+    (r ≡ Ok (end_from p k)) × ((x : ℕ) → marked m' x ≡ (marked m x || (found (fetch k x) || eqb x (end_from p k))))
 
 goes_whole : (m : List ℕ) → ((p : ℕ) → marked m p ≡ false) → (q : Listing) (r : Scanned) (m' : List ℕ) → Goes 0 m q r m' → Scans q r m'
 unfolding lands Scans Goes
@@ -66,7 +71,7 @@ eqb_swap a b = go (eqb b a) refl
     go false e = ne_eqb a b (λ h. eqb-false b a e (sym h))
 
 -- At the end only the end itself is marked.
-goes_end : (p : ℕ) (m : List ℕ) → p < place_count → length m ≡ place_count → Goes p m (listed []) (Whole p) (set m p 1)
+goes_end : (p : ℕ) (m : List ℕ) → p < place_count → length m ≡ place_count → Goes p m (listed []) (Ok p) (set m p 1)
 unfolding fetch end_from Goes
 goes_end p m l z = (refl, λ x. mark_more m p x l z ∙ ap (λ (b : Bool). marked m x || b) (eqb_swap p x))
 
@@ -105,24 +110,24 @@ module _ (D : Dictionary) (s : List ℕ) (p from c : ℕ) (m : List ℕ) (q : Li
   leads_as : (x : Listing) (r : Scanned) (m' : List ℕ) → lines_from D s (instruction_limit - c) p from ≡ x → Goes p m x r m' → Scans q r m'
   leads_as x r m' e g = leads r m' (subst (λ (x : Listing). Goes p m x r m') (sym e) g)
 
-  pub leads_end : length s ≤ from → p < place_count → length m ≡ place_count → Scans q (Whole p) (set m p 1)
-  leads_end h l z = leads_as (listed []) (Whole p) (set m p 1) (lines_end D s p from (instruction_limit - c) h) (goes_end p m l z)
+  pub leads_end : length s ≤ from → p < place_count → length m ≡ place_count → Scans q (Ok p) (set m p 1)
+  leads_end h l z = leads_as (listed []) (Ok p) (set m p 1) (lines_end D s p from (instruction_limit - c) h) (goes_end p m l z)
 
   module _ (inside : from < length s) where
-    pub leads_full : c ≡ instruction_limit → Scans q (Faulty from) m
+    pub leads_full : c ≡ instruction_limit → Scans q (Err (refused_at NoListing from)) m
     unfolding Goes
     leads_full e =
         let n : instruction_limit - c ≡ 0 = omega arith in
-        leads_as (faulty from) (Faulty from) m (ap (λ (n : ℕ). lines_from D s n p from) n ∙ lines_full D s p from inside) refl
+        leads_as (faulty from) (Err (refused_at NoListing from)) m (ap (λ (n : ℕ). lines_from D s n p from) n ∙ lines_full D s p from inside) refl
 
     module _ (few : c < instruction_limit) where
       left : instruction_limit - c ≡ suc (instruction_limit - (c + 1))
       left = omega arith
 
-      pub leads_none : instr_at D s p from ≡ none → Scans q (Faulty from) m
+      pub leads_none : instr_at D s p from ≡ none → Scans q (Err (refused_at NoListing from)) m
       unfolding Goes
       leads_none e =
-          leads_as (faulty from) (Faulty from) m
+          leads_as (faulty from) (Err (refused_at NoListing from)) m
           (ap (λ (n : ℕ). lines_from D s n p from) left ∙ lines_none D s p from inside (instruction_limit - (c + 1)) e) refl
 
       pub leads_some : (i : Instr) (next : ℕ) → instr_at D s p from ≡ some i → next ≡ from + length (instr_text i) → p < place_count → length m ≡ place_count

@@ -1,5 +1,5 @@
 -- Laws of writing: lines that follow each other, an instruction's dwords by the halves of its word, and what the call answers. Assumes nothing.
-use Rattle.std.specs.Prelude.{List, [], ◌∷◌, ◌++◌, ◌≡◌, refl, ℕ, ◌+◌, ◌*◌, ◌/◌, ◌%◌, ◌^◌, ◌≤◌, ◌<◌, set}
+use Rattle.std.specs.Prelude.{Ok, Err, List, [], ◌∷◌, ◌++◌, ◌≡◌, refl, ℕ, ◌+◌, ◌*◌, ◌/◌, ◌%◌, ◌^◌, ◌≤◌, ◌<◌, set}
 use Rattle.std.proofs.Common.{append_assoc, sym, ◌∙◌, length-append, lt-ltb, le-ltb, eq-eqb, ne_eqb}
 use Rattle.std.proofs.Math.Path.{ap}
 use native.Mathlib.Omega.{arith}
@@ -14,13 +14,10 @@ use Rattle.paper.specs.Listing.{form_name, form_of, dword_name, dword, instr_tex
 use Rattle.text.specs.Written.{sets-append}
 use Rattle.text.specs.Steps.{length-hexes}
 use Rattle.laws.specs.Bits.{bits-low}
-use Rattle.words.specs.declared.answer.Answer.{Answer}
-use Rattle.words.specs.declared.answer.Answer.TheVariants.{Refused}
-use Rattle.words.specs.Answer.{Wrote}
-use Rattle.kernel.specs.declared.walk.Said.{Said}
-use Rattle.kernel.specs.declared.walk.Said.TheVariants.{Good, Bad}
+use Rattle.words.specs.declared.answer.Refused.{Refused}
+use Rattle.words.specs.Answer.{Answer, Wrote}
 use Rattle.kernel.specs.Jumps.{instr_of}
-use Rattle.kernel.specs.Marks.{Says, says_refused, says_instrs}
+use Rattle.kernel.specs.Marks.{Said, Says, says_refused, says_instrs}
 use Rattle.kernel.specs.Accepting.{accepted_kernel}
 use Rattle.listing.specs.Passing.{instrs_in, Listable}
 use Rattle.listing.specs.Lines.{length_lined, lines_length}
@@ -129,11 +126,13 @@ module _ (text out : List ℕ) where
 
 module _ (dictionary kernel marks : List ℕ) (said : Said) (says : Says (accepted long_and_short dictionary kernel) said marks) where
   -- What check refuses is refused so.
-  pub list_refused : (number offset : ℕ) → said ≡ Bad number offset → (out : List ℕ) → Wrote (list_call dictionary kernel out) (Refused number offset) out
+  pub list_refused : (f : Refused) → said ≡ Err f → (out : List ℕ) → Wrote (list_call dictionary kernel out) (Err f) out
   unfolding list_call
-  list_refused number offset e out = rw (says_refused (accepted long_and_short dictionary kernel) said marks says number offset e) (refl, refl)
+  list_refused f e out =
+      let p = says_refused (accepted long_and_short dictionary kernel) said marks says f e in
+      rw (p.0, p.1) (refl, refl)
 
-  module _ (count : ℕ) (e : said ≡ Good count) where
+  module _ (count : ℕ) (e : said ≡ Ok count) where
     is-good : accepted long_and_short dictionary kernel ≡ good (instrs_in dictionary kernel)
     unfolding instrs_in
     is-good = (says_instrs (accepted long_and_short dictionary kernel) said marks says count e).0

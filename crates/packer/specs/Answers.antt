@@ -1,27 +1,25 @@
 -- What the calls answer, as the code comes to it: refused, the output too short, or written. Assumes nothing.
-use Rattle.std.specs.Prelude.{Bool, List, ◌++◌, ◌≡◌, refl, ℕ, ◌*◌, ◌<◌, ◌≤◌, length, drop}
+use Rattle.std.specs.Prelude.{Ok, Err, Bool, List, ◌++◌, ◌≡◌, refl, ℕ, ◌*◌, ◌<◌, ◌≤◌, length, drop}
 use Rattle.std.proofs.Common.{sym, ap, ◌∙◌, arith, lt-ltb, le-ltb}
 use Rattle.paper.specs.Dictionary.{dictionary_of}
 use Rattle.paper.specs.Kernel.{good}
 use Rattle.paper.specs.Calls.{Written, deliver, accepted, relaid}
 use Rattle.laws.specs.Relay.{relay-length}
-use Rattle.words.specs.Answer.{Wrote}
-use Rattle.words.specs.declared.answer.Answer.{Answer}
-use Rattle.words.specs.declared.answer.Answer.TheVariants.{Told, Refused}
-use Rattle.kernel.specs.declared.walk.Said.{Said}
-use Rattle.kernel.specs.declared.walk.Said.TheVariants.{Good, Bad}
+use Rattle.words.specs.declared.refusal.Refusal.TheVariants.{OutputTooShort}
+use Rattle.words.specs.declared.answer.Refused.{Refused}
+use Rattle.words.specs.Answer.{Answer, Wrote, accepting, refused_at}
 use Rattle.kernel.specs.Judging.{forms_is}
-use Rattle.kernel.specs.Marks.{place_count, Says, says_refused, says_instrs}
+use Rattle.kernel.specs.Marks.{Said, place_count, Says, says_refused, says_instrs}
 use Rattle.kernel.specs.Accepting.{accepted_kernel}
 use Rattle.packer.specs.Forms.{form_of, kernel_of, Taken, result_of, result_end}
 use Rattle.packer.specs.Stages.{end_few}
 
 -- n bytes are delivered: the output is too short, or it is not.
-deliver_short : (result out : List ℕ) (n : ℕ) → length result ≡ n → length out < n → Wrote (deliver result out) (Refused 14 0) out
+deliver_short : (result out : List ℕ) (n : ℕ) → length result ≡ n → length out < n → Wrote (deliver result out) (Err (refused_at OutputTooShort 0)) out
 unfolding deliver
 deliver_short result out n e h = rw (e, lt-ltb _ _ h) (refl, refl)
 
-deliver_whole : (result out : List ℕ) (n : ℕ) → length result ≡ n → n ≤ length out → Wrote (deliver result out) (Told 0 n) (result ++ drop n out)
+deliver_whole : (result out : List ℕ) (n : ℕ) → length result ≡ n → n ≤ length out → Wrote (deliver result out) (accepting n) (result ++ drop n out)
 unfolding deliver
 deliver_whole result out n e h = rw (e, le-ltb _ _ h) (refl, refl)
 
@@ -35,7 +33,7 @@ module _ (packs : Bool) (dictionary kernel : List ℕ) (taken : Taken packs dict
   result_length = relay-length (form_of packs (dictionary_of dictionary)) (kernel_of packs dictionary kernel) ∙ ap (λ (x : ℕ). 8 * x) (sym e)
 
   module _ (out : List ℕ) where
-    pub laid_short : length out < 8 * end → Wrote (deliver (result_of packs dictionary kernel) out) (Refused 14 0) out
+    pub laid_short : length out < 8 * end → Wrote (deliver (result_of packs dictionary kernel) out) (Err (refused_at OutputTooShort 0)) out
     laid_short h = deliver_short (result_of packs dictionary kernel) out (8 * end) result_length h
 
     -- The output is long enough.
@@ -44,7 +42,7 @@ module _ (packs : Bool) (dictionary kernel : List ℕ) (taken : Taken packs dict
 
     pub laid_written : (after : List ℕ) → 8 * end ≤ length out
         → after ≡ result_of packs dictionary kernel ++ drop (8 * result_end packs dictionary kernel) out
-        → Wrote (deliver (result_of packs dictionary kernel) out) (Told 0 (8 * end)) after
+        → Wrote (deliver (result_of packs dictionary kernel) out) (accepting (8 * end)) after
     laid_written after h a =
         let w = deliver_whole (result_of packs dictionary kernel) out (8 * end) result_length h in
         (w.0, (rw (← e) at a) ∙ w.1)
@@ -56,10 +54,12 @@ module _ (packs : Bool) (dictionary kernel marks : List ℕ) (said : Said) (says
   abbrev call : List ℕ → Written
   call out = relaid (form_of packs (dictionary_of dictionary)) out (accepted (forms_is packs) dictionary kernel)
 
-  pub call_refused : (number offset : ℕ) → said ≡ Bad number offset → (out : List ℕ) → Wrote (call out) (Refused number offset) out
-  call_refused number offset e out = rw (says_refused (accepted (forms_is packs) dictionary kernel) said marks says number offset e) (refl, refl)
+  pub call_refused : (f : Refused) → said ≡ Err f → (out : List ℕ) → Wrote (call out) (Err f) out
+  call_refused f e out =
+      let p = says_refused (accepted (forms_is packs) dictionary kernel) said marks says f e in
+      rw (p.0, p.1) (refl, refl)
 
-  module _ (count : ℕ) (e : said ≡ Good count) where
+  module _ (count : ℕ) (e : said ≡ Ok count) where
     is_good : accepted (forms_is packs) dictionary kernel ≡ good (kernel_of packs dictionary kernel)
     unfolding kernel_of
     is_good = (says_instrs (accepted (forms_is packs) dictionary kernel) said marks says count e).0

@@ -1,15 +1,16 @@
 -- What the call answers, as the code comes to it. Assumes nothing.
-use Rattle.std.specs.Prelude.{Bool, List, ◌≡◌, ℕ, length}
+use Rattle.std.specs.Prelude.{None, Ok, Err, Bool, List, ◌≡◌, ℕ, length}
 use Rattle.std.proofs.Common.{sym, ◌∙◌, eq-eqb, ne_eqb}
 use Rattle.std.proofs.Math.Path.{ap}
 use Rattle.paper.specs.Kernel.{Instr, long_and_short, long_only, good, bad}
 use Rattle.paper.specs.Program.{program, agreed}
 use Rattle.paper.specs.Calls.{verdict, refusal, refusal_with, accepted, compared_as, paired_as, pair_call, load_part, loaded_by}
 use Rattle.paper.specs.Calls as paper
-use Rattle.kernel.specs.declared.walk.Said.{Said}
-use Rattle.kernel.specs.declared.walk.Said.TheVariants.{Good, Bad}
+use Rattle.words.specs.declared.answer.Refused.{Refused}
+use Rattle.words.specs.Refusals.{number}
+use Rattle.words.specs.Answer.{answer_is}
 use Rattle.kernel.specs.Judging.{forms_is}
-use Rattle.kernel.specs.Marks.{said_is, Says, says_answer, says_refused, says_instrs}
+use Rattle.kernel.specs.Marks.{Said, said_is, Says, says_answer, says_refused, says_instrs}
 use Rattle.kernel.specs.Accepting.{accepted_kernel}
 use Rattle.packer.specs.Forms.{kernel_of, Taken}
 
@@ -17,10 +18,10 @@ use Rattle.packer.specs.Forms.{kernel_of, Taken}
 
 module _ (packs : Bool) (dictionary kernel marks : List ℕ) (said : Said) (says : Says (accepted (forms_is packs) dictionary kernel) said marks) where
   -- It is refused,
-  pub said_bad : (number offset : ℕ) → said ≡ Bad number offset → accepted (forms_is packs) dictionary kernel ≡ bad number offset
-  said_bad number offset e = says_refused (accepted (forms_is packs) dictionary kernel) said marks says number offset e
+  pub said_bad : (f : Refused) → said ≡ Err f → (accepted (forms_is packs) dictionary kernel ≡ bad (number f.refusal) f.offset) × (f.count ≡ None)
+  said_bad f e = says_refused (accepted (forms_is packs) dictionary kernel) said marks says f e
 
-  module _ (count : ℕ) (e : said ≡ Good count) where
+  module _ (count : ℕ) (e : said ≡ Ok count) where
     -- or accepted, with these instructions,
     pub said_good : accepted (forms_is packs) dictionary kernel ≡ good (kernel_of packs dictionary kernel)
     unfolding kernel_of
@@ -52,9 +53,10 @@ module _ (long sent : List ℕ) (k l : List Instr) (longer shorter : ℕ) (p : l
 -- ---- the call
 
 module _ (dictionary long sent : List ℕ) where
-  pub paired_bad : (number offset : ℕ) → accepted long_only dictionary long ≡ bad number offset → refusal number offset ≡ pair_call dictionary long sent
+  pub paired_bad : (f : Refused) → (accepted long_only dictionary long ≡ bad (number f.refusal) f.offset) × (f.count ≡ None)
+      → answer_is (Err f) ≡ pair_call dictionary long sent
   unfolding pair_call
-  paired_bad number offset e = rw e
+  paired_bad f e = rw (e.0, e.1)
 
   pub paired_good : (k : List Instr) → accepted long_only dictionary long ≡ good k
       → (a : paper.Answer) → a ≡ paired_as long sent (good k) (accepted long_and_short dictionary sent) → a ≡ pair_call dictionary long sent

@@ -29,6 +29,10 @@ refused_as n offset (Some count) = refusal_with n offset count
 abbrev pub refused_at : Refusal → ℕ → Refused
 refused_at r offset = record { refusal = r; offset = offset; count = None }
 
+-- Accepted, with that count.
+abbrev pub accepting : ℕ → Answer
+accepting n = Ok (record { verdict = Accepted; count = n })
+
 abbrev pub answer_is : Answer → paper.Answer
 answer_is (Ok t) = verdict (verdict_number t.verdict) t.count
 answer_is (Err r) = refused_as (number r.refusal) r.offset r.count

@@ -11,7 +11,7 @@ pub returns-then-room-n : goal.returns-then-room-n
 returns-then-room-n c =
     let a = c.args in
     let e = c.text_length-n.ensures in
-    deliver_short (listing (instrs_in a.dictionary.now a.kernel.now)) a.out.now (omega (arith, e, c.if-room-n.true))
+    rw c.into.ensures (deliver_short (listing (instrs_in a.dictionary.now a.kernel.now)) a.out.now (omega (arith, e, c.if-room-n.true)))
 
 pub write_text-requires : goal.write_text-requires
 write_text-requires c =
@@ -25,4 +25,4 @@ returns c =
     let a = c.args in
     let e = c.text_length-n.ensures in
     let h : length (listing (instrs_in a.dictionary.now a.kernel.now)) ≤ length a.out.now = omega (arith, e, c.if-room-n.false) in
-    deliver_written (listing (instrs_in a.dictionary.now a.kernel.now)) a.out.now _ _ h e c.write_text.ensures
+    rw c.accepted.ensures (deliver_written (listing (instrs_in a.dictionary.now a.kernel.now)) a.out.now _ _ h e c.write_text.ensures)

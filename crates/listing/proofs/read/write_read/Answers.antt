@@ -12,11 +12,11 @@ pub returns-then-out-n : goal.returns-then-out-n
 returns-then-out-n c =
     let a = c.args in
     let e = c.requires.places_value.0 in
-    deliver_short (kernel_of (dictionary_of a.dictionary.now) (lines_in a.dictionary.now a.text.now)) a.out.now (omega (arith, e, c.if-out-n.true))
+    rw c.into.ensures (deliver_short (kernel_of (dictionary_of a.dictionary.now) (lines_in a.dictionary.now a.text.now)) a.out.now (omega (arith, e, c.if-out-n.true)))
 
 pub returns : goal.returns
 returns c =
     let a = c.args in
     let e = c.requires.places_value.0 in
     let h : length (kernel_of (dictionary_of a.dictionary.now) (lines_in a.dictionary.now a.text.now)) ≤ length a.out.now = omega (arith, e, c.if-out-n.false) in
-    deliver_written (kernel_of (dictionary_of a.dictionary.now) (lines_in a.dictionary.now a.text.now)) a.out.now _ _ h e c.write_kernel.ensures
+    rw c.accepted.ensures (deliver_written (kernel_of (dictionary_of a.dictionary.now) (lines_in a.dictionary.now a.text.now)) a.out.now _ _ h e c.write_kernel.ensures)

@@ -13,17 +13,18 @@ pub loop-from-init : goal.loop-from-init
 loop-from-init c = (search rules, search rules, search rules, length-replicate {A = ℕ} place_count 0, leads_start _ _ _ (blank_unmarked place_count))
 
 pub returns-then-count-eq-INSTRUCTION_LIMIT : goal.returns-then-count-eq-INSTRUCTION_LIMIT
-returns-then-count-eq-INSTRUCTION_LIMIT c = leads_full _ _ _ _ _ _ _ c.loop-from.invariant.4 c.loop-from-test.true c.if-count-eq-INSTRUCTION_LIMIT.true
+returns-then-count-eq-INSTRUCTION_LIMIT c =
+    rw c.at.ensures (leads_full _ _ _ _ _ _ _ c.loop-from.invariant.4 c.loop-from-test.true c.if-count-eq-INSTRUCTION_LIMIT.true)
 
 pub lines_at-requires : goal.lines_at-requires
 lines_at-requires c =
-    (c.requires, c.loop-from.invariant.0)
+    c.loop-from.invariant.0
 
 pub returns-in-None : goal.returns-in-None
 returns-in-None c =
     let l = c.loop-from in
     let h : l.count < instruction_limit = omega (arith, c.if-count-eq-INSTRUCTION_LIMIT.false, l.invariant.1) in
-    leads_none _ _ _ _ _ _ _ l.invariant.4 c.loop-from-test.true h c.in-None.ensures
+    rw c.at-in-None.ensures (leads_none _ _ _ _ _ _ _ l.invariant.4 c.loop-from-test.true h c.in-None.ensures)
 
 pub bounds-marks-place : goal.bounds-marks-place
 bounds-marks-place c = let l = c.loop-from in omega (arith, l.invariant.1, l.invariant.2, l.invariant.3)

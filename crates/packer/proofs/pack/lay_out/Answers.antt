@@ -11,7 +11,7 @@ pub overflow_mul-length : goal.overflow_mul-length
 overflow_mul-length c = omega (arith, end_most _ _ _ c.requires _ c.place_all-end.ensures.value)
 
 pub returns-then-out-length : goal.returns-then-out-length
-returns-then-out-length c = laid_short _ _ _ c.requires _ c.place_all-end.ensures.value _ (omega (arith, c.if-out-length.true))
+returns-then-out-length c = rw c.into.ensures (laid_short _ _ _ c.requires _ c.place_all-end.ensures.value _ (omega (arith, c.if-out-length.true)))
 
 pub write_all-requires : goal.write_all-requires
 write_all-requires c =
@@ -19,4 +19,4 @@ write_all-requires c =
 
 pub returns : goal.returns
 returns c =
-    laid_written _ _ _ c.requires _ c.place_all-end.ensures.value _ _ (omega (arith, c.if-out-length.false)) c.write_all.ensures
+    rw c.accepted.ensures (laid_written _ _ _ c.requires _ c.place_all-end.ensures.value _ _ (omega (arith, c.if-out-length.false)) c.write_all.ensures)

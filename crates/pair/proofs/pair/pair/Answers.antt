@@ -1,6 +1,7 @@
 -- What is said of the long kernel refuses it, or the sent one is looked at. Assumes nothing.
 use mathlib.Core.Bool.{true}
 use mathlib.Core.Path.{refl}
+use Rattle.std.proofs.lemmas.Result.{err_from_is_err_and}
 use Rattle.kernel.specs.Accepting.{accept_size, unsized}
 use Rattle.packer.specs.Forms.{kernel_of}
 use Rattle.pair.specs.Answers.{said_bad, said_good, said_taken, said_count, paired_bad, paired_good}
@@ -10,27 +11,27 @@ pub returns-in_default : goal.returns-in_default
 returns-in_default c =
     let d = c.args.dictionary.now in
     let long = c.args.long.now in
-    paired_bad d long c.args.sent.now _ _ (said_bad true d long _ _ (accept_size _ _ _ long (unsized _ _ c.in_default.ensures.cases)) _ _ refl)
+    rw c.into.ensures (paired_bad d long c.args.sent.now _ (said_bad true d long _ _ (accept_size _ _ _ long (unsized _ _ c.in_default.ensures.cases)) _ refl))
 
 pub with_sent-requires : goal.with_sent-requires
 with_sent-requires c =
     let d = c.in-Some.dictionary.now in
     let long = c.args.long.now in
     let says = c.accept.ensures in
-    let e = c.in-Good.is in
+    let e = c.in_ok-ours.was in
     (said_taken true d long _ _ says _ e, said_count true d long _ _ says _ e)
 
-pub returns-in-Good : goal.returns-in-Good
-returns-in-Good c =
+pub returns : goal.returns
+returns c =
     let d = c.in-Some.dictionary.now in
     let long = c.args.long.now in
     let sent = c.args.sent.now in
-    let e = said_good true d long _ _ c.accept.ensures _ c.in-Good.is in
+    let e = said_good true d long _ _ c.accept.ensures _ c.in_ok-ours.was in
     rw (← c.in-Some.ensures.cases.same) (paired_good d long sent (kernel_of true d long) e _ c.with_sent.ensures)
 
-pub returns-in-Bad : goal.returns-in-Bad
-returns-in-Bad c =
+pub returns-in_err-ours : goal.returns-in_err-ours
+returns-in_err-ours c =
     let d = c.in-Some.dictionary.now in
     let long = c.args.long.now in
-    let sent = c.args.sent.now in
-    rw (← c.in-Some.ensures.cases.same) (paired_bad d long sent _ _ (said_bad true d long _ _ c.accept.ensures _ _ c.in-Bad.is))
+    let p = err_from_is_err_and c.from_residual.result c.from_residual.ensures.1 in
+    rw (p.1, p.2, ← c.in-Some.ensures.cases.same) (paired_bad d long c.args.sent.now _ (said_bad true d long _ _ c.accept.ensures _ c.in_err-ours.was))

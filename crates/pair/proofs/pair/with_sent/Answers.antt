@@ -9,20 +9,20 @@ compare-requires c =
     let d = c.args.dictionary.now in
     let sent = c.args.sent.now in
     let says = c.accept.ensures in
-    let e = c.in-Good.is in
+    let e = c.in-Ok.is in
     record { taken = (c.requires.0, said_taken false d sent _ _ says _ e); ours_value = (c.requires.1, said_count false d sent _ _ says _ e) }
 
-pub returns-in-Good : goal.returns-in-Good
-returns-in-Good c =
+pub returns-in-Ok : goal.returns-in-Ok
+returns-in-Ok c =
     let d = c.args.dictionary.now in
     let long = c.args.long.now in
     let sent = c.args.sent.now in
-    let e = said_good false d sent _ _ c.accept.ensures _ c.in-Good.is in
+    let e = said_good false d sent _ _ c.accept.ensures _ c.in-Ok.is in
     sent_good d long sent (kernel_of true d long) (kernel_of false d sent) e _ c.compare.ensures
 
-pub returns-in-Bad : goal.returns-in-Bad
-returns-in-Bad c =
+pub returns-in-Err : goal.returns-in-Err
+returns-in-Err c =
     let d = c.args.dictionary.now in
     let long = c.args.long.now in
     let sent = c.args.sent.now in
-    sent_bad d long sent (kernel_of true d long) _ _ (said_bad false d sent _ _ c.accept.ensures _ _ c.in-Bad.is)
+    sent_bad d long sent (kernel_of true d long) _ _ (said_bad false d sent _ _ c.accept.ensures _ c.in-Err.is).0
