@@ -1,25 +1,14 @@
 // The comparison: how many instructions, from the first on, two accepted kernels have in common.
-ghost use Rattle.std.specs.Prelude.{true, false, ◌≡◌, eqb};
+ghost use Rattle.std.specs.Prelude.{true, false, ◌≡◌};
 ghost use Rattle.paper.specs.Program.{program, agreed};
 ghost use Rattle.laws.specs.Names.{long_form};
-ghost use Rattle.words.specs.Words.{to_word};
 ghost use Rattle.packer.specs.Forms.{kernel_of, Taken};
 ghost use Rattle.packer.specs.Stages.{Placed};
 
 use kernel::instructions::Instructions;
 use packer::write::rewrite;
-use words::bytes::{Word, read16};
+use words::bytes::read16;
 use words::limits::{DICTIONARY_BYTES, PLACES};
-
-// Two words are the same, bit by bit.
-fn same_word(v: Word, w: Word) -> bool
-    ensures { result ≡ eqb (to_word v) (to_word w) }
-{
-    if v.lo != w.lo {
-        return false;
-    }
-    v.hi == w.hi
-}
 
 // One pass over both: each word of the sent kernel is written as it stands where every word is long, and then it must be the long kernel's word. `places` says
 // where the sent kernel's instructions come to stand so.
@@ -40,8 +29,7 @@ pub(crate) fn common(
             return n;
         }
         let w = rewrite(places, i, 2 * n, 2 * n + 2);
-        let l = read16(long, at);
-        if !same_word(w, l) {
+        if w != read16(long, at) {
             return n;
         }
         n += 1;

@@ -16,12 +16,12 @@ loop-from-init c = (search rules, judging_start _ _ c.requires.0)
 pub candidate-f-requires : goal.candidate-f-requires
 candidate-f-requires c = c.loop-from.invariant.0
 
-pub jump_lands-requires : goal.jump_lands-requires
-jump_lands-requires c =
+pub invariant_of-i : goal.invariant_of-i
+invariant_of-i c =
     let l = c.loop-from in
     let g = c.candidate-f in
     let x = judging_next _ _ _ _ _ l.invariant.1 c.loop-from-test.true g.result.size (to_word g.result.word) g.ensures in
-    (x.here, x.few)
+    record { near = x.here; small = x.few }
 
 pub returns-then-not-jump_lands : goal.returns-then-not-jump_lands
 returns-then-not-jump_lands c =

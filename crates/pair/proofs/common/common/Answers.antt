@@ -1,10 +1,10 @@
 -- The next instruction is the same, or the first that is not. Assumes nothing.
 use mathlib.Core.Path.{◌≡◌, sym, ◌∙◌}
 use native.Mathlib.Omega.{arith}
-use borrow.Author.Tests.{eqb-true, eqb-false}
 use Rattle.kernel.specs.Reading.{stands_filled}
 use Rattle.kernel.specs.Instructions.{Over, comes, ends}
 use Rattle.pair.specs.Comparing.{reached_start, reached_few, reached_end, reached_over, reached_room, reached_more, reached_differs, reached_targets, reached_next}
+use Rattle.pair.specs.Halves.{halves_same, halves_differ}
 use Rattle.pair.proofs.common.common.Goals as goal
 
 pub of-i-items-requires : goal.of-i-items-requires
@@ -41,15 +41,17 @@ rewrite-w-requires c =
       rw g.place-is (reached_targets _ _ _ _ _ c.requires.taken.0 c.requires.taken.1 _ _ r g.inside c.if-long-at.false _ _ g.fetched c.args.places.now c.requires.placed),
     )
 
-pub read16-l-requires : goal.read16-l-requires
-read16-l-requires c = reached_room _ _ _ _ _ c.requires.taken.0 c.requires.taken.1 _ _ c.loop-i.invariant.reached c.if-long-at.false
+pub read16-requires : goal.read16-requires
+read16-requires c = reached_room _ _ _ _ _ c.requires.taken.0 c.requires.taken.1 _ _ c.loop-i.invariant.reached c.if-long-at.false
 
-pub returns-then-not-same_word : goal.returns-then-not-same_word
-returns-then-not-same_word c =
+pub returns-then-ne : goal.returns-then-ne
+returns-then-ne c =
     let g = comes c.loop-i.i-iterator c.loop-i.invariant.over c.in-Some.i c.next.new.self c.in-Some.ensures.steps in
-    let other = eqb-false _ _ (sym c.same_word.ensures ∙ c.if-not-same_word.true) in
+    let v = c.rewrite-w.result in
+    let w = c.read16.result in
     reached_differs _ _ _ _ _ c.requires.taken.0 c.requires.taken.1 _ _ c.loop-i.invariant.reached g.inside c.if-long-at.false _ _ g.fetched
-    c.args.places.now c.requires.placed _ (rw g.place-is at c.rewrite-w.ensures) (λ e. other (e ∙ sym c.read16-l.ensures))
+    c.args.places.now c.requires.placed _ (rw g.place-is at c.rewrite-w.ensures)
+    (λ e. halves_differ v.lo v.hi w.lo w.hi (omega arith) (omega arith) _ c.ne.ensures c.if-ne.true (e ∙ sym c.read16.ensures))
 
 pub overflow_add-n-in-loop-i : goal.overflow_add-n-in-loop-i
 overflow_add-n-in-loop-i c = omega (arith, reached_few _ _ _ _ _ c.requires.taken.0 c.requires.taken.1 _ _ c.loop-i.invariant.reached)
@@ -57,13 +59,15 @@ overflow_add-n-in-loop-i c = omega (arith, reached_few _ _ _ _ _ c.requires.take
 pub loop-i-preserved : goal.loop-i-preserved
 loop-i-preserved c =
     let g = comes c.loop-i.i-iterator c.loop-i.invariant.over c.in-Some.i c.next.new.self c.in-Some.ensures.steps in
-    let same = eqb-true _ _ (sym c.same_word.ensures ∙ c.if-not-same_word.false) in
+    let v = c.rewrite-w.result in
+    let w = c.read16.result in
+    let same = halves_same v.lo v.hi w.lo w.hi (omega arith) (omega arith) _ c.ne.ensures c.if-ne.false in
     record {
       over = g.over;
       reached =
           rw g.next
           (reached_more _ _ _ _ _ c.requires.taken.0 c.requires.taken.1 _ _ c.loop-i.invariant.reached g.inside c.if-long-at.false _ _ g.fetched
-          c.args.places.now c.requires.placed _ (rw g.place-is at c.rewrite-w.ensures) (same ∙ c.read16-l.ensures));
+          c.args.places.now c.requires.placed _ (rw g.place-is at c.rewrite-w.ensures) (same ∙ c.read16.ensures));
     }
 
 pub returns : goal.returns
