@@ -1,5 +1,5 @@
 // What an instruction on floats does to registers and flags: a path of its own, by patterns.
-ghost use Rattle.std.specs.Prelude.{false, cond, pos, List, [], ◌≡◌, ℕ, ◌≤◌, ◌<◌, length, get_or};
+ghost use Rattle.std.specs.Prelude.{false, pos, List, [], ◌≡◌, ℕ, ◌≤◌, ◌<◌, length, get_or};
 ghost use Rattle.paper.specs.Limits.{register_bytes};
 ghost use Rattle.paper.specs.Word.{dst_type, dst_is_a0};
 ghost use Rattle.paper.specs.Value.{type_f};
@@ -34,19 +34,12 @@ use words::traits::{compares, reads_two};
 
 // ---- operations on all channels
 
-// 1 for what holds, else 0.
-fn one_if(holds: bool) -> u32
-    ensures { result ≡ cond holds 1 0 }
-{
-    if holds { 1 } else { 0 }
-}
-
 // The result of an operation on two floats: a comparison's is the whole number 1 or 0. mov copies, and of the others none is served on floats.
 fn reckoned(p: Plain, condition: u64, x: u32, y: u32) -> u32
     ensures { pos result ≡ float_result (plain_is p) condition (pos x) (pos y) }
 {
     match p {
-        Plain::Cmp => one_if(compare_pattern(condition, x, y)),
+        Plain::Cmp => u32::from(compare_pattern(condition, x, y)),
         Plain::Add => add_pattern(x, y),
         Plain::Mul => mul_pattern(x, y),
         _ => x,

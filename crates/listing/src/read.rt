@@ -17,7 +17,12 @@ use words::answer::Answer;
 use words::limits::{DICTIONARY_BYTES, PLACES};
 
 // The kernel of so many places that a text was read as, or 14 where the output is shorter.
-fn write_read(dictionary: &[u8; DICTIONARY_BYTES], text: &[u8], places: u64, out: &mut [u8]) -> Answer
+fn write_read(
+    dictionary: &[u8; DICTIONARY_BYTES],
+    text: &[u8],
+    places: u64,
+    out: &mut [u8],
+) -> Answer
     requires can_read { CanRead dictionary.now text.now }
     requires places_value { (8 * places ≡ length (kernel_of (dictionary_of dictionary.now) (lines_in dictionary.now text.now))) × (places ≤ 2 * instruction_limit) }
     ensures { Wrote (deliver (kernel_of (dictionary_of dictionary.now) (lines_in dictionary.now text.now)) out.old) result out.new }

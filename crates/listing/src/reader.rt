@@ -16,7 +16,11 @@ pub struct Reader<'a> {
 }
 
 // The plain walker: the instruction at a place of an accepted kernel, with its size in places.
-pub(crate) fn instruction_at(kernel: &[u8], place: u64, dictionary: &[u8; DICTIONARY_BYTES]) -> Fetched
+pub(crate) fn instruction_at(
+    kernel: &[u8],
+    place: u64,
+    dictionary: &[u8; DICTIONARY_BYTES],
+) -> Fetched
     requires { Whole kernel.now (8 * place) }
     ensures { Fetches (dictionary_of dictionary.now) kernel.now (8 * place) result.size (to_word result.word) }
 {
@@ -31,7 +35,10 @@ pub(crate) fn reader_at<'a>(kernel: &'a [u8], place: u64) -> Reader<'a>
 }
 
 // The instruction where a reader is.
-pub(crate) fn instruction<'a, 'd>(reader: Reader<'a>, dictionary: &'d [u8; DICTIONARY_BYTES]) -> Fetched
+pub(crate) fn instruction<'a, 'd>(
+    reader: Reader<'a>,
+    dictionary: &'d [u8; DICTIONARY_BYTES],
+) -> Fetched
     requires { Whole reader.kernel.now (8 * reader.place) }
     ensures { Fetches (dictionary_of dictionary.now) reader.entry.kernel.now (8 * reader.entry.place) result.size (to_word result.word) }
 {

@@ -37,7 +37,12 @@ fn form_taken(dictionary: &[u8; DICTIONARY_BYTES], size: u64, w: Word) -> bool
 }
 
 // An instruction of so many places with that word can be read, at any place.
-pub(crate) fn is_taken(regions: &[u8; FIELDS], dictionary: &[u8; DICTIONARY_BYTES], size: u64, w: Word) -> bool
+pub(crate) fn is_taken(
+    regions: &[u8; FIELDS],
+    dictionary: &[u8; DICTIONARY_BYTES],
+    size: u64,
+    w: Word,
+) -> bool
     requires { regions.now ≡ region_table }
     ensures { TakenAs (dictionary_of dictionary.now) size (to_word w) result }
 {

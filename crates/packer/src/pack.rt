@@ -29,7 +29,12 @@ fn sets_for(packs: bool, dictionary: &[u8; DICTIONARY_BYTES], kernel: &[u8]) -> 
 }
 
 // An accepted kernel laid out anew, in the output's first bytes; 14 where it is shorter.
-fn lay_out(packs: bool, dictionary: &[u8; DICTIONARY_BYTES], kernel: &[u8], out: &mut [u8]) -> Answer
+fn lay_out(
+    packs: bool,
+    dictionary: &[u8; DICTIONARY_BYTES],
+    kernel: &[u8],
+    out: &mut [u8],
+) -> Answer
     requires { Taken packs dictionary.now kernel.now }
     ensures { Wrote (deliver (result_of packs dictionary.now kernel.now) out.old) result out.new }
 {

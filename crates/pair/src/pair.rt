@@ -14,7 +14,13 @@ use words::limits::{DICTIONARY_BYTES, PLACES};
 
 // Two accepted kernels, the long one with `ours` instructions and the sent one with `theirs`: 0 if they are the same program, else 31 with how many they have in
 // common. The count is the length of what is to be loaded.
-fn compare(dictionary: &[u8; DICTIONARY_BYTES], long: &[u8], sent: &[u8], ours: u64, theirs: u64) -> Answer
+fn compare(
+    dictionary: &[u8; DICTIONARY_BYTES],
+    long: &[u8],
+    sent: &[u8],
+    ours: u64,
+    theirs: u64,
+) -> Answer
     requires taken { Taken true dictionary.now long.now × Taken false dictionary.now sent.now }
     requires ours_value { (ours ≡ length (kernel_of true dictionary.now long.now)) × (theirs ≡ length (kernel_of false dictionary.now sent.now)) }
     ensures { answer_is result ≡ compared_as long.now sent.now (kernel_of true dictionary.now long.now)

@@ -9,7 +9,10 @@ pub enum Layout {
     // A dictionary of zeros.
     Blank,
     // One of the dictionary's numbers.
-    Number { index: u32, value: u32 },
+    Number {
+        index: u32,
+        value: u32,
+    },
     // A word more of the kernel.
     Long([u32; 4]),
     Short([u32; 2]),
@@ -17,11 +20,24 @@ pub enum Layout {
     Load,
     // How many bytes of output, and of the others, are lent.
     Room(u32),
-    Lend { dictionary: u32, registers: u32, state: u32 },
+    Lend {
+        dictionary: u32,
+        registers: u32,
+        state: u32,
+    },
     // A dword of the registers, 16 bits of the state, a dword of the output.
-    Set { at: u32, value: u32 },
-    Put { at: u32, value: u16 },
-    Mark { at: u32, value: u32 },
+    Set {
+        at: u32,
+        value: u32,
+    },
+    Put {
+        at: u32,
+        value: u16,
+    },
+    Mark {
+        at: u32,
+        value: u32,
+    },
 }
 
 // A call. The kernel's bytes are also the word to shorten or to expand, the text to read, and the record to place and to load; the output's are the kernel that
@@ -53,11 +69,24 @@ pub enum Call {
 #[derive(Clone, Copy, Debug, PartialEq, Eq)]
 pub enum Expectation {
     // What it answered.
-    Answer { number: u32, offset: u32, count: u32 },
+    Answer {
+        number: u32,
+        offset: u32,
+        count: u32,
+    },
     // A dword of the output, and of the registers; 16 bits of the state.
-    Wrote { at: u32, value: u32 },
-    Holds { at: u32, value: u32 },
-    Stands { at: u32, value: u32 },
+    Wrote {
+        at: u32,
+        value: u32,
+    },
+    Holds {
+        at: u32,
+        value: u32,
+    },
+    Stands {
+        at: u32,
+        value: u32,
+    },
 }
 
 // What must stand in a part that is handed back: in the bytes of the instruction at a place, and in the kernel to load.
@@ -109,6 +138,14 @@ fn layout_of(name: &[u8], numbers: &[u32]) -> Option<Layout> {
     }
 }
 
+// A start with that mask and these flags, of 16 bits each.
+fn start_with(mask: u32, flag0: u32, flag1: u32) -> Option<Call> {
+    let mask = u16::try_from(mask).ok()?;
+    let flag0 = u16::try_from(flag0).ok()?;
+    let flag1 = u16::try_from(flag1).ok()?;
+    Some(Call::Start { mask, flag0, flag1 })
+}
+
 // The call of that name and these numbers.
 fn call_of(name: &[u8], numbers: &[u32]) -> Option<Call> {
     match (name, numbers) {
@@ -125,11 +162,7 @@ fn call_of(name: &[u8], numbers: &[u32]) -> Option<Call> {
         (b"place", &[order, x, y]) => Some(Call::Place { order, x, y }),
         (b"fixed", []) => Some(Call::Fixed),
         (b"record", []) => Some(Call::Record),
-        (b"start", &[mask, flag0, flag1]) => Some(Call::Start {
-            mask: u16::try_from(mask).ok()?,
-            flag0: u16::try_from(flag0).ok()?,
-            flag1: u16::try_from(flag1).ok()?,
-        }),
+        (b"start", &[mask, flag0, flag1]) => start_with(mask, flag0, flag1),
         (b"step", []) => Some(Call::Step),
         (b"run", &[budget]) => Some(Call::Run(budget)),
         (b"logread", &[count]) => Some(Call::LogRead(count)),

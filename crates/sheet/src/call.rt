@@ -24,7 +24,7 @@ pub(crate) fn called(desk: &mut Desk, call: Call) -> u64 {
     let (registers, out) = desk.board.split_at_mut(OUTPUT);
     let registers = &mut registers[..sizes.registers.min(OUTPUT)];
     let out = &mut out[..sizes.room.min(LONGEST)];
-    let state = &mut desk.state[..sizes.state.min(STATE)];
+    let (state, _more) = desk.state.split_at_mut(sizes.state.min(STATE));
     match call {
         Call::Check => spokeshaver_check(dictionary, kernel),
         Call::Forward => spokeshaver_forward(dictionary, kernel),

@@ -4,9 +4,6 @@ use lib.ListN.{get_or}
 use Rattle.execute.specs.Results.{Kept, kept_stays}
 use Rattle.execute.proofs.clamp.clamp_all.Goals as goal
 
-pub returns-then-saturated : goal.returns-then-saturated
-returns-then-saturated c = rw c.if-saturated.true c.clamp_each.ensures
-
 pub returns-else-saturated : goal.returns-else-saturated
 unfolding Kept
 returns-else-saturated c =

@@ -19,14 +19,6 @@ floats_of-requires c =
     let direct = not_source p w (float_registers p w c.requires.0) src0 (first_source p) in
     (legal-floats p w c.requires.0 src0 (first_source p), c.channels-n.ensures.0, c.requires.1 ∙ ap bytes_in (sym direct), direct)
 
-pub float_second-requires : goal.float_second-requires
-float_second-requires c =
-    (c.requires.0, c.channels-n.ensures.0, c.requires.1)
-
-pub reckon_all-requires : goal.reckon_all-requires
-reckon_all-requires c =
-    c.channels-n.ensures.1
-
 pub returns : goal.returns
 returns c =
     floats_made (plain_is c.args.p) (to_word c.args.w) c.requires.0 c.args.registers.now _ _ _ _ c.floats_of.ensures c.float_second.ensures _ _

@@ -19,6 +19,3 @@ floats_of-requires c =
 
 pub returns-then-reads_two : goal.returns-then-reads_two
 returns-then-reads_two c = second_told _ _ _ _ _ _ c.floats_of.ensures
-
-pub returns-else-reads_two : goal.returns-else-reads_two
-returns-else-reads_two c = no_second _ _ _ _ c.args.patterns.now (sym c.reads_two.ensures ∙ c.if-reads_two.false)

@@ -1,13 +1,19 @@
 -- Each arm is the definition's. Assumes nothing.
-use mathlib.Core.Path.{sym, ap, ◌∙◌}
+use mathlib.Core.Path.{◌≡◌, refl, sym, ap, ◌∙◌}
+use mathlib.Core.Bool.{Bool, true, false}
+use Rattle.std.specs.Int.{from_bool}
 use lib.IntN.{pos}
 use Rattle.paper.specs.Element.{one_if, float_result}
-use Rattle.execute.specs.Floats.{one_told, others_copy}
+use Rattle.execute.specs.Floats.{others_copy}
 use Rattle.execute.proofs.floats.reckoned.Goals as goal
+
+counted : (b : Bool) → pos (from_bool b) ≡ one_if b
+counted true = refl
+counted false = refl
 
 pub returns-in-Cmp : goal.returns-in-Cmp
 unfolding float_result
-returns-in-Cmp c = rw c.in-Cmp.is (one_told c.compare_pattern.result _ c.one_if.ensures ∙ ap one_if c.compare_pattern.ensures)
+returns-in-Cmp c = rw (c.in-Cmp.is, c.from.ensures) (counted c.compare_pattern.result ∙ ap one_if c.compare_pattern.ensures)
 
 pub returns-in-Add : goal.returns-in-Add
 unfolding float_result

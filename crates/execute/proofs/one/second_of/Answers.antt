@@ -18,6 +18,3 @@ number_of-requires c =
 
 pub returns-then-reads_two : goal.returns-then-reads_two
 returns-then-reads_two c = second_read _ _ _ _ _ _ (sym c.reads_two.ensures ∙ c.if-reads_two.true) c.number_of.ensures
-
-pub returns-else-reads_two : goal.returns-else-reads_two
-returns-else-reads_two c = second_none _ _ _ _ _ (sym c.reads_two.ensures ∙ c.if-reads_two.false) (zero_near _ refl)

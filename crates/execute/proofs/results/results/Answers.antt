@@ -18,10 +18,6 @@ numbers_of-requires c =
     let p = plain_is c.args.p in
     (legal_readable p (to_word c.args.w) c.requires.0 src0 (first_source p), c.channels-n.ensures.0, c.requires.1, not_source p (to_word c.args.w) c.requires.2 src0 (first_source p))
 
-pub second-requires : goal.second-requires
-second-requires c =
-    record { counting = (c.requires.0, c.channels-n.ensures.0, c.requires.1, c.requires.2); by_index = zeros-near _ _ refl c.channels-n.ensures.1 }
-
 pub combine-requires : goal.combine-requires
 combine-requires c =
     let w = to_word c.args.w in

@@ -17,6 +17,3 @@ numbers_of-requires c =
 
 pub returns-then-reads_two : goal.returns-then-reads_two
 returns-then-reads_two c = second_read _ _ _ _ _ _ (sym c.reads_two.ensures ∙ c.if-reads_two.true) c.numbers_of.ensures
-
-pub returns-else-reads_two : goal.returns-else-reads_two
-returns-else-reads_two c = second_none _ _ _ _ c.args.values.now (sym c.reads_two.ensures ∙ c.if-reads_two.false) c.requires.by_index

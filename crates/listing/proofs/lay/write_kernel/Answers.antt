@@ -27,7 +27,7 @@ pub put_word-requires : goal.put_word-requires
 put_word-requires c =
     let l = c.loop-from in
     let g = c.candidate-f in
-    let x = laying_next _ _ _ _ _ _ l.invariant.2 c.loop-from-test.true g.result.size (to_word g.result.word) g.ensures in laying_room _ _ _ _ _ _ l.invariant.2 c.loop-from-test.true g.result.size (to_word g.result.word) g.ensures (omega (arith, l.invariant.1, c.requires.text_in_bounds))
+    let x = laying_next _ _ _ _ _ _ l.invariant.2 c.loop-from-test.true g.result.size (to_word g.result.word) g.ensures in record { w_in_bounds = laying_room _ _ _ _ _ _ l.invariant.2 c.loop-from-test.true g.result.size (to_word g.result.word) g.ensures (omega (arith, l.invariant.1, c.requires.text_in_bounds)) }
 
 pub overflow_add-from : goal.overflow_add-from
 overflow_add-from c =

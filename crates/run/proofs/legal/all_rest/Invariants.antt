@@ -1,6 +1,6 @@
 -- The loop's invariant: what is left from channel n on has the answer. Its measure: the channels left. Assumes nothing.
 use mathlib.Core.Path.{◌≡◌}
-use Prim.Native.Nat.{◌-◌, ◌≤◌}
+use Prim.Native.Nat.{◌≤◌}
 use Rattle.kernel.specs.Marks.{marked}
 use Rattle.machine.specs.Channels.{channels_is}
 use Rattle.run.specs.Landing.{waits_by, waits_from}
