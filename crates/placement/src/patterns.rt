@@ -82,7 +82,7 @@ fn answer_bits(order: Order, at: Spot) -> Spot
     spot_of(answer(order, p.x, p.y))
 }
 
-// What the order of a number answers: 0 keeps the bits, 1 shifts by c and f, any other places by the record.
+// What the order of a number, as C gives it, answers: 0 keeps the bits, 1 shifts by c and f, any other places by the record.
 pub fn answer_spot(number: u64, k: Record, at: Spot) -> Spot
     ensures { spot_is result ≡ paper.answered (paper.order_of number (record_is k)) (spot_is at) }
 {

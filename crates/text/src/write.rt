@@ -13,7 +13,7 @@ pub fn put_text(out: &mut [u8], at: usize, text: &[u8]) -> usize
     end
 }
 
-// How many decimal digits a number has.
+// How many decimal digits a number has. The loop goes by the number, which falls by a digit a turn: how many turns it takes is the answer.
 pub fn width(n: u64) -> usize
     ensures { (result ≡ length (decimal n)) × (result ≤ 20) }
 {
@@ -26,7 +26,7 @@ pub fn width(n: u64) -> usize
     w
 }
 
-// A number's decimal digits.
+// A number's decimal digits, the last one first. The loop goes by the number, which falls by a digit a turn.
 pub fn put_decimal(out: &mut [u8], at: usize, n: u64) -> usize
     requires { at + length (decimal n) ≤ length out.old }
     ensures { (result ≡ at + length (decimal n)) × (out.new ≡ sets out.old at (decimal n)) }

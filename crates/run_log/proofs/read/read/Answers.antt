@@ -1,5 +1,5 @@
 -- A turn reads one record. Assumes nothing.
-use Rattle.std.proofs.Common.{◌≡◌, ◌+◌, ◌-◌, length, ℕ, refl, sym, ap, ◌∙◌, arith, Err}
+use Rattle.std.proofs.Common.{◌≡◌, ◌+◌, ◌-◌, length, ℕ, sym, ap, ◌∙◌, arith, Err}
 use Rattle.text.specs.declared.read.Unread.{Unread}
 use Rattle.run_log.specs.Meaning.{reach_is}
 use Rattle.paper.specs.Log.{upto, torn_off, astray, readable, read_from, reading}
@@ -8,7 +8,7 @@ use Rattle.run_log.proofs.read.read.Goals as goal
 
 pub loop-runs-init : goal.loop-runs-init
 unfolding reading
-loop-runs-init c = let z : length c.args.s.now - 0 ≡ length c.args.s.now = omega arith in (rw z refl, omega arith)
+loop-runs-init c = let z : length c.args.s.now - 0 ≡ length c.args.s.now = omega arith in (ap (λ (f : ℕ). read_from f c.args.s.now 0 0) z, omega arith)
 
 pub returns-in-Err-Torn : goal.returns-in-Err-Torn
 returns-in-Err-Torn c =
