@@ -2,6 +2,9 @@
 use mathlib.Core.Path.{sym, ◌∙◌}
 use Rattle.paper.specs.Dictionary.{dictionary_of}
 use Rattle.std.proofs.lemmas.Result.{err_from_is_err_and}
+use Rattle.std.specs.Prelude.{Err}
+use Rattle.words.specs.declared.refusal.Refusal.TheVariants.{NoListing}
+use Rattle.words.specs.Answer.{refused_at}
 use Rattle.listing.specs.Joining.{passed, faulted, read-faulty, told_faulty, read_size, read_range, read_told}
 use Rattle.listing.proofs.read.read.Goals as goal
 
@@ -35,5 +38,5 @@ returns-in_err-places c =
     let p = err_from_is_err_and c.from_residual.result c.from_residual.ensures.1 in
     let f = faulted _ _ _ _ c.scan.ensures _ c.in_err-places.was in
     rw (p.1, p.2, f.0, ← d.same)
-    (read_told c.in-Some.dictionary.now a.text.now a.out.now (rw (← d.same) at d.long) (sym c.in_range.ensures ∙ c.if-not-in_range.false) _ _
+    (read_told c.in-Some.dictionary.now a.text.now a.out.now (rw (← d.same) at d.long) (sym c.in_range.ensures ∙ c.if-not-in_range.false) (Err (refused_at NoListing _)) _
     (told_faulty D a.text.now a.out.now _ (read-faulty D a.text.now _ f.1)))

@@ -2,6 +2,8 @@
 use mathlib.Core.Bool.{true}
 use mathlib.Core.Path.{refl}
 use Rattle.std.proofs.lemmas.Result.{err_from_is_err_and}
+use Rattle.words.specs.declared.refusal.Refusal.TheVariants.{WrongSize}
+use Rattle.words.specs.Answer.{refused_at}
 use Rattle.kernel.specs.Accepting.{accept_size, unsized}
 use Rattle.packer.specs.Forms.{kernel_of}
 use Rattle.pair.specs.Answers.{said_bad, said_good, said_taken, said_count, paired_bad, paired_good}
@@ -11,7 +13,7 @@ pub returns-in_default : goal.returns-in_default
 returns-in_default c =
     let d = c.args.dictionary.now in
     let long = c.args.long.now in
-    rw c.into.ensures (paired_bad d long c.args.sent.now _ (said_bad true d long _ _ (accept_size _ _ _ long (unsized _ _ c.in_default.ensures.cases)) _ refl))
+    rw c.into.ensures (paired_bad d long c.args.sent.now (refused_at WrongSize 0) (said_bad true d long _ _ (accept_size _ _ _ long (unsized _ _ c.in_default.ensures.cases)) _ refl))
 
 pub with_sent-requires : goal.with_sent-requires
 with_sent-requires c =
