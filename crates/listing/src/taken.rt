@@ -18,7 +18,13 @@ use words::operation::is_listed;
 fn word_taken(regions: &Regions, w: Word) -> bool
     ensures { result ≡ word_taken (to_word w) }
 {
-    cmpt_ctrl(w) != 1 && is_listed(operation(w)) && judge(regions, w).is_ok()
+    if cmpt_ctrl(w) == 1 {
+        return false;
+    }
+    if !is_listed(operation(w)) {
+        return false;
+    }
+    judge(regions, w).is_ok()
 }
 
 // It can have its form, that of so many places: to be short there must be a short word for it.
