@@ -6,7 +6,7 @@ ghost use Rattle.element.specs.Biased.{ex, Near};
 use super::value::BASE;
 
 // Half of what stands for 0.
-const HALF_BASE: u64 = 4611686018427387904;
+const HALF_BASE: u64 = BASE / 2;
 
 // The sum.
 pub(crate) fn add(a: u64, b: u64) -> u64

@@ -23,8 +23,5 @@ pub fn compare(code: u64, a: u64, b: u64) -> bool
 pub fn one_if(outcome: bool) -> u64
     ensures { ex result ≡ one_if outcome }
 {
-    if outcome {
-        return BASE + 1;
-    }
-    BASE
+    BASE + u64::from(outcome)
 }

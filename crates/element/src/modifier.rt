@@ -18,10 +18,7 @@ pub(crate) fn absolute(v: u64) -> u64
     requires { Near 32 v }
     ensures { (ex result ≡ pos (nat_abs (ex v))) × Keeps v result }
 {
-    if v < BASE {
-        return negated(v);
-    }
-    v
+    if v < BASE { negated(v) } else { v }
 }
 
 // v under a source modifier: 1 absolute, 2 negated, 3 negated absolute.

@@ -1,5 +1,5 @@
 // The result of an operation on two numbers.
-ghost use Rattle.std.specs.Prelude.{◌≡◌, cond};
+ghost use Rattle.std.specs.Prelude.{◌≡◌};
 ghost use Rattle.paper.specs.Element.{result as whole_result};
 ghost use Rattle.words.specs.Operations.{plain_is};
 ghost use Rattle.element.specs.Biased.{ex};
@@ -11,16 +11,6 @@ use super::logic::{logic_and, logic_not, logic_or, logic_xor};
 use super::shift::{shift_left, shift_right};
 use words::operation::Plain;
 
-// The first where the predicate holds, else the second.
-fn select(holds: bool, a: u64, b: u64) -> u64
-    ensures { result ≡ cond holds a b }
-{
-    if holds {
-        return a;
-    }
-    b
-}
-
 // The result of an operation on src0's value a and src1's b. cmp reads the condition code, sel whether the predicate holds.
 pub fn compute(p: Plain, condition: u64, holds: bool, a: u64, b: u64) -> u64
     requires { Operands p a b }
@@ -28,14 +18,13 @@ pub fn compute(p: Plain, condition: u64, holds: bool, a: u64, b: u64) -> u64
 {
     match p {
         Plain::Mov => a,
-        Plain::Sel => select(holds, a, b),
+        Plain::Sel => { if holds { a } else { b } }
         Plain::Not => logic_not(a),
         Plain::And => logic_and(a, b),
         Plain::Or => logic_or(a, b),
         Plain::Xor => logic_xor(a, b),
-        Plain::Shr => shift_right(a, b),
+        Plain::Shr | Plain::Asr => shift_right(a, b),
         Plain::Shl => shift_left(a, b),
-        Plain::Asr => shift_right(a, b),
         Plain::Cmp => one_if(compare(condition, a, b)),
         Plain::Add => add(a, b),
         Plain::Mul => multiply(a, b),

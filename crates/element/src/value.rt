@@ -7,7 +7,7 @@ ghost use Rattle.element.specs.Biased.{ex, Near, sign_bit};
 use words::types::width_of;
 
 // What stands for 0.
-pub const BASE: u64 = 9223372036854775808;
+pub const BASE: u64 = 1 << 63;
 
 // The pattern of a type that has every bit set.
 fn ones(kind: u64) -> u64
@@ -22,10 +22,7 @@ pub(crate) fn sign(kind: u64) -> u64
     requires { IsWhole kind }
     ensures { result ≡ sign_bit kind }
 {
-    if kind % 2 == 1 {
-        return ones(kind) / 2 + 1;
-    }
-    0
+    if kind % 2 == 1 { ones(kind) / 2 + 1 } else { 0 }
 }
 
 // The value of a pattern.
@@ -42,12 +39,12 @@ fn between(v: u64, low: u64, high: u64) -> u64
     ensures { result ≡ cond (ltb v low) low (cond (ltb high v) high v) }
 {
     if v < low {
-        return low;
+        low
+    } else if high < v {
+        high
+    } else {
+        v
     }
-    if high < v {
-        return high;
-    }
-    v
 }
 
 // The value of the type that is nearest to v.

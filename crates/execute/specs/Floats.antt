@@ -18,6 +18,9 @@ use Rattle.operands.specs.Floats.{FloatsRead}
 use Rattle.execute.specs.Readable.{Reckoning, floats_served_lem, float_destination, float_source}
 use Rattle.execute.specs.Results.{channel_makes, Makes}
 use Rattle.execute.specs.Effects.{written}
+use Rattle.words.specs.Operations.{plain_is}
+use Rattle.words.specs.declared.operation.Plain.{Plain}
+use Rattle.words.specs.declared.operation.Plain.TheVariants.{Mov, Sel, Not, And, Or, Xor, Shr, Shl, Asr, Cmp, Add, Mul, Avg}
 
 -- Each of the n first numbers is the pattern that its channel of the second source reads, if there is one.
 pub record SecondFloats (p : paper.Plain) (w : ℕ) (registers : List ℕ) (n : ℕ) (values : List ℕ) : Type 0 where
@@ -66,6 +69,23 @@ Copies p = (c : ℕ) (a b : ℤ) → float_result p c a b ≡ a
 pub copied : (p : paper.Plain) (c n : ℕ) (first second : List ℕ) → length first ≡ 16 → Copies p → Reckoned p c n first second first
 unfolding Reckoned
 copied p c n first second l same = record { sixteen = l; done = λ k h. sym (same c (pos (get_or first k 0)) (pos (get_or second k 0))); kept = λ k h. refl }
+
+-- These are the operations but cmp, add and mul.
+pub others_copy : (p : Plain) → (p ≡ Cmp → ⊥) → (p ≡ Add → ⊥) → (p ≡ Mul → ⊥) → Copies (plain_is p)
+unfolding float_result
+others_copy Mov c a m = λ x y z. refl
+others_copy Sel c a m = λ x y z. refl
+others_copy Not c a m = λ x y z. refl
+others_copy And c a m = λ x y z. refl
+others_copy Or c a m = λ x y z. refl
+others_copy Xor c a m = λ x y z. refl
+others_copy Shr c a m = λ x y z. refl
+others_copy Shl c a m = λ x y z. refl
+others_copy Asr c a m = λ x y z. refl
+others_copy Cmp c a m = absurd (c refl)
+others_copy Add c a m = absurd (a refl)
+others_copy Mul c a m = absurd (m refl)
+others_copy Avg c a m = λ x y z. refl
 
 -- What holds is 1, else 0.
 pub one_told : (b : Bool) (v : ℕ) → v ≡ cond b 1 0 → pos v ≡ one_if b

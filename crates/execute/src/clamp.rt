@@ -7,24 +7,20 @@ use element::value::clamp;
 
 // The results of the n first channels clamped to the type.
 fn clamp_each(kind: u64, n: usize, values: &mut [u64; 16])
-    requires { (n ≤ 16) × (length values.old ≡ 16) × IsWhole kind }
+    requires { (n ≤ 16) × IsWhole kind }
     ensures { Kept true kind n values.old values.new }
 {
-    let mut k = 0;
-    while k < n {
-        let v = values[k];
-        values[k] = clamp(kind, v);
-        k += 1;
+    for k in 0..n {
+        values[k] = clamp(kind, values[k]);
     }
 }
 
 // The same if Saturate is set; else they stay. Their low bits are then what is stored.
 pub(crate) fn clamp_all(saturated: bool, kind: u64, n: usize, values: &mut [u64; 16])
-    requires { (n ≤ 16) × (length values.old ≡ 16) × IsWhole kind }
+    requires { (n ≤ 16) × IsWhole kind }
     ensures { Kept saturated kind n values.old values.new }
 {
     if saturated {
         clamp_each(kind, n, values);
-        return;
     }
 }

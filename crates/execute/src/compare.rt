@@ -26,11 +26,8 @@ fn lowest_bits(results: &[u64; 16], n: usize) -> u64
     ensures { (result ≡ lowest_bits results.now n) × (result < 65536) }
 {
     let mut mask = 0;
-    let mut k = 0;
-    while k < n {
-        let lowest = results[k] % 2;
-        mask += lowest << k;
-        k += 1;
+    for k in 0..n {
+        mask += (results[k] % 2) << k;
     }
     mask
 }
@@ -60,9 +57,10 @@ pub(crate) fn flags_after(
     ensures { FlagsOf result (to_word w) (store_of [] flags []) (flag_made (plain_is p) (to_word w) (chosen_flag (to_word w) (store_of [] flags [])) enable results.now) }
 {
     if compares(p) {
-        return compared(w, flags, enable, lowest_bits(results, channels(w)));
+        compared(w, flags, enable, lowest_bits(results, channels(w)))
+    } else {
+        flags
     }
-    flags
 }
 
 // The same of one channel's result.
@@ -71,7 +69,8 @@ pub(crate) fn flags_of_one(p: Plain, w: Word, flags: Flags, enable: u64, v: u64)
     ensures { FlagsOf result (to_word w) (store_of [] flags []) (flag_made (plain_is p) (to_word w) (chosen_flag (to_word w) (store_of [] flags [])) enable (alone v)) }
 {
     if compares(p) {
-        return compared(w, flags, enable, v % 2);
+        compared(w, flags, enable, v % 2)
+    } else {
+        flags
     }
-    flags
 }

@@ -17,15 +17,11 @@ pub(crate) fn each(
     first: &mut [u64; 16],
     second: &[u64; 16],
 )
-    requires { (n ≤ 16) × (length first.old ≡ 16) × ((k : ℕ) → k < n → Operands p (get_or first.old k 0) (get_or second.now k 0)) }
+    requires { (n ≤ 16) × ((k : ℕ) → k < n → Operands p (get_or first.old k 0) (get_or second.now k 0)) }
     ensures { Combined (plain_is p) condition predicate n first.old second.now first.new }
 {
-    let mut k = 0;
-    while k < n {
+    for k in 0..n {
         let holds = bit(predicate, k as u64);
-        let a = first[k];
-        let b = second[k];
-        first[k] = compute(p, condition, holds, a, b);
-        k += 1;
+        first[k] = compute(p, condition, holds, first[k], second[k]);
     }
 }

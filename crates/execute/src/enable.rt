@@ -10,7 +10,7 @@ ghost use Rattle.execute.specs.Stores.{store_of};
 
 use crate::flags::chosen;
 use lanes::flags::Flags;
-use lanes::mask::{enable_mask, predicate_mask};
+use lanes::mask::{ALL, enable_mask, predicate_mask};
 use words::bytes::Word;
 use words::fields::{pred_ctrl, pred_inv, we_ctrl};
 use words::operation::Plain;
@@ -29,7 +29,7 @@ pub fn predicate_of(w: Word, flags: Flags) -> u64
     ensures { result ≡ predicate_of (to_word w) (store_of [] flags []) }
 {
     if pred_ctrl(w) == 0 {
-        return 65535;
+        return ALL;
     }
     predicate_mask(chosen(w, flags), pred_ctrl(w), pred_inv(w))
 }

@@ -27,7 +27,8 @@ pub fn execute(p: Plain, w: Word, awake: u64, flags: Flags, registers: &mut [u8]
     ensures flag0_bound { (result.flag0 < 65536) × (result.flag1 < 65536) }
 {
     if exec_size(w) == 0 {
-        return execute_one(p, w, awake, flags, registers);
+        execute_one(p, w, awake, flags, registers)
+    } else {
+        execute_many(p, w, awake, flags, registers)
     }
-    execute_many(p, w, awake, flags, registers)
 }

@@ -13,9 +13,10 @@ pub fn chosen(w: Word, f: Flags) -> u64
     ensures { result ≡ chosen_flag (to_word w) (store_of [] f []) }
 {
     if flag_choice(w) == 0 {
-        return f.flag0;
+        f.flag0
+    } else {
+        f.flag1
     }
-    f.flag1
 }
 
 // The flags with another number in the one that a word chooses.
@@ -23,13 +24,8 @@ pub fn with_chosen(w: Word, f: Flags, flag: u64) -> Flags
     ensures { FlagsOf result (to_word w) (store_of [] f []) flag }
 {
     if flag_choice(w) == 0 {
-        return Flags {
-            flag0: flag,
-            flag1: f.flag1,
-        };
-    }
-    Flags {
-        flag0: f.flag0,
-        flag1: flag,
+        Flags { flag0: flag, ..f }
+    } else {
+        Flags { flag1: flag, ..f }
     }
 }

@@ -1,9 +1,9 @@
 // What an instruction on floats does to registers and flags: a path of its own, by patterns.
-ghost use Rattle.std.specs.Prelude.{false, cond, List, [], ◌≡◌, ℕ, ◌≤◌, ◌<◌, length, get_or};
+ghost use Rattle.std.specs.Prelude.{false, pos, List, [], ◌≡◌, ℕ, ◌≤◌, ◌<◌, length, get_or};
 ghost use Rattle.paper.specs.Limits.{register_bytes};
 ghost use Rattle.paper.specs.Word.{dst_type, dst_is_a0};
 ghost use Rattle.paper.specs.Value.{type_f};
-ghost use Rattle.paper.specs.Operation.{add, mul, cmp};
+ghost use Rattle.paper.specs.Element.{float_result};
 ghost use Rattle.paper.specs.Legal.{bytes_in};
 ghost use Rattle.paper.specs.Region.{channels};
 ghost use Rattle.paper.specs.Enable.{chosen_flag};
@@ -24,7 +24,7 @@ use crate::enable::{enable_of, predicate_of};
 use lanes::flags::Flags;
 use lanes::mask::quarter_mask;
 use lanes::patterns::scatter_patterns;
-use operands::floats::{first_floats, second_floats};
+use operands::floats::floats_of;
 use single::operation::{add_pattern, compare_pattern, mul_pattern};
 use words::bytes::Word;
 use words::fields::{cond_modifier, is_null, qtr_ctrl};
@@ -34,80 +34,38 @@ use words::traits::{compares, reads_two};
 
 // ---- operations on all channels
 
-// Sums.
-fn add_all(n: usize, first: &mut [u32; 16], second: &[u32; 16])
-    requires { (n ≤ 16) × (length first.old ≡ 16) }
-    ensures { Reckoned add 0 n first.old second.now first.new }
+// The result of an operation on two floats: a comparison's is the whole number 1 or 0. mov copies, and of the others none is served on floats.
+fn reckoned(p: Plain, condition: u64, x: u32, y: u32) -> u32
+    ensures { pos result ≡ float_result (plain_is p) condition (pos x) (pos y) }
 {
-    let mut k = 0;
-    while k < n {
-        let x = first[k];
-        let y = second[k];
-        first[k] = add_pattern(x, y);
-        k += 1;
+    match p {
+        Plain::Cmp => u32::from(compare_pattern(condition, x, y)),
+        Plain::Add => add_pattern(x, y),
+        Plain::Mul => mul_pattern(x, y),
+        _ => x,
     }
 }
 
-// Products.
-fn mul_all(n: usize, first: &mut [u32; 16], second: &[u32; 16])
-    requires { (n ≤ 16) × (length first.old ≡ 16) }
-    ensures { Reckoned mul 0 n first.old second.now first.new }
+// The first patterns of the n first channels become the results.
+fn reckon_each(p: Plain, condition: u64, n: usize, first: &mut [u32; 16], second: &[u32; 16])
+    requires { n ≤ 16 }
+    ensures { Reckoned (plain_is p) condition n first.old second.now first.new }
 {
-    let mut k = 0;
-    while k < n {
-        let x = first[k];
-        let y = second[k];
-        first[k] = mul_pattern(x, y);
-        k += 1;
+    for k in 0..n {
+        first[k] = reckoned(p, condition, first[k], second[k]);
     }
 }
 
-// 1 for what holds, else 0.
-fn one_if(holds: bool) -> u32
-    ensures { result ≡ cond holds 1 0 }
-{
-    if holds { 1 } else { 0 }
-}
-
-// Comparisons: the whole number 1 where the condition holds, else 0.
-fn compare_all(condition: u64, n: usize, first: &mut [u32; 16], second: &[u32; 16])
-    requires { (n ≤ 16) × (length first.old ≡ 16) }
-    ensures { Reckoned cmp condition n first.old second.now first.new }
-{
-    let mut k = 0;
-    while k < n {
-        let x = first[k];
-        let y = second[k];
-        first[k] = one_if(compare_pattern(condition, x, y));
-        k += 1;
-    }
-}
-
-// Each operation's: mov copies, and of the others none is served on floats.
+// The results, by the operation: each that is served has a loop of its own. The others' are the first operands.
 fn reckon_all(p: Plain, condition: u64, n: usize, first: &mut [u32; 16], second: &[u32; 16])
-    requires { (n ≤ 16) × (length first.old ≡ 16) }
+    requires { n ≤ 16 }
     ensures { Reckoned (plain_is p) condition n first.old second.now first.new }
 {
     match p {
-        Plain::Mov => {}
-        Plain::Sel => {}
-        Plain::Not => {}
-        Plain::And => {}
-        Plain::Or => {}
-        Plain::Xor => {}
-        Plain::Shr => {}
-        Plain::Shl => {}
-        Plain::Asr => {}
-        Plain::Cmp => {
-            compare_all(condition, n, first, second);
-        }
-        Plain::Add => {
-            add_all(n, first, second);
-        }
-        Plain::Mul => {
-            mul_all(n, first, second);
-        }
-        Plain::Avg => {}
+        Plain::Cmp => reckon_each(Plain::Cmp, condition, n, first, second),
+        Plain::Add => reckon_each(Plain::Add, condition, n, first, second),
+        Plain::Mul => reckon_each(Plain::Mul, condition, n, first, second),
+        _ => (),
     }
 }
 
@@ -115,23 +73,22 @@ fn reckon_all(p: Plain, condition: u64, n: usize, first: &mut [u32; 16], second:
 
 // The second operands, where the operation reads them; else the zeros that were there.
 fn float_second(p: Plain, w: Word, n: usize, registers: &[u8], patterns: &mut [u32; 16])
-    requires { Reckoning (plain_is p) (to_word w) × (n ≡ channels (to_word w)) × (length registers.now ≡ register_bytes) × (length patterns.old ≡ 16) }
+    requires { Reckoning (plain_is p) (to_word w) × (n ≡ channels (to_word w)) × (length registers.now ≡ register_bytes) }
     ensures { SecondFloats (plain_is p) (to_word w) registers.now n patterns.new }
 {
     if reads_two(p) {
-        second_floats(w, n, registers, patterns);
-        return;
+        floats_of::<true>(w, n, registers, patterns);
     }
 }
 
 // What the channels make: all sources are read first. A float's result is its pattern.
 fn float_results(p: Plain, w: Word, registers: &[u8], made: &mut [u32; 16])
-    requires { Reckoning (plain_is p) (to_word w) × (length registers.now ≡ register_bytes) × (length made.old ≡ 16) }
+    requires { Reckoning (plain_is p) (to_word w) × (length registers.now ≡ register_bytes) }
     ensures { (predicate : ℕ) → Makes (plain_is p) (to_word w) predicate registers.now made.new }
 {
     let n = channels(w);
     let mut other = [0u32; 16];
-    first_floats(w, n, registers, made);
+    floats_of::<false>(w, n, registers, made);
     float_second(p, w, n, registers, &mut other);
     reckon_all(p, cond_modifier(w), n, made, &other);
 }
@@ -158,11 +115,8 @@ fn outcomes(results: &[u32; 16], n: usize) -> u64
     ensures { (result ≡ lowest_bits results.now n) × (result < 65536) }
 {
     let mut mask = 0;
-    let mut k = 0;
-    while k < n {
-        let lowest = (results[k] % 2) as u64;
-        mask += lowest << k;
-        k += 1;
+    for k in 0..n {
+        mask += u64::from(results[k] % 2) << k;
     }
     mask
 }
@@ -173,9 +127,10 @@ fn float_flags(p: Plain, w: Word, flags: Flags, enable: u64, results: &[u32; 16]
     ensures { FlagsOf result (to_word w) (store_of [] flags []) (flag_made (plain_is p) (to_word w) (chosen_flag (to_word w) (store_of [] flags [])) enable results.now) }
 {
     if compares(p) {
-        return compared(w, flags, enable, outcomes(results, channels(w)));
+        compared(w, flags, enable, outcomes(results, channels(w)))
+    } else {
+        flags
     }
-    flags
 }
 
 // ---- an instruction

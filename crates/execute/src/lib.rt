@@ -4,7 +4,6 @@
 pub mod clamp;
 pub mod combine;
 pub mod compare;
-pub mod conditions;
 pub mod counts;
 pub mod destination;
 pub mod each;
@@ -14,6 +13,5 @@ pub mod flags;
 pub mod floats;
 pub mod many;
 pub mod one;
-pub mod operations;
 pub mod results;
 pub mod transfer;

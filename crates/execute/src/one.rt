@@ -21,7 +21,7 @@ use element::value::{BASE, clamp};
 use lanes::flags::Flags;
 use lanes::mask::{bit, quarter_mask};
 use lanes::scatter::store_channel;
-use operands::one::{first_number, second_number};
+use operands::one::number_of;
 use words::bytes::Word;
 use words::fields::{cond_modifier, dst_type, is_null, qtr_ctrl, saturate};
 use words::operation::Plain;
@@ -34,9 +34,10 @@ fn second_of(p: Plain, w: Word, registers: &[u8]) -> u64
     ensures { SecondRead (plain_is p) (to_word w) registers.now 1 (alone result) }
 {
     if reads_two(p) {
-        return second_number(w, registers);
+        number_of::<true>(w, registers)
+    } else {
+        BASE
     }
-    BASE
 }
 
 // What the channel makes: all sources are read first. The number's low bits, as many as the destination's type has, are the pattern that is stored.
@@ -44,13 +45,14 @@ fn result_of(p: Plain, w: Word, predicate: u64, registers: &[u8]) -> u64
     requires { Counting (plain_is p) (to_word w) × (length registers.now ≡ bytes_in (src_is_a0 src0 (to_word w))) × (channels (to_word w) ≡ 1) × (uses_a0 (plain_is p) (to_word w) ≡ false) }
     ensures { Makes (plain_is p) (to_word w) predicate registers.now (alone result) }
 {
-    let a = first_number(w, registers);
+    let a = number_of::<false>(w, registers);
     let b = second_of(p, w, registers);
     let v = compute(p, cond_modifier(w), bit(predicate, 0), a, b);
     if saturate(w) == 1 {
-        return clamp(dst_type(w), v);
+        clamp(dst_type(w), v)
+    } else {
+        v
     }
-    v
 }
 
 // The result stored where the mask enables the channel; a null destination stores nothing.

@@ -13,7 +13,7 @@ use crate::clamp::clamp_all;
 use crate::combine::combine;
 use crate::counts::channels;
 use element::value::BASE;
-use operands::sources::{first_operand, second_operand};
+use operands::sources::numbers_of;
 use words::bytes::Word;
 use words::fields::{cond_modifier, dst_type, saturate};
 use words::operation::Plain;
@@ -21,25 +21,24 @@ use words::traits::reads_two;
 
 // The second operands, where the operation reads them; else the zeros that were there.
 fn second(p: Plain, w: Word, n: usize, registers: &[u8], values: &mut [u64; 16])
-    requires counting { Counting (plain_is p) (to_word w) × (n ≡ channels (to_word w)) × (length registers.now ≡ bytes_in (src_is_a0 src0 (to_word w))) × (length values.old ≡ 16) × (uses_a0 (plain_is p) (to_word w) ≡ false) }
+    requires counting { Counting (plain_is p) (to_word w) × (n ≡ channels (to_word w)) × (length registers.now ≡ bytes_in (src_is_a0 src0 (to_word w))) × (uses_a0 (plain_is p) (to_word w) ≡ false) }
     requires by_index { (k : ℕ) → k < n → Near 8 (get_or values.old k 0) }
     ensures { SecondRead (plain_is p) (to_word w) registers.now n values.new }
 {
     if reads_two(p) {
-        second_operand(w, n, registers, values);
-        return;
+        numbers_of::<true>(w, n, registers, values);
     }
 }
 
 // What the channels of an instruction make of the registers, no operand being a0: all sources are read first. The low bits of each number, as many as the destination's type has,
 // are the pattern that its channel stores.
 pub(crate) fn results(p: Plain, w: Word, predicate: u64, registers: &[u8], made: &mut [u64; 16])
-    requires { Counting (plain_is p) (to_word w) × (length registers.now ≡ bytes_in (src_is_a0 src0 (to_word w))) × (length made.old ≡ 16) × (uses_a0 (plain_is p) (to_word w) ≡ false) }
+    requires { Counting (plain_is p) (to_word w) × (length registers.now ≡ bytes_in (src_is_a0 src0 (to_word w))) × (uses_a0 (plain_is p) (to_word w) ≡ false) }
     ensures { Makes (plain_is p) (to_word w) predicate registers.now made.new }
 {
     let n = channels(w);
     let mut other = [BASE; 16];
-    first_operand(w, n, registers, made);
+    numbers_of::<false>(w, n, registers, made);
     second(p, w, n, registers, &mut other);
     combine(p, cond_modifier(w), predicate, n, made, &other);
     clamp_all(saturate(w) == 1, dst_type(w), n, made);

@@ -27,25 +27,22 @@ use words::operation::Plain;
 pub fn uses_a0(w: Word) -> bool
     ensures { result ≡ (dst_is_a0 (to_word w) || src_is_a0 src0 (to_word w)) }
 {
-    if dst_is_a0(w) {
-        return true;
-    }
-    src_is_a0(Source::First, w)
+    dst_is_a0(w) || src_is_a0(Source::First, w)
 }
 
 // What the channels of a mov make: a0 is read, or registers.
 fn moved(w: Word, flags: Flags, registers: &[u8], addresses: &[u8], made: &mut [u64; 16])
-    requires { Counting mov (to_word w) × (length registers.now ≡ register_bytes) × (length addresses.now ≡ address_bytes) × (length made.old ≡ 16) }
+    requires { Counting mov (to_word w) × (length registers.now ≡ register_bytes) × (length addresses.now ≡ address_bytes) }
     ensures { (predicate : ℕ) → Makes mov (to_word w) predicate (file_in (src_is_a0 src0 (to_word w)) (store_of registers.now flags addresses.now)) made.new }
 {
     let n = channels(w);
     if src_is_a0(Source::First, w) {
         operand_by_element(w, n, addresses, made);
         clamp_all(saturate(w) == 1, dst_type(w), n, made);
-        return;
+    } else {
+        operand_by_element(w, n, registers, made);
+        clamp_all(saturate(w) == 1, dst_type(w), n, made);
     }
-    operand_by_element(w, n, registers, made);
-    clamp_all(saturate(w) == 1, dst_type(w), n, made);
 }
 
 // Results stored in a0, or in registers.
@@ -61,10 +58,10 @@ fn write_either(
         × (addresses.new ≡ written_into (not (dst_is_a0 (to_word w))) (to_word w) enable addresses.old results.now) }
 {
     if dst_is_a0(w) {
-        write_by_element(w, enable, addresses, results);
-        return;
+        write_by_element(w, enable, addresses, results)
+    } else {
+        write_by_element(w, enable, registers, results)
     }
-    write_by_element(w, enable, registers, results);
 }
 
 // mov from registers, a0 or an immediate to registers, a0 or null. It changes no flag.

@@ -4,15 +4,11 @@ use Rattle.std.specs.Prelude.{Bool, true, false, cond, ◌&&◌, List, [], ◌�
 use Rattle.std.proofs.Math.Bool.{and-true}
 use Rattle.std.proofs.Math.Option.{Option, none, some}
 use Rattle.std.proofs.Common.{sym, ap, ap₂, ◌∙◌}
-use Rattle.paper.specs.Dictionary.{Dictionary}
-use Rattle.paper.specs.Kernel.{Instr, Forms}
+use Rattle.paper.specs.Kernel.{Instr}
 use Rattle.paper.specs.Operation.{operation}
 use Rattle.paper.specs.Jump.{Distance, distances, reach, reached, targets_of, lands, jump_lands, targets_land, first_astray}
 use Rattle.distances.specs.Reach.{said_of}
 use Rattle.distances.specs.Distances.{told}
-use Rattle.kernel.specs.declared.jumps.Astray.{Astray}
-use Rattle.kernel.specs.declared.jumps.Astray.TheVariants.{Nowhere, Branch}
-use Rattle.kernel.specs.Standing.{Stands}
 
 -- A place of which the test `land` holds; none lies below 0.
 abbrev pub lands_at : (ℕ → Bool) → ℤ → Bool
@@ -45,13 +41,9 @@ abbrev pub instr_of : ℕ → ℕ → ℕ → Instr
 instr_of here size w = record { place = here; size = size; word = w }
 
 -- What the code's answer is: none, or the offset.
-abbrev pub astray_is : Astray → Option ℕ
-astray_is Nowhere = none
-astray_is (Branch offset) = some offset
-
--- The answer for whatever instructions stand in the bytes.
-abbrev pub FirstOut : Dictionary → List ℕ → (ℕ → Bool) → Astray → Type 0
-FirstOut D kernel land r = (forms : Forms) (k : List Instr) → Stands forms D kernel 0 k → astray_is r ≡ first_out land k
+abbrev pub astray_is : std.Option ℕ → Option ℕ
+astray_is std.None = none
+astray_is (std.Some offset) = some offset
 
 -- ---- the paper's test
 

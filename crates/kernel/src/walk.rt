@@ -1,6 +1,6 @@
 // The first pass over a kernel: 17 and 3 to 11, instruction by instruction.
 ghost use Rattle.std.specs.Prelude.{◌≡◌, ◌≤◌, length};
-ghost use Rattle.paper.specs.Limits.{dictionary_bytes, kernel_bytes};
+ghost use Rattle.paper.specs.Limits.{kernel_bytes};
 ghost use Rattle.paper.specs.Dictionary.{dictionary_of};
 ghost use Rattle.paper.specs.Kernel.{parse};
 ghost use Rattle.kernel.specs.Judging.{forms_is};
@@ -8,7 +8,7 @@ ghost use Rattle.kernel.specs.Marks.{Says};
 
 use crate::instruction::{Judged, judge_at};
 use table::regions::Regions;
-use words::limits::{INSTRUCTION_LIMIT, PLACES};
+use words::limits::{DICTIONARY_BYTES, INSTRUCTION_LIMIT, PLACES};
 
 // What is said of a kernel: how many instructions it has; or a refusal's number, and the byte offset of what is refused.
 #[derive(Clone, Copy)]
@@ -23,11 +23,11 @@ pub enum Said {
 pub(crate) fn walk(
     regions: &Regions,
     long: bool,
-    dictionary: &[u8],
+    dictionary: &[u8; DICTIONARY_BYTES],
     kernel: &[u8],
     marks: &mut [u8; PLACES],
 ) -> Said
-    requires { (length dictionary.now ≡ dictionary_bytes) × (length kernel.now ≤ kernel_bytes) }
+    requires { length kernel.now ≤ kernel_bytes }
     ensures { Says (parse (forms_is long) (dictionary_of dictionary.now) kernel.now) result marks.new }
 {
     *marks = [0u8; PLACES];

@@ -3,6 +3,8 @@ ghost use Rattle.std.specs.Prelude.{◌≡◌, ◌+◌, ◌<◌, ◌≤◌};
 ghost use Rattle.paper.specs.Bits.{bit};
 ghost use Rattle.paper.specs.Enable.{flag_after};
 
+use crate::mask::ALL;
+
 // f0.0 and f0.1.
 #[derive(Clone, Copy)]
 pub struct Flags {
@@ -18,5 +20,5 @@ pub fn flag_after(old: u64, first: u64, n: u64, enable: u64, res: u64) -> u64
 {
     let field = ((1 << n) - 1) << first;
     let written = enable & field;
-    (old & (65535 - written)) | (res & written)
+    (old & (ALL - written)) | (res & written)
 }

@@ -10,11 +10,9 @@ pub fn read_element(registers: &[u8], from: usize, size: usize) -> u64
     requires { Size size × (from + size ≤ length registers.now) }
     ensures { result ≡ number_at registers.now from size }
 {
-    if size == 1 {
-        return read1(registers, from);
+    match size {
+        1 => read1(registers, from),
+        2 => read2(registers, from),
+        _ => read4(registers, from),
     }
-    if size == 2 {
-        return read2(registers, from);
-    }
-    read4(registers, from)
 }

@@ -6,6 +6,9 @@ ghost use Rattle.lanes.specs.Masks.{predicate_mask, unmasked_mask, passed_mask, 
 
 use crate::votes::vote_mask;
 
+// The mask of all sixteen channels.
+pub const ALL: u64 = 65535;
+
 // Bit k of a mask is 1.
 pub fn bit(mask: u64, k: u64) -> bool
     requires { k < 64 }
@@ -19,33 +22,24 @@ pub fn predicate_mask(flag: u64, control: u64, inversion: u64) -> u64
     ensures { (result ≡ predicate_mask control inversion flag) × (result < 65536) }
 {
     if control == 0 {
-        return 65535;
+        return ALL;
     }
     let votes = vote_mask(flag, control);
-    if inversion == 1 {
-        return 65535 - votes;
-    }
-    votes
+    if inversion == 1 { ALL - votes } else { votes }
 }
 
 // The channels that may work: the awake ones, or all if WECtrl, here `force`, is 1.
 fn unmasked(awake: u64, force: u64) -> u64
     ensures { result ≡ unmasked_mask force awake }
 {
-    if force == 1 {
-        return 65535;
-    }
-    awake % 65536
+    if force == 1 { ALL } else { awake % 65536 }
 }
 
 // The channels that the predicate leaves: those for which it holds, or all if it does not mask.
 fn passed(masks: bool, predicate: u64) -> u64
     ensures { result ≡ passed_mask masks predicate }
 {
-    if masks {
-        return predicate % 65536;
-    }
-    65535
+    if masks { predicate % 65536 } else { ALL }
 }
 
 // The enabled channels, by the awake ones, WECtrl, whether the predicate masks, and the channels whose predicate holds.
@@ -75,5 +69,5 @@ pub fn raised_mask(mask: u64, quarter: u64) -> u64
 pub fn count_awake(mask: u16) -> u32
     ensures { result ≡ how_many (bit mask) 16 }
 {
-    u16::count_ones(mask)
+    mask.count_ones()
 }

@@ -12,18 +12,16 @@ fn each_pattern(
     stride: usize,
     n: usize,
     enable: u64,
-    patterns: &[u32],
+    patterns: &[u32; 16],
 )
-    requires n_bound { (n ≤ 16) × (length patterns.now ≡ 16) }
+    requires n_bound { n ≤ 16 }
     requires by_index { (k : ℕ) → k < n → origin + k * stride * 4 + 4 ≤ length registers.old }
     ensures { registers.new
         ≡ scattered registers.old (λ k. origin + k * stride * 4) 4 (bit enable) (λ k. get_or patterns.now k 0) n }
 {
-    let mut k = 0;
-    while k < n {
-        let v = patterns[k] as u64;
+    for k in 0..n {
+        let v = u64::from(patterns[k]);
         blend_channel(registers, origin + k * stride * 4, 4, enable, k, v);
-        k += 1;
     }
 }
 
@@ -34,9 +32,9 @@ fn some_patterns(
     stride: usize,
     n: usize,
     enable: u64,
-    patterns: &[u32],
+    patterns: &[u32; 16],
 )
-    requires n_bound { (n ≤ 16) × (length patterns.now ≡ 16) }
+    requires n_bound { n ≤ 16 }
     requires by_index { (k : ℕ) → k < n → origin + k * stride * 4 + 4 ≤ length registers.old }
     ensures { registers.new
         ≡ scattered registers.old (λ k. origin + k * stride * 4) 4 (bit enable) (λ k. get_or patterns.now k 0) n }
@@ -45,13 +43,13 @@ fn some_patterns(
 }
 
 // Side by side, all of them.
-fn all_patterns(registers: &mut [u8], origin: usize, n: usize, patterns: &[u32])
-    requires n_bound { (n ≤ 16) × (length patterns.now ≡ 16) }
+fn all_patterns(registers: &mut [u8], origin: usize, n: usize, patterns: &[u32; 16])
+    requires n_bound { n ≤ 16 }
     requires by_index { (k : ℕ) → k < n → origin + k * 1 * 4 + 4 ≤ length registers.old }
     ensures { registers.new
         ≡ scattered registers.old (λ k. origin + k * 1 * 4) 4 (bit 18446744073709551615) (λ k. get_or patterns.now k 0) n }
 {
-    each_pattern(registers, origin, 1, n, 18446744073709551615, patterns)
+    each_pattern(registers, origin, 1, n, u64::MAX, patterns)
 }
 
 // The n channels' patterns stored `stride` elements apart, each where its bit of the mask is 1: those side by side, all of which are enabled, have a loop of their own.
@@ -61,16 +59,16 @@ pub fn scatter_patterns(
     stride: usize,
     n: usize,
     enable: u64,
-    patterns: &[u32],
+    patterns: &[u32; 16],
 )
-    requires n_bound { (n ≤ 16) × (length patterns.now ≡ 16) }
+    requires n_bound { n ≤ 16 }
     requires by_index { (k : ℕ) → k < n → origin + k * stride * 4 + 4 ≤ length registers.old }
     ensures { registers.new
         ≡ scattered registers.old (λ k. origin + k * stride * 4) 4 (bit enable) (λ k. get_or patterns.now k 0) n }
 {
     if is_whole(stride, enable, n) {
-        all_patterns(registers, origin, n, patterns);
-        return;
+        all_patterns(registers, origin, n, patterns)
+    } else {
+        some_patterns(registers, origin, stride, n, enable, patterns)
     }
-    some_patterns(registers, origin, stride, n, enable, patterns);
 }

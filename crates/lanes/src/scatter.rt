@@ -22,10 +22,7 @@ pub fn store_channel(registers: &mut [u8], from: usize, size: usize, enable: u64
 fn either(on: bool, v: u64, old: u64) -> u64
     ensures { result ≡ cond on v old }
 {
-    if on {
-        return v;
-    }
-    old
+    if on { v } else { old }
 }
 
 // Channel k's value stored where the mask enables it, without a branch: a disabled channel's bytes are stored as they are.
@@ -60,16 +57,14 @@ pub fn store_each(
     ensures { registers.new
         ≡ scattered registers.old (λ k. origin + k * stride * size) size (bit enable) (λ k. get_or values.now k 0) n }
 {
-    let mut k = 0;
-    while k < n {
+    for k in 0..n {
         let v = values[k];
         blend_channel(registers, origin + k * stride * size, size, enable, k, v);
-        k += 1;
     }
 }
 
-// Dwords `stride` elements apart.
-fn store_dwords(
+// Elements of `SIZE` bytes, `stride` elements apart.
+fn store<const SIZE: usize>(
     registers: &mut [u8],
     origin: usize,
     stride: usize,
@@ -77,76 +72,22 @@ fn store_dwords(
     enable: u64,
     values: &[u64; 16],
 )
-    requires n_bound { n ≤ 16 }
-    requires by_index { (k : ℕ) → k < n → origin + k * stride * 4 + 4 ≤ length registers.old }
+    requires size { Size SIZE × (n ≤ 16) }
+    requires by_index { (k : ℕ) → k < n → origin + k * stride * SIZE + SIZE ≤ length registers.old }
     ensures { registers.new
-        ≡ scattered registers.old (λ k. origin + k * stride * 4) 4 (bit enable) (λ k. get_or values.now k 0) n }
+        ≡ scattered registers.old (λ k. origin + k * stride * SIZE) SIZE (bit enable) (λ k. get_or values.now k 0) n }
 {
-    store_each(registers, origin, stride, 4, n, enable, values)
+    store_each(registers, origin, stride, SIZE, n, enable, values)
 }
 
-// Dwords side by side, all of them.
-fn lay_dwords(registers: &mut [u8], origin: usize, n: usize, values: &[u64; 16])
-    requires n_bound { n ≤ 16 }
-    requires by_index { (k : ℕ) → k < n → origin + k * 1 * 4 + 4 ≤ length registers.old }
+// Elements of `SIZE` bytes side by side, all of them: a mask that has every bit enables them.
+fn lay<const SIZE: usize>(registers: &mut [u8], origin: usize, n: usize, values: &[u64; 16])
+    requires size { Size SIZE × (n ≤ 16) }
+    requires by_index { (k : ℕ) → k < n → origin + k * 1 * SIZE + SIZE ≤ length registers.old }
     ensures { registers.new
-        ≡ scattered registers.old (λ k. origin + k * 1 * 4) 4 (bit 18446744073709551615) (λ k. get_or values.now k 0) n }
+        ≡ scattered registers.old (λ k. origin + k * 1 * SIZE) SIZE (bit 18446744073709551615) (λ k. get_or values.now k 0) n }
 {
-    store_each(registers, origin, 1, 4, n, 18446744073709551615, values)
-}
-
-// Words `stride` elements apart.
-fn store_words(
-    registers: &mut [u8],
-    origin: usize,
-    stride: usize,
-    n: usize,
-    enable: u64,
-    values: &[u64; 16],
-)
-    requires n_bound { n ≤ 16 }
-    requires by_index { (k : ℕ) → k < n → origin + k * stride * 2 + 2 ≤ length registers.old }
-    ensures { registers.new
-        ≡ scattered registers.old (λ k. origin + k * stride * 2) 2 (bit enable) (λ k. get_or values.now k 0) n }
-{
-    store_each(registers, origin, stride, 2, n, enable, values)
-}
-
-// Words side by side, all of them.
-fn lay_words(registers: &mut [u8], origin: usize, n: usize, values: &[u64; 16])
-    requires n_bound { n ≤ 16 }
-    requires by_index { (k : ℕ) → k < n → origin + k * 1 * 2 + 2 ≤ length registers.old }
-    ensures { registers.new
-        ≡ scattered registers.old (λ k. origin + k * 1 * 2) 2 (bit 18446744073709551615) (λ k. get_or values.now k 0) n }
-{
-    store_each(registers, origin, 1, 2, n, 18446744073709551615, values)
-}
-
-// Bytes `stride` elements apart.
-fn store_bytes(
-    registers: &mut [u8],
-    origin: usize,
-    stride: usize,
-    n: usize,
-    enable: u64,
-    values: &[u64; 16],
-)
-    requires n_bound { n ≤ 16 }
-    requires by_index { (k : ℕ) → k < n → origin + k * stride * 1 + 1 ≤ length registers.old }
-    ensures { registers.new
-        ≡ scattered registers.old (λ k. origin + k * stride * 1) 1 (bit enable) (λ k. get_or values.now k 0) n }
-{
-    store_each(registers, origin, stride, 1, n, enable, values)
-}
-
-// Bytes side by side, all of them.
-fn lay_bytes(registers: &mut [u8], origin: usize, n: usize, values: &[u64; 16])
-    requires n_bound { n ≤ 16 }
-    requires by_index { (k : ℕ) → k < n → origin + k * 1 * 1 + 1 ≤ length registers.old }
-    ensures { registers.new
-        ≡ scattered registers.old (λ k. origin + k * 1 * 1) 1 (bit 18446744073709551615) (λ k. get_or values.now k 0) n }
-{
-    store_each(registers, origin, 1, 1, n, 18446744073709551615, values)
+    store_each(registers, origin, 1, SIZE, n, u64::MAX, values)
 }
 
 // Elements of a size, `stride` elements apart.
@@ -164,33 +105,25 @@ fn store_sized(
     ensures { registers.new
         ≡ scattered registers.old (λ k. origin + k * stride * size) size (bit enable) (λ k. get_or values.now k 0) n }
 {
-    if size == 4 {
-        store_dwords(registers, origin, stride, n, enable, values);
-        return;
+    match size {
+        4 => store::<4>(registers, origin, stride, n, enable, values),
+        2 => store::<2>(registers, origin, stride, n, enable, values),
+        _ => store::<1>(registers, origin, stride, n, enable, values),
     }
-    if size == 2 {
-        store_words(registers, origin, stride, n, enable, values);
-        return;
-    }
-    store_bytes(registers, origin, stride, n, enable, values);
 }
 
-// Elements of a size side by side, all of them: a mask that has every bit enables them.
+// Elements of a size side by side, all of them.
 fn lay_sized(registers: &mut [u8], origin: usize, size: usize, n: usize, values: &[u64; 16])
     requires size { Size size × (n ≤ 16) }
     requires by_index { (k : ℕ) → k < n → origin + k * 1 * size + size ≤ length registers.old }
     ensures { registers.new
         ≡ scattered registers.old (λ k. origin + k * 1 * size) size (bit 18446744073709551615) (λ k. get_or values.now k 0) n }
 {
-    if size == 4 {
-        lay_dwords(registers, origin, n, values);
-        return;
+    match size {
+        4 => lay::<4>(registers, origin, n, values),
+        2 => lay::<2>(registers, origin, n, values),
+        _ => lay::<1>(registers, origin, n, values),
     }
-    if size == 2 {
-        lay_words(registers, origin, n, values);
-        return;
-    }
-    lay_bytes(registers, origin, n, values);
 }
 
 // The mask enables each of the n first channels.
@@ -206,10 +139,7 @@ pub(crate) fn is_whole(stride: usize, enable: u64, n: usize) -> bool
     requires { n ≤ 16 }
     ensures { result ≡ true → (stride ≡ 1) × ((k : ℕ) → k < n → bit enable k ≡ true) }
 {
-    if stride == 1 {
-        return all_on(enable, n);
-    }
-    false
+    stride == 1 && all_on(enable, n)
 }
 
 // The n channels' values stored `stride` elements apart, each where its bit of the mask is 1: each size has loops of its own, and one for
@@ -229,8 +159,8 @@ pub fn scatter(
         ≡ scattered registers.old (λ k. origin + k * stride * size) size (bit enable) (λ k. get_or values.now k 0) n }
 {
     if is_whole(stride, enable, n) {
-        lay_sized(registers, origin, size, n, values);
-        return;
+        lay_sized(registers, origin, size, n, values)
+    } else {
+        store_sized(registers, origin, stride, size, n, enable, values)
     }
-    store_sized(registers, origin, stride, size, n, enable, values);
 }

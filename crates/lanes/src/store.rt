@@ -3,20 +3,16 @@ ghost use Rattle.std.specs.Prelude.{◌≡◌, ◌+◌, ◌≤◌, length};
 ghost use Rattle.paper.specs.Bits.{put_at};
 ghost use Rattle.lanes.specs.Sizes.{Size};
 
-use numbers::{write1, write2, write4};
+use numbers::write;
 
 // The `size` lowest bytes of v stored from byte `from` on.
 pub(crate) fn write_element(registers: &mut [u8], from: usize, size: usize, v: u64)
     requires { Size size × (from + size ≤ length registers.old) }
     ensures { registers.new ≡ put_at registers.old from size v }
 {
-    if size == 1 {
-        write1(registers, from, v);
-        return;
+    match size {
+        1 => write::<1>(registers, from, v),
+        2 => write::<2>(registers, from, v),
+        _ => write::<4>(registers, from, v),
     }
-    if size == 2 {
-        write2(registers, from, v);
-        return;
-    }
-    write4(registers, from, v);
 }

@@ -3,6 +3,8 @@ ghost use Rattle.std.specs.Prelude.{◌≡◌, ◌*◌, ◌^◌, ◌≤◌, ◌<
 ghost use Rattle.paper.specs.Enable.{group_of};
 ghost use Rattle.lanes.specs.Masks.{lower_halves, joined_mask, any_mask, vote_mask};
 
+use crate::mask::ALL;
+
 // Each channel takes in the bit of its opposite in the neighbouring half of `half` channels; `low` has the channels of the lower halves.
 fn joined(mask: u64, half: u64, low: u64) -> u64
     requires mask_bound { (mask < 65536) × (0 < half) × (half ≤ 8) }
@@ -41,7 +43,8 @@ pub(crate) fn vote_mask(flag: u64, control: u64) -> u64
         return bits;
     }
     if control % 2 == 0 {
-        return any_mask(bits, control);
+        any_mask(bits, control)
+    } else {
+        ALL - any_mask(ALL - bits, control)
     }
-    65535 - any_mask(65535 - bits, control)
 }

@@ -17,16 +17,12 @@ use words::operand::{Operand, operand_of};
 
 // What the channels of src0 read in the file that it stands in, a0 or the registers, which is lent.
 pub fn operand_by_element(w: Word, n: usize, file: &[u8], values: &mut [u64; 16])
-    requires { Readable src0 (to_word w) × (n ≡ channels (to_word w)) × (length file.now ≡ bytes_in (src_is_a0 src0 (to_word w))) × (length values.old ≡ 16) }
+    requires { Readable src0 (to_word w) × (n ≡ channels (to_word w)) × (length file.now ≡ bytes_in (src_is_a0 src0 (to_word w))) }
     ensures { OperandRead (to_word w) file.now src0 n values.old values.new }
 {
     let kind = src_type(Source::First, w);
-    let o = operand_of(false, src_is_a0(Source::First, w), Source::First, w);
-    match o {
-        Operand::Fixed(pattern) => {
-            let number = load(kind, pattern);
-            spread(number, n, values);
-        }
+    match operand_of(false, src_is_a0(Source::First, w), Source::First, w) {
+        Operand::Fixed(pattern) => spread(load(kind, pattern), n, values),
         Operand::Vector(_) => {}
         Operand::Direct(r) => {
             lines(file, r, kind, r.size, n, values);

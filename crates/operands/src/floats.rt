@@ -1,7 +1,7 @@
 // What the channels of a source of floats read, as 32-bit patterns; modified.
 ghost use Rattle.std.specs.Prelude.{false, ◌≡◌, ℕ, ◌+◌, ◌*◌, ◌^◌, ◌≤◌, ◌<◌, length};
 ghost use Rattle.paper.specs.Bits.{number_at};
-ghost use Rattle.paper.specs.Word.{src0, src1, src_is_a0};
+ghost use Rattle.paper.specs.Word.{src_is_a0};
 ghost use Rattle.paper.specs.Legal.{bytes_in};
 ghost use Rattle.paper.specs.Region.{channels, element_at};
 ghost use Rattle.paper.specs.Restricted.{vector_float};
@@ -10,14 +10,16 @@ ghost use Rattle.lanes.specs.Mapped.{Mapped};
 ghost use Rattle.words.specs.Words.{to_word};
 ghost use Rattle.words.specs.Regions.{region_is, Small};
 ghost use Rattle.operands.specs.Shapes.{region_from};
+ghost use Rattle.operands.specs.Source.{source_of};
 ghost use Rattle.operands.specs.Floats.{FloatsIn, FloatsRead, FloatsAt};
 
 use crate::gather::{is_beside, is_single};
+use crate::source::source_of;
 use numbers::read4;
 use single::restricted::vector_pattern;
 use single::sign::modify_pattern;
 use words::bytes::Word;
-use words::fields::{Source, src_modifier};
+use words::fields::src_modifier;
 use words::operand::{Operand, operand_of};
 use words::region::{Region, element_at};
 
@@ -25,39 +27,33 @@ use words::region::{Region, element_at};
 
 // The n first elements of four bytes from byte `from` on.
 fn float_line(registers: &[u8], from: usize, n: usize, patterns: &mut [u32; 16])
-    requires { (n ≤ 16) × (length patterns.old ≡ 16) × ((k : ℕ) → k < n → from + k * 4 + 4 ≤ length registers.now) }
+    requires { (n ≤ 16) × ((k : ℕ) → k < n → from + k * 4 + 4 ≤ length registers.now) }
     ensures { FloatsAt registers.now (λ k. from + k * 4) n patterns.old patterns.new }
 {
-    let mut k = 0;
-    while k < n {
+    for k in 0..n {
         let at = from + k * 4;
         patterns[k] = read4(registers, at) as u32;
-        k += 1;
     }
 }
 
 // One pattern for each of the n first channels.
 fn float_spread(pattern: u32, n: usize, patterns: &mut [u32; 16])
-    requires { (n ≤ 16) × (length patterns.old ≡ 16) }
+    requires { n ≤ 16 }
     ensures { Mapped (λ k old new. new ≡ pattern) n patterns.old patterns.new }
 {
-    let mut k = 0;
-    while k < n {
+    for k in 0..n {
         patterns[k] = pattern;
-        k += 1;
     }
 }
 
 // The elements of the n first channels of a region.
 fn float_lines(registers: &[u8], r: Region, n: usize, patterns: &mut [u32; 16])
-    requires { Small r × (n ≤ 16) × (length patterns.old ≡ 16) × ((k : ℕ) → k < n → element_at (region_is r) k + 4 ≤ length registers.now) }
+    requires { Small r × (n ≤ 16) × ((k : ℕ) → k < n → element_at (region_is r) k + 4 ≤ length registers.now) }
     ensures { FloatsAt registers.now (element_at (region_is r)) n patterns.old patterns.new }
 {
-    let mut k = 0;
-    while k < n {
+    for k in 0..n {
         let from = element_at(r, k);
         patterns[k] = read4(registers, from) as u32;
-        k += 1;
     }
 }
 
@@ -71,105 +67,74 @@ fn float_gather(
     registers: &[u8],
     patterns: &mut [u32; 16],
 )
-    requires small { Small (region_from origin vert code horz 4) × (0 < n) × (n ≤ 16) × (length patterns.old ≡ 16) }
+    requires small { Small (region_from origin vert code horz 4) × (0 < n) × (n ≤ 16) }
     requires by_index { (k : ℕ) → k < n → element_at (region_is (region_from origin vert code horz 4)) k + 4 ≤ length registers.now }
     ensures { FloatsAt registers.now (element_at (region_is (region_from origin vert code horz 4))) n patterns.old patterns.new }
 {
     let r = Region {
-        origin: origin,
-        vert: vert,
-        code: code,
-        horz: horz,
+        origin,
+        vert,
+        code,
+        horz,
         size: 4,
     };
     if is_beside(r) {
-        float_line(registers, origin, n, patterns);
-        return;
-    }
-    if is_single(r) {
+        float_line(registers, origin, n, patterns)
+    } else if is_single(r) {
         let pattern = read4(registers, origin) as u32;
-        float_spread(pattern, n, patterns);
-        return;
+        float_spread(pattern, n, patterns)
+    } else {
+        float_lines(registers, r, n, patterns)
     }
-    float_lines(registers, r, n, patterns);
 }
 
 // ---- modifiers
 
 // The patterns of the n first channels under a modifier.
 fn sign_each(modifier: u64, n: usize, patterns: &mut [u32; 16])
-    requires { (n ≤ 16) × (length patterns.old ≡ 16) }
+    requires { n ≤ 16 }
     ensures { Mapped (λ k old new. (new ≡ sign_modified modifier old) × (old < 2 ^ 32 → new < 2 ^ 32)) n patterns.old patterns.new }
 {
-    let mut k = 0;
-    while k < n {
+    for k in 0..n {
         let pattern = patterns[k];
         patterns[k] = modify_pattern(modifier, pattern);
-        k += 1;
     }
 }
 
 // The same; where there is no modifier nothing is done.
 fn sign_all(modifier: u64, n: usize, patterns: &mut [u32; 16])
-    requires { (n ≤ 16) × (length patterns.old ≡ 16) }
+    requires { n ≤ 16 }
     ensures { Mapped (λ k old new. (new ≡ sign_modified modifier old) × (old < 2 ^ 32 → new < 2 ^ 32)) n patterns.old patterns.new }
 {
-    if modifier == 0 {
-        return;
+    if modifier != 0 {
+        sign_each(modifier, n, patterns);
     }
-    sign_each(modifier, n, patterns);
 }
 
 // ---- sources
 
 // Each channel's own of four restricted floats.
 fn float_vector(four: u32, n: usize, patterns: &mut [u32; 16])
-    requires { (n ≤ 16) × (length patterns.old ≡ 16) }
+    requires { n ≤ 16 }
     ensures { Mapped (λ k old new. (new ≡ vector_float four k) × (new < 2 ^ 32)) n patterns.old patterns.new }
 {
-    let mut k = 0;
-    while k < n {
+    for k in 0..n {
         patterns[k] = vector_pattern(four, k as u64);
-        k += 1;
     }
 }
 
-// What the channels of src0 read where it has floats, none of its elements being in a0.
-pub fn first_floats(w: Word, n: usize, registers: &[u8], patterns: &mut [u32; 16])
-    requires { FloatsIn src0 (to_word w) × (n ≡ channels (to_word w)) × (length registers.now ≡ bytes_in (src_is_a0 src0 (to_word w))) × (length patterns.old ≡ 16) × (src_is_a0 src0 (to_word w) ≡ false) }
-    ensures { FloatsRead (to_word w) registers.now src0 n patterns.old patterns.new }
+// What the channels of a source read where it has floats, none of its elements being in a0. Which source it is is known when this is compiled, so that its fields are taken from known bits.
+pub fn floats_of<const SECOND: bool>(w: Word, n: usize, registers: &[u8], patterns: &mut [u32; 16])
+    requires { FloatsIn (source_of SECOND) (to_word w) × (n ≡ channels (to_word w)) × (length registers.now ≡ bytes_in (src_is_a0 (source_of SECOND) (to_word w))) × (src_is_a0 (source_of SECOND) (to_word w) ≡ false) }
+    ensures { FloatsRead (to_word w) registers.now (source_of SECOND) n patterns.old patterns.new }
 {
-    let o = operand_of(true, false, Source::First, w);
-    match o {
-        Operand::Fixed(pattern) => {
-            float_spread(pattern as u32, n, patterns);
-        }
-        Operand::Vector(four) => {
-            float_vector(four as u32, n, patterns);
-        }
+    let x = source_of::<SECOND>();
+    match operand_of(true, false, x, w) {
+        Operand::Fixed(pattern) => float_spread(pattern as u32, n, patterns),
+        Operand::Vector(four) => float_vector(four as u32, n, patterns),
         Operand::Direct(r) => {
             float_gather(r.origin, r.vert, r.code, r.horz, n, registers, patterns);
-            sign_all(src_modifier(Source::First, w), n, patterns);
-        }
-    }
-}
-
-// What the channels of src1 read so. It is said apart from src0, so that the fields of each are taken from known bits.
-pub fn second_floats(w: Word, n: usize, registers: &[u8], patterns: &mut [u32; 16])
-    requires { FloatsIn src1 (to_word w) × (n ≡ channels (to_word w)) × (length registers.now ≡ bytes_in (src_is_a0 src1 (to_word w))) × (length patterns.old ≡ 16) × (src_is_a0 src1 (to_word w) ≡ false) }
-    ensures { FloatsRead (to_word w) registers.now src1 n patterns.old patterns.new }
-{
-    let o = operand_of(true, false, Source::Second, w);
-    match o {
-        Operand::Fixed(pattern) => {
-            float_spread(pattern as u32, n, patterns);
-        }
-        Operand::Vector(four) => {
-            float_vector(four as u32, n, patterns);
-        }
-        Operand::Direct(r) => {
-            float_gather(r.origin, r.vert, r.code, r.horz, n, registers, patterns);
-            sign_all(src_modifier(Source::Second, w), n, patterns);
+            sign_all(src_modifier(x, w), n, patterns);
         }
     }
 }

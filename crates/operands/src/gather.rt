@@ -18,20 +18,14 @@ pub(crate) fn is_beside(r: Region) -> bool
     requires { Small r }
     ensures { result ≡ true → (r.horz ≡ 1) × (r.vert ≡ 2 ^ r.code) }
 {
-    if r.horz == 1 {
-        return r.vert == 1 << r.code;
-    }
-    false
+    r.horz == 1 && r.vert == 1 << r.code
 }
 
 // All channels read one element: both strides are 0.
 pub(crate) fn is_single(r: Region) -> bool
     ensures { result ≡ true → (r.horz ≡ 0) × (r.vert ≡ 0) }
 {
-    if r.horz == 0 {
-        return r.vert == 0;
-    }
-    false
+    r.horz == 0 && r.vert == 0
 }
 
 // The elements of the n first channels, as numbers. The region is handed over number by number, since a struct would go through memory.
@@ -46,25 +40,23 @@ pub(crate) fn gather(
     registers: &[u8],
     values: &mut [u64; 16],
 )
-    requires small { Small (region_from origin vert code horz size) × (size ≡ size_of kind) × (0 < n) × (n ≤ 16) × (length values.old ≡ 16) × IsWhole kind }
+    requires small { Small (region_from origin vert code horz size) × (size ≡ size_of kind) × (0 < n) × (n ≤ 16) × IsWhole kind }
     requires by_index { (k : ℕ) → k < n → element_at (region_is (region_from origin vert code horz size)) k + size ≤ length registers.now }
     ensures { ElementsRead registers.now (element_at (region_is (region_from origin vert code horz size))) kind size n values.old values.new }
 {
     let r = Region {
-        origin: origin,
-        vert: vert,
-        code: code,
-        horz: horz,
-        size: size,
+        origin,
+        vert,
+        code,
+        horz,
+        size,
     };
     if is_beside(r) {
-        beside(registers, origin, kind, size, n, values);
-        return;
-    }
-    if is_single(r) {
+        beside(registers, origin, kind, size, n, values)
+    } else if is_single(r) {
         let number = read_as(registers, origin, kind, size);
-        spread(number, n, values);
-        return;
+        spread(number, n, values)
+    } else {
+        rows(registers, r, kind, n, values)
     }
-    rows(registers, r, kind, n, values);
 }

@@ -9,5 +9,6 @@ pub mod modify;
 pub mod one;
 pub mod read;
 pub mod rows;
+mod source;
 pub mod sources;
 pub mod spread;

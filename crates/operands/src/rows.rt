@@ -18,31 +18,25 @@ pub(crate) fn lines(
     n: usize,
     values: &mut [u64; 16],
 )
-    requires small { Small r × (r.size ≡ size) × (size ≡ size_of kind) × (n ≤ 16) × (length values.old ≡ 16) × IsWhole kind }
+    requires small { Small r × (r.size ≡ size) × (size ≡ size_of kind) × (n ≤ 16) × IsWhole kind }
     requires by_index { (k : ℕ) → k < n → element_at (region_is r) k + size ≤ length registers.now }
     ensures { ElementsRead registers.now (element_at (region_is r)) kind size n values.old values.new }
 {
-    let mut k = 0;
-    while k < n {
+    for k in 0..n {
         let from = element_at(r, k);
         values[k] = read_as(registers, from, kind, size);
-        k += 1;
     }
 }
 
 // The same, with a loop of its own for each size.
 pub(crate) fn rows(registers: &[u8], r: Region, kind: u64, n: usize, values: &mut [u64; 16])
-    requires small { Small r × (r.size ≡ size_of kind) × (n ≤ 16) × (length values.old ≡ 16) × IsWhole kind }
+    requires small { Small r × (r.size ≡ size_of kind) × (n ≤ 16) × IsWhole kind }
     requires by_index { (k : ℕ) → k < n → element_at (region_is r) k + r.size ≤ length registers.now }
     ensures { ElementsRead registers.now (element_at (region_is r)) kind r.size n values.old values.new }
 {
-    if r.size == 4 {
-        lines(registers, r, kind, 4, n, values);
-        return;
+    match r.size {
+        4 => lines(registers, r, kind, 4, n, values),
+        2 => lines(registers, r, kind, 2, n, values),
+        _ => lines(registers, r, kind, 1, n, values),
     }
-    if r.size == 2 {
-        lines(registers, r, kind, 2, n, values);
-        return;
-    }
-    lines(registers, r, kind, 1, n, values);
 }

@@ -17,8 +17,8 @@ use crate::form::{SHORTS, places_taken};
 use distances::branch::{Distances, distances_in};
 use distances::distance::{Distance, aim, reach};
 use kernel::fetch::word_at;
-use words::bytes::{Word, write8, write16};
-use words::limits::PLACES;
+use words::bytes::{Word, write, write16};
+use words::limits::{DICTIONARY_BYTES, PLACES};
 
 // Stores a word in its form from byte `from` on.
 fn write_word(short: u64, w: Word, out: &mut [u8], from: usize)
@@ -29,7 +29,7 @@ fn write_word(short: u64, w: Word, out: &mut [u8], from: usize)
     if short == 0 {
         write16(out, from, w);
     } else {
-        write8(out, from, short);
+        write::<8>(out, from, short);
     }
 }
 
@@ -62,7 +62,7 @@ pub fn rewrite(places: &[u16; PLACES], w: Word, here: u64, size: u64, to: u64, n
 // The kernel's instructions, in the forms that were kept, as the output's first bytes.
 pub(crate) fn write_all(
     packs: bool,
-    dictionary: &[u8],
+    dictionary: &[u8; DICTIONARY_BYTES],
     kernel: &[u8],
     shorts: &[u64; SHORTS],
     places: &[u16; PLACES],

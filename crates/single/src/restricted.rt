@@ -9,8 +9,7 @@ use crate::entries::PATTERNS;
 pub fn restricted_pattern(b: u8) -> u32
     ensures { result ≡ restricted_float b }
 {
-    let at = b as usize;
-    PATTERNS[at]
+    PATTERNS[usize::from(b)]
 }
 
 // The byte that a channel reads of an immediate's four; there is none past the fourth.

@@ -7,5 +7,5 @@ pub returns-then-v-lt-BASE : goal.returns-then-v-lt-BASE
 returns-then-v-lt-BASE c =
     (c.negated.ensures.0 ∙ ex_abs_low c.args.v c.if-v-lt-BASE.true, c.negated.ensures.1)
 
-pub returns : goal.returns
-returns c = (ex_abs_high c.args.v c.if-v-lt-BASE.false, λ k near. near)
+pub returns-else-v-lt-BASE : goal.returns-else-v-lt-BASE
+returns-else-v-lt-BASE c = (ex_abs_high c.args.v c.if-v-lt-BASE.false, λ k near. near)

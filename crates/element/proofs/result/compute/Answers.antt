@@ -1,5 +1,6 @@
 -- The arms of the match are the clauses of `result`, and each function meets its clause. Assumes nothing.
 use mathlib.Core.Path.{ap, ◌∙◌}
+use mathlib.Core.Logic.{⊎_elim}
 use Rattle.paper.specs.Element.{result, one_if}
 use Rattle.words.specs.Operations.{plain_is}
 use Rattle.element.specs.Biased.{ex}
@@ -12,12 +13,6 @@ multiply-requires c = c.requires.factors (ap plain_is c.in-Mul.is)
 pub returns-in-Mov : goal.returns-in-Mov
 unfolding result
 returns-in-Mov c = rw c.in-Mov.is
-
-pub returns-in-Sel : goal.returns-in-Sel
-unfolding result
-returns-in-Sel c =
-    let x = c.args in
-    rw c.in-Sel.is (ap ex c.select.ensures ∙ ex-cond x.holds x.a x.b)
 
 pub returns-in-Not : goal.returns-in-Not
 unfolding result
@@ -35,17 +30,9 @@ pub returns-in-Xor : goal.returns-in-Xor
 unfolding result
 returns-in-Xor c = rw c.in-Xor.is c.logic_xor.ensures
 
-pub returns-in-Shr : goal.returns-in-Shr
-unfolding result
-returns-in-Shr c = rw c.in-Shr.is c.shift_right.ensures
-
 pub returns-in-Shl : goal.returns-in-Shl
 unfolding result
 returns-in-Shl c = rw c.in-Shl.is c.shift_left.ensures
-
-pub returns-in-Asr : goal.returns-in-Asr
-unfolding result
-returns-in-Asr c = rw c.in-Asr.is c.shift_right-in-Asr.ensures
 
 pub returns-in-Cmp : goal.returns-in-Cmp
 unfolding result
@@ -63,3 +50,15 @@ returns-in-Mul c = rw c.in-Mul.is c.multiply.ensures
 pub returns-in-Avg : goal.returns-in-Avg
 unfolding result
 returns-in-Avg c = rw c.in-Avg.is c.average.ensures
+
+pub returns-then-holds : goal.returns-then-holds
+unfolding result
+returns-then-holds c = rw (c.in-Sel.is, c.if-holds.true)
+
+pub returns-else-holds : goal.returns-else-holds
+unfolding result
+returns-else-holds c = rw (c.in-Sel.is, c.if-holds.false)
+
+pub returns-in-Shr : goal.returns-in-Shr
+unfolding result
+returns-in-Shr c = ⊎_elim (λ e. rw e c.shift_right.ensures) (λ e. rw e c.shift_right.ensures) c.in-Shr.is

@@ -4,14 +4,11 @@ use lib.ListN.{get_or}
 use Rattle.execute.specs.Results.{Kept, kept_stays}
 use Rattle.execute.proofs.clamp.clamp_all.Goals as goal
 
-pub returns-then-saturated : goal.returns-then-saturated
-returns-then-saturated c = rw c.if-saturated.true c.clamp_each.ensures
-
-pub returns : goal.returns
+pub returns-else-saturated : goal.returns-else-saturated
 unfolding Kept
-returns c =
+returns-else-saturated c =
     rw c.if-saturated.false (record {
-      sixteen = c.requires.1;
+      sixteen = c.told-values;
       done = λ k h. kept_stays c.args.kind (get_or c.args.values.now k 0);
       kept = λ k h. refl;
     })

@@ -1,11 +1,8 @@
--- The loop's invariant: the results of the channels passed are clamped. Its measure: the channels left. Assumes nothing.
+-- The loop's invariant: the results of the channels passed are clamped. Assumes nothing.
 use Prim.Native.Nat.{◌-◌, ◌≤◌}
 use mathlib.Core.Bool.{true}
 use Rattle.execute.specs.Results.{Kept}
 use Rattle.execute.proofs.clamp.clamp_each.Given as goal
 
 abbrev pub invariant-loop-k : goal.invariant-loop-k
-invariant-loop-k l = (l.k ≤ l.n) × Kept true l.kind l.k l.initial.values l.values
-
-abbrev pub decreases-loop-k : goal.decreases-loop-k
-decreases-loop-k l = l.n - l.k
+invariant-loop-k l = Kept true l.kind l.k l.initial.values l.values

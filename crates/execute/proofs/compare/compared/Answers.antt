@@ -6,13 +6,6 @@ use Rattle.execute.proofs.Executed.{flag_from_lem}
 use Rattle.execute.specs.Compared.{lowest_bits}
 use Rattle.execute.proofs.compare.compared.Goals as goal
 
-pub channels-n-requires : goal.channels-n-requires
-channels-n-requires c = c.requires.0
-
-pub flag_after-flag-requires : goal.flag_after-flag-requires
-flag_after-flag-requires c =
-    rw (c.channels-n.ensures.0, c.qtr_ctrl-quarter.ensures.0) (omega (arith, c.requires.1))
-
 pub returns : goal.returns
 returns c =
     λ results e.

@@ -1,4 +1,4 @@
--- The loop's invariant: the mask has the bits of the results passed. Its measure: the results left. Assumes nothing.
+-- The loop's invariant: the mask has the bits of the results passed. Assumes nothing.
 use Prim.Native.Nat.{ℕ, ◌+◌}
 use Rattle.execute.specs.Compared.{lowest_bits, lowest_more, lowest_less}
 use mathlib.Core.Path.{◌≡◌, refl}
@@ -8,20 +8,20 @@ use Rattle.execute.proofs.compare.lowest_bits.Goals as goal
 
 pub loop-k-init : goal.loop-k-init
 unfolding lowest_bits of_bits
-loop-k-init c = (omega arith, refl)
+loop-k-init c = refl
 
 pub overflow_add-mask : goal.overflow_add-mask
 overflow_add-mask c =
     let results = c.args.results.now in
     let k : ℕ = c.loop-k.k in
-    rw (c.loop-k.invariant.1, lowest_more results k (omega arith)) (omega (arith, lowest_less results (k + 1) (omega arith)))
+    rw (c.loop-k.invariant, lowest_more results k (omega arith)) (omega (arith, lowest_less results (k + 1) (omega arith)))
 
 pub loop-k-preserved : goal.loop-k-preserved
-loop-k-preserved c = (omega arith, rw c.loop-k.invariant.1 (lowest_more c.args.results.now c.loop-k.k (omega arith)))
+loop-k-preserved c = rw c.loop-k.invariant (lowest_more c.args.results.now c.loop-k.k (omega arith))
 
 pub returns : goal.returns
 returns c =
     let results = c.args.results.now in
     let e : c.loop-k.k ≡ c.args.n = omega arith in
-    let made = rw e at c.loop-k.invariant.1 in
+    let made = rw e at c.loop-k.invariant in
     (made, rw made (lowest_less results c.args.n (omega arith)))

@@ -1,11 +1,8 @@
--- The loop's invariant: the mask has the bits of the results passed. Its measure: the results left. Assumes nothing.
+-- The loop's invariant: the mask has the bits of the results passed. Assumes nothing.
 use Prim.Native.Nat.{◌-◌, ◌≤◌}
 use Rattle.execute.specs.Compared.{lowest_bits}
 use mathlib.Core.Path.{◌≡◌}
 use Rattle.execute.proofs.compare.lowest_bits.Given as goal
 
 abbrev pub invariant-loop-k : goal.invariant-loop-k
-invariant-loop-k l = (l.k ≤ l.n) × (l.mask ≡ lowest_bits l.results l.k)
-
-abbrev pub decreases-loop-k : goal.decreases-loop-k
-decreases-loop-k l = l.n - l.k
+invariant-loop-k l = l.mask ≡ lowest_bits l.results l.k

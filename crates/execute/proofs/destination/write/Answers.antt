@@ -13,16 +13,6 @@ pub returns-then-is_null : goal.returns-then-is_null
 unfolding written
 returns-then-is_null c = rw (← c.is_null.ensures, c.if-is_null.true)
 
-pub dst_region-r-requires : goal.dst_region-r-requires
-dst_region-r-requires c = sym c.requires.2
-
-pub scatter-requires : goal.scatter-requires
-scatter-requires c =
-    let w = to_word c.args.w in
-    let kept : is_null w ≡ false = rw (← c.is_null.ensures) c.if-is_null.false in
-    rw (c.channels.ensures.0, ap (λ (s' : Region). s'.origin) c.dst_region-r.ensures.0, ap (λ (s' : Region). s'.vert) c.dst_region-r.ensures.0, ap (λ (s' : Region). s'.size) c.dst_region-r.ensures.0)
-    record { size = (type_size (dst_type w) c.requires.0.type, count-channels w c.requires.0.count); by_index = λ k h. rw c.requires.1 (c.requires.0.inside kept k h) }
-
 pub returns : goal.returns
 unfolding written
 returns c =

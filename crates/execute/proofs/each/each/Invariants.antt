@@ -1,11 +1,8 @@
--- The loop's invariant: the results of the channels passed are made. Its measure: the channels left. Assumes nothing.
+-- The loop's invariant: the results of the channels passed are made. Assumes nothing.
 use Prim.Native.Nat.{◌-◌, ◌≤◌}
 use Rattle.words.specs.Operations.{plain_is}
 use Rattle.execute.specs.Results.{Combined}
 use Rattle.execute.proofs.each.each.Given as goal
 
 abbrev pub invariant-loop-k : goal.invariant-loop-k
-invariant-loop-k l = (l.k ≤ l.n) × Combined (plain_is l.p) l.condition l.predicate l.k l.initial.first l.second l.first
-
-abbrev pub decreases-loop-k : goal.decreases-loop-k
-decreases-loop-k l = l.n - l.k
+invariant-loop-k l = Combined (plain_is l.p) l.condition l.predicate l.k l.initial.first l.second l.first

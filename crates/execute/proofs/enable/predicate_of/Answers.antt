@@ -7,6 +7,3 @@ use Rattle.execute.proofs.enable.predicate_of.Goals as goal
 pub returns-then-pred_ctrl-eq0 : goal.returns-then-pred_ctrl-eq0
 unfolding predicate_mask predicate of_bits
 returns-then-pred_ctrl-eq0 c = rw (sym c.pred_ctrl.ensures.0 ∙ c.if-pred_ctrl-eq0.true)
-
-pub returns : goal.returns
-returns c = rw (c.predicate_mask.ensures.0, c.pred_inv.ensures.0, c.pred_ctrl-2.ensures.0, c.chosen.ensures)

@@ -18,6 +18,6 @@ unfolding flag_made
 returns-then-compares c =
     rw (← c.compares.ensures, c.if-compares.true) (c.compared.ensures _ (c.outcomes.ensures.0 ∙ ap (lowest_bits _) c.channels.ensures.0))
 
-pub returns : goal.returns
+pub returns-else-compares : goal.returns-else-compares
 unfolding flag_made
-returns c = rw (← c.compares.ensures, c.if-compares.false) (flags_kept (to_word c.args.w) c.args.flags)
+returns-else-compares c = rw (← c.compares.ensures, c.if-compares.false) (flags_kept (to_word c.args.w) c.args.flags)

@@ -12,24 +12,14 @@ use Rattle.execute.proofs.floats.float_results.Goals as goal
 pub channels-n-requires : goal.channels-n-requires
 channels-n-requires c = legal-count _ _ c.requires.0.acting
 
-pub first_floats-requires : goal.first_floats-requires
-first_floats-requires c =
+pub floats_of-requires : goal.floats_of-requires
+floats_of-requires c =
     let p = plain_is c.args.p in
     let w = to_word c.args.w in
     let direct = not_source p w (float_registers p w c.requires.0) src0 (first_source p) in
-    (legal-floats p w c.requires.0 src0 (first_source p), c.channels-n.ensures.0, c.requires.1 ∙ ap bytes_in (sym direct), c.requires.2, direct)
-
-pub float_second-requires : goal.float_second-requires
-float_second-requires c =
-    (c.requires.0, c.channels-n.ensures.0, c.requires.1, refl)
-
-pub reckon_all-requires : goal.reckon_all-requires
-reckon_all-requires c =
-    let w = to_word c.args.w in
-    let a = c.first_floats.ensures in
-    (c.channels-n.ensures.1, floats_sixteen w c.args.registers.now _ _ _ a)
+    (legal-floats p w c.requires.0 src0 (first_source p), c.channels-n.ensures.0, c.requires.1 ∙ ap bytes_in (sym direct), direct)
 
 pub returns : goal.returns
 returns c =
-    floats_made (plain_is c.args.p) (to_word c.args.w) c.requires.0 c.args.registers.now _ _ _ _ c.first_floats.ensures c.float_second.ensures _ _
+    floats_made (plain_is c.args.p) (to_word c.args.w) c.requires.0 c.args.registers.now _ _ _ _ c.floats_of.ensures c.float_second.ensures _ _
     c.channels-n.ensures.0 c.cond_modifier.ensures.0 c.reckon_all.ensures

@@ -9,16 +9,13 @@ use Rattle.execute.specs.Readable.{not_source, float_registers, legal-floats}
 use Rattle.execute.specs.Floats.{second_told, no_second}
 use Rattle.execute.proofs.floats.float_second.Goals as goal
 
-pub second_floats-requires : goal.second_floats-requires
-second_floats-requires c =
+pub floats_of-requires : goal.floats_of-requires
+floats_of-requires c =
     let p = plain_is c.args.p in
     let w = to_word c.args.w in
     let two = sym c.reads_two.ensures ∙ c.if-reads_two.true in
     let direct = not_source p w (float_registers p w c.requires.0) src1 (second_source p two) in
-    (legal-floats p w c.requires.0 src1 (second_source p two), c.requires.1, c.requires.2 ∙ ap bytes_in (sym direct), c.requires.3, direct)
+    (legal-floats p w c.requires.0 src1 (second_source p two), c.requires.1, c.requires.2 ∙ ap bytes_in (sym direct), direct)
 
 pub returns-then-reads_two : goal.returns-then-reads_two
-returns-then-reads_two c = second_told _ _ _ _ _ _ c.second_floats.ensures
-
-pub returns : goal.returns
-returns c = no_second _ _ _ _ c.args.patterns.now (sym c.reads_two.ensures ∙ c.if-reads_two.false)
+returns-then-reads_two c = second_told _ _ _ _ _ _ c.floats_of.ensures

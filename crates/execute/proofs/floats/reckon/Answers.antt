@@ -9,18 +9,12 @@ use Rattle.execute.specs.Readable.{legal_writable, not-destination, float_regist
 use Rattle.execute.proofs.Executed.{Made, direct_registers, direct_flags, direct_less, addresses_still}
 use Rattle.execute.proofs.floats.reckon.Goals as goal
 
-pub float_results-requires : goal.float_results-requires
-float_results-requires c = (c.requires.reckoning, c.requires.registers_len.0, refl)
-
 pub write_floats-requires : goal.write_floats-requires
 write_floats-requires c =
     let p = plain_is c.args.p in
     let w = to_word c.args.w in
     let direct = not-destination p w (float_registers p w c.requires.reckoning) in
     (legal_writable p w c.requires.reckoning.acting, c.requires.registers_len.0 ∙ ap bytes_in (sym direct), direct, float_destination p w c.requires.reckoning)
-
-pub float_flags-requires : goal.float_flags-requires
-float_flags-requires c = c.requires.reckoning.acting
 
 pub returns : goal.returns
 returns c =

@@ -12,14 +12,11 @@ use Rattle.execute.proofs.many.execute_many.Goals as goal
 
 pub results-requires : goal.results-requires
 results-requires c =
-    (c.requires.counting.0, (c.requires.registers_len.0 ∙ ap bytes_in (sym (not_source (plain_is c.args.p) (to_word c.args.w) c.requires.counting.1 src0 (first_source (plain_is c.args.p))))), refl, c.requires.counting.1)
+    (c.requires.counting.0, (c.requires.registers_len.0 ∙ ap bytes_in (sym (not_source (plain_is c.args.p) (to_word c.args.w) c.requires.counting.1 src0 (first_source (plain_is c.args.p))))), c.requires.counting.1)
 
 pub write-requires : goal.write-requires
 write-requires c =
     (legal_writable (plain_is c.args.p) (to_word c.args.w) c.requires.counting.0.acting, (c.requires.registers_len.0 ∙ ap bytes_in (sym (not-destination (plain_is c.args.p) (to_word c.args.w) c.requires.counting.1))), not-destination (plain_is c.args.p) (to_word c.args.w) c.requires.counting.1)
-
-pub flags_after-requires : goal.flags_after-requires
-flags_after-requires c = c.requires.counting.0.acting
 
 pub returns : goal.returns
 returns c =

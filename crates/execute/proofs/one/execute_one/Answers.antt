@@ -19,10 +19,6 @@ pub store-requires : goal.store-requires
 store-requires c =
     (legal_writable (plain_is c.args.p) (to_word c.args.w) c.requires.counting.0.acting, (c.requires.registers_len.0 ∙ ap bytes_in (sym (not-destination (plain_is c.args.p) (to_word c.args.w) c.requires.counting.1))), c.requires.counting.2, not-destination (plain_is c.args.p) (to_word c.args.w) c.requires.counting.1)
 
-pub flags_of_one-requires : goal.flags_of_one-requires
-flags_of_one-requires c =
-    (c.requires.counting.0.acting, c.requires.counting.2)
-
 pub returns : goal.returns
 returns c =
     let p = plain_is c.args.p in

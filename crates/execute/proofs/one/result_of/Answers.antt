@@ -12,14 +12,14 @@ use Rattle.execute.specs.Results.{read_operands, kept_stays, kept_clamped}
 use Rattle.execute.specs.Single.{made_alone}
 use Rattle.execute.proofs.one.result_of.Goals as goal
 
-pub first_number-a-requires : goal.first_number-a-requires
-first_number-a-requires c =
+pub number_of-a-requires : goal.number_of-a-requires
+number_of-a-requires c =
     let p = plain_is c.args.p in
     (legal_readable p (to_word c.args.w) c.requires.0 src0 (first_source p), c.requires.1, not_source p (to_word c.args.w) c.requires.3 src0 (first_source p))
 
 pub compute-v-requires : goal.compute-v-requires
 compute-v-requires c =
-    read_operands c.args.p (to_word c.args.w) c.args.registers.now _ _ _ _ c.first_number-a.ensures c.second_of-b.ensures c.requires.0 0 (lit< tt)
+    read_operands c.args.p (to_word c.args.w) c.args.registers.now _ _ _ _ c.number_of-a.ensures c.second_of-b.ensures c.requires.0 0 (lit< tt)
 
 pub clamp-requires : goal.clamp-requires
 clamp-requires c = rw c.dst_type.ensures.0 (legal-whole _ _ c.requires.0)
@@ -27,12 +27,12 @@ clamp-requires c = rw c.dst_type.ensures.0 (legal-whole _ _ c.requires.0)
 pub returns-then-saturate-eq1 : goal.returns-then-saturate-eq1
 returns-then-saturate-eq1 c =
     let on = sym (eq-eqb _ _ (sym c.saturate.ensures.0 ∙ c.if-saturate-eq1.true)) in
-    made_alone c.args.p (to_word c.args.w) c.args.registers.now _ _ c.first_number-a.ensures c.second_of-b.ensures c.requires.0 c.requires.2 c.args.predicate _ _ true _ _
+    made_alone c.args.p (to_word c.args.w) c.args.registers.now _ _ c.number_of-a.ensures c.second_of-b.ensures c.requires.0 c.requires.2 c.args.predicate _ _ true _ _
     c.cond_modifier.ensures.0 c.dst_type.ensures.0 on (rw (← c.bit.ensures) c.compute-v.ensures) (kept_clamped _ _ _ c.clamp.ensures)
 
-pub returns : goal.returns
-returns c =
+pub returns-else-saturate-eq1 : goal.returns-else-saturate-eq1
+returns-else-saturate-eq1 c =
     let w = to_word c.args.w in
     let off = sym (ne_eqb _ _ (λ e. c.if-saturate-eq1.false (c.saturate.ensures.0 ∙ e))) in
-    made_alone c.args.p w c.args.registers.now _ _ c.first_number-a.ensures c.second_of-b.ensures c.requires.0 c.requires.2 c.args.predicate _ (dst_type w) false _ _
+    made_alone c.args.p w c.args.registers.now _ _ c.number_of-a.ensures c.second_of-b.ensures c.requires.0 c.requires.2 c.args.predicate _ (dst_type w) false _ _
     c.cond_modifier.ensures.0 refl off (rw (← c.bit.ensures) c.compute-v.ensures) (kept_stays (dst_type w) _)

@@ -10,14 +10,11 @@ use Rattle.execute.specs.Results.{second_read, second_none}
 use Rattle.execute.specs.Single.{zero_near}
 use Rattle.execute.proofs.one.second_of.Goals as goal
 
-pub second_number-requires : goal.second_number-requires
-second_number-requires c =
+pub number_of-requires : goal.number_of-requires
+number_of-requires c =
     let p = plain_is c.args.p in
     let two = sym c.reads_two.ensures ∙ c.if-reads_two.true in
     (legal_readable p (to_word c.args.w) c.requires.0 src1 (second_source p two), c.requires.1 ∙ ap bytes_in (sym (one_file p (to_word c.args.w) c.requires.0.acting two)), not_source p (to_word c.args.w) c.requires.2 src1 (second_source p two))
 
 pub returns-then-reads_two : goal.returns-then-reads_two
-returns-then-reads_two c = second_read _ _ _ _ _ _ (sym c.reads_two.ensures ∙ c.if-reads_two.true) c.second_number.ensures
-
-pub returns : goal.returns
-returns c = second_none _ _ _ _ _ (sym c.reads_two.ensures ∙ c.if-reads_two.false) (zero_near _ refl)
+returns-then-reads_two c = second_read _ _ _ _ _ _ (sym c.reads_two.ensures ∙ c.if-reads_two.true) c.number_of.ensures

@@ -14,16 +14,6 @@ pub returns-then-is_null : goal.returns-then-is_null
 unfolding written
 returns-then-is_null c = rw (← c.is_null.ensures, c.if-is_null.true)
 
-pub dst_region-r-requires : goal.dst_region-r-requires
-dst_region-r-requires c = sym c.requires.3
-
-pub store_channel-requires : goal.store_channel-requires
-store_channel-requires c =
-    let w = to_word c.args.w in
-    let kept : is_null w ≡ false = rw (← c.is_null.ensures) c.if-is_null.false in
-    let is = c.dst_region-r.ensures.0 in
-    (rw (ap (λ (s' : Region). s'.size) is) (type_size (dst_type w) c.requires.0.type), omega arith, store_inside w c.requires.2 _ is kept c.requires.0 _ c.requires.1)
-
 pub returns : goal.returns
 returns c =
     let w = to_word c.args.w in

@@ -13,28 +13,24 @@ use Rattle.execute.proofs.results.results.Goals as goal
 pub channels-n-requires : goal.channels-n-requires
 channels-n-requires c = legal-count _ _ c.requires.0.acting
 
-pub first_operand-requires : goal.first_operand-requires
-first_operand-requires c =
+pub numbers_of-requires : goal.numbers_of-requires
+numbers_of-requires c =
     let p = plain_is c.args.p in
-    (legal_readable p (to_word c.args.w) c.requires.0 src0 (first_source p), c.channels-n.ensures.0, c.requires.1, c.requires.2, not_source p (to_word c.args.w) c.requires.3 src0 (first_source p))
-
-pub second-requires : goal.second-requires
-second-requires c =
-    record { counting = (c.requires.0, c.channels-n.ensures.0, c.requires.1, refl, c.requires.3); by_index = zeros-near _ _ refl c.channels-n.ensures.1 }
+    (legal_readable p (to_word c.args.w) c.requires.0 src0 (first_source p), c.channels-n.ensures.0, c.requires.1, not_source p (to_word c.args.w) c.requires.2 src0 (first_source p))
 
 pub combine-requires : goal.combine-requires
 combine-requires c =
     let w = to_word c.args.w in
-    let a = c.first_operand.ensures in
-    (c.channels-n.ensures.1, read_sixteen w c.args.registers.now _ _ _ a, read_operands c.args.p w c.args.registers.now _ _ _ _ a c.second.ensures c.requires.0)
+    let a = c.numbers_of.ensures in
+    (c.channels-n.ensures.1, read_operands c.args.p w c.args.registers.now _ _ _ _ a c.second.ensures c.requires.0)
 
 pub clamp_all-requires : goal.clamp_all-requires
 clamp_all-requires c =
-    (c.channels-n.ensures.1, combined_sixteen _ _ _ _ _ _ _ c.combine.ensures, rw c.dst_type.ensures.0 (legal-whole _ _ c.requires.0))
+    (c.channels-n.ensures.1, rw c.dst_type.ensures.0 (legal-whole _ _ c.requires.0))
 
 pub returns : goal.returns
 returns c =
     let w = to_word c.args.w in
-    results_made c.args.p w c.args.registers.now _ _ _ _ c.first_operand.ensures c.second.ensures c.requires.0 _ _ _ _ _ _
+    results_made c.args.p w c.args.registers.now _ _ _ _ c.numbers_of.ensures c.second.ensures c.requires.0 _ _ _ _ _ _
     c.channels-n.ensures.0 c.cond_modifier.ensures.0 c.dst_type.ensures.0 (ap (λ (x : ℕ). eqb x 1) c.saturate.ensures.0)
     c.combine.ensures c.clamp_all.ensures

@@ -17,11 +17,11 @@ channels-n-requires c = legal-count _ _ c.requires.0.acting
 pub operand_by_element-requires : goal.operand_by_element-requires
 operand_by_element-requires c =
     let a0 = sym c.src_is_a0.ensures ∙ c.if-src_is_a0.true in
-    (legal_readable mov (to_word c.args.w) c.requires.0 src0 (first_source mov), c.channels-n.ensures.0, c.requires.2 ∙ ap bytes_in (sym a0), c.requires.3)
+    (legal_readable mov (to_word c.args.w) c.requires.0 src0 (first_source mov), c.channels-n.ensures.0, c.requires.2 ∙ ap bytes_in (sym a0))
 
 pub clamp_all-requires : goal.clamp_all-requires
 clamp_all-requires c =
-    (c.channels-n.ensures.1, read_sixteen (to_word c.args.w) c.args.addresses.now _ _ _ c.operand_by_element.ensures, rw c.dst_type.ensures.0 (legal-whole _ _ c.requires.0))
+    (c.channels-n.ensures.1, rw c.dst_type.ensures.0 (legal-whole _ _ c.requires.0))
 
 pub returns-then-src_is_a0 : goal.returns-then-src_is_a0
 returns-then-src_is_a0 c =
@@ -29,17 +29,17 @@ returns-then-src_is_a0 c =
     rw a0 (moved_made (to_word c.args.w) c.requires.0 c.args.addresses.now _ _ _ _ c.operand_by_element.ensures c.channels-n.ensures.0 c.channels-n.ensures.1 _ _
     c.dst_type.ensures.0 (ap (λ (x : ℕ). eqb x 1) c.saturate.ensures.0) c.clamp_all.ensures)
 
-pub operand_by_element-requires-2 : goal.operand_by_element-requires-2
-operand_by_element-requires-2 c =
+pub operand_by_element-requires-else-src_is_a0 : goal.operand_by_element-requires-else-src_is_a0
+operand_by_element-requires-else-src_is_a0 c =
     let a0 = sym c.src_is_a0.ensures ∙ c.if-src_is_a0.false in
-    (legal_readable mov (to_word c.args.w) c.requires.0 src0 (first_source mov), c.channels-n.ensures.0, c.requires.1 ∙ ap bytes_in (sym a0), c.requires.3)
+    (legal_readable mov (to_word c.args.w) c.requires.0 src0 (first_source mov), c.channels-n.ensures.0, c.requires.1 ∙ ap bytes_in (sym a0))
 
-pub clamp_all-requires-2 : goal.clamp_all-requires-2
-clamp_all-requires-2 c =
-    (c.channels-n.ensures.1, read_sixteen (to_word c.args.w) c.args.registers.now _ _ _ c.operand_by_element-2.ensures, rw c.dst_type-2.ensures.0 (legal-whole _ _ c.requires.0))
+pub clamp_all-requires-else-src_is_a0 : goal.clamp_all-requires-else-src_is_a0
+clamp_all-requires-else-src_is_a0 c =
+    (c.channels-n.ensures.1, rw c.dst_type-else-src_is_a0.ensures.0 (legal-whole _ _ c.requires.0))
 
-pub returns : goal.returns
-returns c =
+pub returns-else-src_is_a0 : goal.returns-else-src_is_a0
+returns-else-src_is_a0 c =
     let a0 = sym c.src_is_a0.ensures ∙ c.if-src_is_a0.false in
-    rw a0 (moved_made (to_word c.args.w) c.requires.0 c.args.registers.now _ _ _ _ c.operand_by_element-2.ensures c.channels-n.ensures.0 c.channels-n.ensures.1 _ _
-    c.dst_type-2.ensures.0 (ap (λ (x : ℕ). eqb x 1) c.saturate-2.ensures.0) c.clamp_all-2.ensures)
+    rw a0 (moved_made (to_word c.args.w) c.requires.0 c.args.registers.now _ _ _ _ c.operand_by_element-else-src_is_a0.ensures c.channels-n.ensures.0 c.channels-n.ensures.1 _ _
+    c.dst_type-else-src_is_a0.ensures.0 (ap (λ (x : ℕ). eqb x 1) c.saturate-else-src_is_a0.ensures.0) c.clamp_all-else-src_is_a0.ensures)

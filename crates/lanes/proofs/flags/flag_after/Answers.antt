@@ -4,14 +4,10 @@ use Prim.Native.Nat.{◌-◌, ◌*◌, ◌%◌, ◌^◌}
 use native.Mathlib.Omega.{arith}
 use native.Mathlib.Nat.{mod-eq_of_lt}
 use lib.Bits.{and_le_r}
-use lib.Pow.{pow_pos}
 use Rattle.paper.specs.Bits.{bit}
 use Rattle.lanes.specs.FlagLaws.{field, field_less, enabled_field, merged, merged_is, flag_less}
 use Rattle.lanes.proofs.Laws.{one_shl}
 use Rattle.lanes.proofs.flags.flag_after.Goals as goal
-
-pub overflow_sub-field : goal.overflow_sub-field
-overflow_sub-field c = rw (one_shl c.args.n (omega arith)) (omega (arith, pow_pos c.args.n))
 
 made : (c : goal.Start) → (((1 * 2 ^ c.args.n) % 2 ^ 64 - 1) * 2 ^ c.args.first) % 2 ^ 64 ≡ field c.args.first c.args.n
 unfolding field

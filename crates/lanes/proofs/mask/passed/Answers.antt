@@ -9,6 +9,6 @@ pub returns-then-masks : goal.returns-then-masks
 unfolding passed_mask
 returns-then-masks c = rw c.if-masks.true (sym (of_bits-mod c.args.predicate 16))
 
-pub returns : goal.returns
+pub returns-else-masks : goal.returns-else-masks
 unfolding passed_mask of_bits
-returns c = rw c.if-masks.false
+returns-else-masks c = rw c.if-masks.false

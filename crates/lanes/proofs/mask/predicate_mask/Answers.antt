@@ -19,8 +19,8 @@ returns-then-inversion-eq1 c =
     rw c.vote_mask-votes.ensures.0
     (vote_turned a.control a.flag a.inversion control (eq-eqb a.inversion 1 c.if-inversion-eq1.true), omega arith)
 
-pub returns : goal.returns
-returns c =
+pub returns-else-inversion-eq1 : goal.returns-else-inversion-eq1
+returns-else-inversion-eq1 c =
     let a = c.args in
     let control = ne_eqb a.control 0 c.if-control-eq0.false in
     let v = c.vote_mask-votes.ensures in

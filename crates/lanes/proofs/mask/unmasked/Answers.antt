@@ -10,6 +10,6 @@ pub returns-then-force-eq1 : goal.returns-then-force-eq1
 unfolding unmasked_mask of_bits
 returns-then-force-eq1 c = rw c.if-force-eq1.true
 
-pub returns : goal.returns
+pub returns-else-force-eq1 : goal.returns-else-force-eq1
 unfolding unmasked_mask
-returns c = simp (ne_eqb _ _ c.if-force-eq1.false) (sym (of_bits-mod c.args.awake 16))
+returns-else-force-eq1 c = simp (ne_eqb _ _ c.if-force-eq1.false) (sym (of_bits-mod c.args.awake 16))

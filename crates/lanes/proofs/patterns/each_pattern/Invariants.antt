@@ -1,16 +1,11 @@
--- The loop's invariant: the patterns of the channels passed are scattered, and the length is kept.
--- Its measure: the channels left. Assumes nothing.
+-- The loop's invariant: the patterns of the channels passed are scattered. Assumes nothing.
 use mathlib.Core.Path.{◌≡◌}
-use Prim.Native.Nat.{◌+◌, ◌-◌, ◌*◌, ◌≤◌}
-use lib.ListN.{length, get_or}
+use Prim.Native.Nat.{◌+◌, ◌*◌}
+use lib.ListN.{get_or}
 use Rattle.paper.specs.Bits.{bit}
 use Rattle.paper.specs.Effect.{scattered}
 use Rattle.lanes.proofs.patterns.each_pattern.Given as goal
 
 abbrev pub invariant-loop-k : goal.invariant-loop-k
 invariant-loop-k l =
-    (l.k ≤ l.n) × (length l.registers ≡ length l.initial.registers)
-    × (l.registers ≡ scattered l.initial.registers (λ k'. l.origin + k' * l.stride * 4) 4 (bit l.enable) (λ k'. get_or l.patterns k' 0) l.k)
-
-abbrev pub decreases-loop-k : goal.decreases-loop-k
-decreases-loop-k l = l.n - l.k
+    l.registers ≡ scattered l.initial.registers (λ k'. l.origin + k' * l.stride * 4) 4 (bit l.enable) (λ k'. get_or l.patterns k' 0) l.k

@@ -1,19 +1,12 @@
 -- A mask that enables all channels has the bits of one that has every bit. Assumes nothing.
-use mathlib.Core.Path.{refl, sym, ◌∙◌, subst}
-use Prim.Native.Nat.{ℕ, ◌+◌, ◌*◌, ◌≤◌}
+use mathlib.Core.Path.{refl, sym, ◌∙◌}
 use native.Mathlib.Omega.{arith}
-use lib.ListN.{length}
 use Rattle.laws.specs.Scatter.{scattered_same}
 use Rattle.lanes.specs.BitLaws.{bit-ones}
 use Rattle.lanes.proofs.patterns.scatter_patterns.Goals as goal
-
-pub all_patterns-requires : goal.all_patterns-requires
-all_patterns-requires c =
-    let plain = c.is_whole.ensures c.if-is_whole.true in
-    record { n_bound = c.requires.n_bound; by_index = λ k h. subst (λ (z : ℕ). c.args.origin + k * z * 4 + 4 ≤ length c.args.registers.now) plain.0 (c.requires.by_index k h) }
 
 pub returns-then-is_whole : goal.returns-then-is_whole
 returns-then-is_whole c =
     let plain = c.is_whole.ensures c.if-is_whole.true in
     rw plain.0 (c.all_patterns.ensures
-    ∙ scattered_same _ _ _ _ _ _ _ _ (λ k h. bit-ones 64 k (omega (arith, c.requires.n_bound.0)) ∙ sym (plain.1 k h)) (λ k h. refl))
+    ∙ scattered_same _ _ _ _ _ _ _ _ (λ k h. bit-ones 64 k (omega (arith, c.requires.n_bound)) ∙ sym (plain.1 k h)) (λ k h. refl))

@@ -3,19 +3,12 @@ use mathlib.Core.Path.{◌≡◌, sym, ap, ◌∙◌}
 use Prim.Native.Nat.{ℕ, ◌+◌, ◌-◌, ◌%◌, ◌^◌}
 use native.Mathlib.Omega.{arith}
 use lib.Dec.{eqb}
-use lib.Pow.{pow_pos}
 use borrow.Author.Tests.{eqb-true}
 use Rattle.paper.specs.Bits.{bit, bits}
 use Rattle.laws.specs.Bits.{bits_below}
 use Rattle.lanes.specs.BitLaws.{bit-ones}
 use Rattle.lanes.proofs.Laws.{one_shl}
 use Rattle.lanes.proofs.scatter.all_on.Goals as goal
-
-pub nonzero_rem-result : goal.nonzero_rem-result
-nonzero_rem-result c = rw (one_shl c.args.n (omega arith)) (pow_pos c.args.n)
-
-pub overflow_sub-result : goal.overflow_sub-result
-overflow_sub-result c = rw (one_shl c.args.n (omega arith)) (omega (arith, pow_pos c.args.n))
 
 pub returns : goal.returns
 returns c =

@@ -1,16 +1,9 @@
 -- A mask that enables all channels has the bits of one that has every bit. Assumes nothing.
-use mathlib.Core.Path.{refl, sym, ◌∙◌, subst}
-use Prim.Native.Nat.{ℕ, ◌+◌, ◌*◌, ◌≤◌}
+use mathlib.Core.Path.{refl, sym, ◌∙◌}
 use native.Mathlib.Omega.{arith}
-use lib.ListN.{length}
 use Rattle.laws.specs.Scatter.{scattered_same}
 use Rattle.lanes.specs.BitLaws.{bit-ones}
 use Rattle.lanes.proofs.scatter.scatter.Goals as goal
-
-pub lay_sized-requires : goal.lay_sized-requires
-lay_sized-requires c =
-    let plain = c.is_whole.ensures c.if-is_whole.true in
-    record { size = c.requires.size; by_index = λ k h. subst (λ (z : ℕ). c.args.origin + k * z * c.args.size + c.args.size ≤ length c.args.registers.now) plain.0 (c.requires.by_index k h) }
 
 pub returns-then-is_whole : goal.returns-then-is_whole
 returns-then-is_whole c =

@@ -16,8 +16,8 @@ returns-then-control-eq0 c =
     let a = c.args in
     (c.any_mask.ensures.0 ∙ vote_any a.control a.flag (eq-eqb (a.control % 2) 0 c.if-control-eq0.true), c.any_mask.ensures.1)
 
-pub returns : goal.returns
-returns c =
+pub returns-else-control-eq0 : goal.returns-else-control-eq0
+returns-else-control-eq0 c =
     let a = c.args in
-    rw c.any_mask-2.ensures.0
+    rw c.any_mask-else-control-eq0.ensures.0
     (vote_all a.control a.flag (ne_eqb (a.control % 2) 0 c.if-control-eq0.false), omega arith)

@@ -1,11 +1,8 @@
--- The loop's invariant: the elements of the channels passed are read. Its measure: the channels left. Assumes nothing.
+-- The loop's invariant: the elements of the channels passed are read. Assumes nothing.
 use Prim.Native.Nat.{◌-◌, ◌≤◌}
 use Prim.Native.Nat.{◌+◌, ◌*◌}
 use Rattle.operands.specs.Reads.{ElementsRead}
 use Rattle.operands.proofs.beside.line.Given as goal
 
 abbrev pub invariant-loop-k : goal.invariant-loop-k
-invariant-loop-k l = (l.k ≤ l.n) × ElementsRead l.registers (λ k'. l.from + k' * l.size) l.kind l.size l.k l.initial.values l.values
-
-abbrev pub decreases-loop-k : goal.decreases-loop-k
-decreases-loop-k l = l.n - l.k
+invariant-loop-k l = ElementsRead l.registers (λ k'. l.from + k' * l.size) l.kind l.size l.k l.initial.values l.values

@@ -1,4 +1,4 @@
--- The loop's invariant: the channels passed have what their patterns mean. Its measure: the channels left. Assumes nothing.
+-- The loop's invariant: the channels passed have what their patterns mean. Assumes nothing.
 use Prim.Native.Nat.{◌-◌, ◌≤◌}
 use lib.ListN.{get_or}
 use Rattle.lanes.specs.Mapped.{Mapped}
@@ -6,7 +6,4 @@ use Rattle.operands.specs.Reads.{Reads}
 use Rattle.operands.proofs.beside.word_values.Given as goal
 
 abbrev pub invariant-loop-k : goal.invariant-loop-k
-invariant-loop-k l = (l.k ≤ l.n) × Mapped (λ k' old new. Reads 3 (get_or l.patterns k' 0) new) l.k l.initial.values l.values
-
-abbrev pub decreases-loop-k : goal.decreases-loop-k
-decreases-loop-k l = l.n - l.k
+invariant-loop-k l = Mapped (λ k' old new. Reads 3 (get_or l.patterns k' 0) new) l.k l.initial.values l.values

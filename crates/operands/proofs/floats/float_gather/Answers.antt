@@ -7,7 +7,7 @@ use Rattle.operands.proofs.floats.float_gather.Goals as goal
 pub float_line-requires : goal.float_line-requires
 float_line-requires c =
     let e = c.is_beside.ensures c.if-is_beside.true in
-    (c.requires.small.2, c.requires.small.3, λ k h. rw (beside_at (region_is (region_from c.args.origin c.args.vert c.args.code c.args.horz 4)) k e.0 e.1) (c.requires.by_index k h))
+    (c.requires.small.2, λ k h. rw (beside_at (region_is (region_from c.args.origin c.args.vert c.args.code c.args.horz 4)) k e.0 e.1) (c.requires.by_index k h))
 
 pub returns-then-is_beside : goal.returns-then-is_beside
 returns-then-is_beside c =

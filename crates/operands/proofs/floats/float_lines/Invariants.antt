@@ -1,4 +1,4 @@
--- The loop's invariant: the elements of the channels passed are read. Its measure: the channels left. Assumes nothing.
+-- The loop's invariant: the elements of the channels passed are read. Assumes nothing.
 use Prim.Native.Nat.{◌-◌, ◌≤◌}
 use Rattle.paper.specs.Region.{element_at}
 use Rattle.words.specs.Regions.{region_is}
@@ -6,7 +6,4 @@ use Rattle.operands.specs.Floats.{FloatsAt}
 use Rattle.operands.proofs.floats.float_lines.Given as goal
 
 abbrev pub invariant-loop-k : goal.invariant-loop-k
-invariant-loop-k l = (l.k ≤ l.n) × FloatsAt l.registers (element_at (region_is l.r)) l.k l.initial.patterns l.patterns
-
-abbrev pub decreases-loop-k : goal.decreases-loop-k
-decreases-loop-k l = l.n - l.k
+invariant-loop-k l = FloatsAt l.registers (element_at (region_is l.r)) l.k l.initial.patterns l.patterns

@@ -1,4 +1,4 @@
--- The loop's invariant: the channels passed have their own restricted float. Its measure: the channels left. Assumes nothing.
+-- The loop's invariant: the channels passed have their own restricted float. Assumes nothing.
 use mathlib.Core.Path.{◌≡◌}
 use Prim.Native.Nat.{◌-◌, ◌^◌, ◌≤◌, ◌<◌}
 use Rattle.lanes.specs.Mapped.{Mapped}
@@ -6,7 +6,4 @@ use Rattle.paper.specs.Restricted.{vector_float}
 use Rattle.operands.proofs.floats.float_vector.Given as goal
 
 abbrev pub invariant-loop-k : goal.invariant-loop-k
-invariant-loop-k l = (l.k ≤ l.n) × Mapped (λ k' old new. (new ≡ vector_float l.four k') × (new < 2 ^ 32)) l.k l.initial.patterns l.patterns
-
-abbrev pub decreases-loop-k : goal.decreases-loop-k
-decreases-loop-k l = l.n - l.k
+invariant-loop-k l = Mapped (λ k' old new. (new ≡ vector_float l.four k') × (new < 2 ^ 32)) l.k l.initial.patterns l.patterns

@@ -3,11 +3,11 @@ use mathlib.Core.Path.{refl}
 use Rattle.paper.specs.Single.{sign_modified}
 use Rattle.operands.proofs.floats.sign_all.Goals as goal
 
-pub returns-then-modifier-eq0 : goal.returns-then-modifier-eq0
+pub returns-else-modifier-ne0 : goal.returns-else-modifier-ne0
 unfolding sign_modified
-returns-then-modifier-eq0 c =
+returns-else-modifier-ne0 c =
     record {
-      sixteen = c.requires.1;
-      done = λ k h. (rw c.if-modifier-eq0.true refl, λ q. q);
+      sixteen = c.told-patterns;
+      done = λ k h. (rw c.if-modifier-ne0.false refl, λ q. q);
       kept = λ k h. refl;
     }

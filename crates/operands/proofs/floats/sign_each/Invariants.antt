@@ -1,4 +1,4 @@
--- The loop's invariant: the patterns of the channels passed are modified. Its measure: the channels left. Assumes nothing.
+-- The loop's invariant: the patterns of the channels passed are modified. Assumes nothing.
 use mathlib.Core.Path.{◌≡◌}
 use Prim.Native.Nat.{◌-◌, ◌^◌, ◌≤◌, ◌<◌}
 use Rattle.lanes.specs.Mapped.{Mapped}
@@ -6,7 +6,4 @@ use Rattle.paper.specs.Single.{sign_modified}
 use Rattle.operands.proofs.floats.sign_each.Given as goal
 
 abbrev pub invariant-loop-k : goal.invariant-loop-k
-invariant-loop-k l = (l.k ≤ l.n) × Mapped (λ k' old new. (new ≡ sign_modified l.modifier old) × (old < 2 ^ 32 → new < 2 ^ 32)) l.k l.initial.patterns l.patterns
-
-abbrev pub decreases-loop-k : goal.decreases-loop-k
-decreases-loop-k l = l.n - l.k
+invariant-loop-k l = Mapped (λ k' old new. (new ≡ sign_modified l.modifier old) × (old < 2 ^ 32 → new < 2 ^ 32)) l.k l.initial.patterns l.patterns

@@ -6,7 +6,7 @@ use Rattle.operands.proofs.gather.gather.Goals as goal
 pub beside-requires : goal.beside-requires
 beside-requires c =
     let e = c.is_beside.ensures c.if-is_beside.true in
-    record { size_value = (c.requires.small.1, c.requires.small.3, c.requires.small.4, c.requires.small.5); by_index = λ k h. rw (beside_at (region_is (region_from c.args.origin c.args.vert c.args.code c.args.horz c.args.size)) k e.0 e.1) (c.requires.by_index k h) }
+    record { size_value = (c.requires.small.1, c.requires.small.3, c.requires.small.4); by_index = λ k h. rw (beside_at (region_is (region_from c.args.origin c.args.vert c.args.code c.args.horz c.args.size)) k e.0 e.1) (c.requires.by_index k h) }
 
 pub returns-then-is_beside : goal.returns-then-is_beside
 returns-then-is_beside c =
@@ -16,7 +16,7 @@ returns-then-is_beside c =
 pub read_as-number-requires : goal.read_as-number-requires
 read_as-number-requires c =
     let e = c.is_single.ensures c.if-is_single.true in
-    (c.requires.small.1, rw (single_at (region_is (region_from c.args.origin c.args.vert c.args.code c.args.horz c.args.size)) 0 e.0 e.1) (c.requires.by_index 0 c.requires.small.2), c.requires.small.5)
+    (c.requires.small.1, rw (single_at (region_is (region_from c.args.origin c.args.vert c.args.code c.args.horz c.args.size)) 0 e.0 e.1) (c.requires.by_index 0 c.requires.small.2), c.requires.small.4)
 
 pub returns-then-is_single : goal.returns-then-is_single
 returns-then-is_single c =

@@ -5,10 +5,10 @@ use Rattle.element.specs.Biased.{ex}
 use Rattle.element.specs.Operands.{modified_none}
 use Rattle.operands.proofs.modify.modify_all.Goals as goal
 
-pub returns-then-modifier-eq0 : goal.returns-then-modifier-eq0
-returns-then-modifier-eq0 c =
+pub returns-else-modifier-ne0 : goal.returns-else-modifier-ne0
+returns-else-modifier-ne0 c =
     record {
-      sixteen = c.requires.1;
-      done = λ k h. (rw c.if-modifier-eq0.true (sym (modified_none (ex (get_or c.args.values.now k 0)))), λ j q. q);
+      sixteen = c.told-values;
+      done = λ k h. (rw c.if-modifier-ne0.false (sym (modified_none (ex (get_or c.args.values.now k 0)))), λ j q. q);
       kept = λ k h. refl;
     }

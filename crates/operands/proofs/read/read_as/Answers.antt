@@ -4,11 +4,6 @@ use Rattle.lanes.specs.Sizes.{type_size}
 use Rattle.operands.specs.Reads.{ElementRead, element_less}
 use Rattle.operands.proofs.read.read_as.Goals as goal
 
-pub read_element-requires : goal.read_element-requires
-read_element-requires c =
-    let p = c.requires in
-    (rw p.0 (type_size c.args.kind (whole_type c.args.kind p.2)), p.1)
-
 pub load-requires : goal.load-requires
 load-requires c =
     (c.requires.2, rw (c.read_element.ensures, c.requires.0) (element_less c.args.registers.now (λ i. (c.shared_slice_known-1.given i).fits) c.args.kind c.args.from))

@@ -6,4 +6,4 @@ use Rattle.single.proofs.restricted.restricted_pattern.Goals as goal
 
 pub returns : goal.returns
 unfolding pattern_table restricted_float
-returns c = table_rule c.args.b (search rules)
+returns c = rw c.from.ensures (table_rule c.args.b (search rules))
