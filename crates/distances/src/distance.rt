@@ -36,10 +36,8 @@ fn base(d: Distance, here: u64, next: u64) -> u64
     ensures { (result ≡ base_of (distance_is d).base here next) × (result < 131072) }
 {
     match d {
-        Distance::Near => here,
+        Distance::Near | Distance::Jip | Distance::Uip => here,
         Distance::Far => next,
-        Distance::Jip => here,
-        Distance::Uip => here,
     }
 }
 
@@ -48,10 +46,8 @@ fn half(d: Distance) -> u64
     ensures { (result ≡ 2 ^ ((distance_is d).width - 1)) × (2 * result ≡ 2 ^ (distance_is d).width) × (32768 ≤ result) × (result ≤ 2147483648) }
 {
     match d {
-        Distance::Near => 0x8000,
+        Distance::Near | Distance::Jip | Distance::Uip => 0x8000,
         Distance::Far => 0x8000_0000,
-        Distance::Jip => 0x8000,
-        Distance::Uip => 0x8000,
     }
 }
 
