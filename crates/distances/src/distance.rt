@@ -68,6 +68,8 @@ pub fn reach(d: Distance, w: Word, here: u64, next: u64) -> Option<u64>
     Some(from + distance - 2 * least)
 }
 
+// Each field is written by its own powers of 2: one function of a place and a width would need three shifts, and a law for each half of a word.
+
 // The word with `distance` in bits 63:48.
 fn with_near(w: Word, distance: u64) -> Word
     requires { distance < 2 ^ 16 }
