@@ -32,6 +32,8 @@ pub fn is_addressed(p: Plain, w: Word) -> bool
 
 // ---- one operand
 
+// The addresses are the last bytes of the state, lent as the slice that a run has of them, so a clause says how many there are.
+
 // The destination named directly, if it is by address.
 fn settle_dst(w: Word, addresses: &[u8]) -> Option<Word>
     requires { length addresses.now ≡ address_bytes }

@@ -26,12 +26,8 @@ fn of_branch(b: Branch) -> Distances
 {
     match b {
         Branch::Jmpi => Distances::One(Distance::Far),
-        Branch::If => Distances::One(Distance::Near),
-        Branch::Else => Distances::One(Distance::Near),
-        Branch::Endif => Distances::One(Distance::Near),
-        Branch::While => Distances::One(Distance::Near),
-        Branch::Break => Distances::Two(Distance::Jip, Distance::Uip),
-        Branch::Cont => Distances::Two(Distance::Jip, Distance::Uip),
+        Branch::If | Branch::Else | Branch::Endif | Branch::While => Distances::One(Distance::Near),
+        Branch::Break | Branch::Cont => Distances::Two(Distance::Jip, Distance::Uip),
     }
 }
 
@@ -39,12 +35,9 @@ fn of_branch(b: Branch) -> Distances
 pub fn distances_in(w: Word) -> Distances
     ensures { distances_is result ≡ distances (operation (to_word w)) }
 {
-    let o = operation(w);
-    match o {
-        Operation::Makes(_) => Distances::Nothing,
-        Operation::Nop => Distances::Nothing,
+    match operation(w) {
         Operation::Jumps(b) => of_branch(b),
-        Operation::Unlisted => Distances::Nothing,
+        Operation::Makes(_) | Operation::Nop | Operation::Unlisted => Distances::Nothing,
     }
 }
 

@@ -36,10 +36,8 @@ fn base(d: Distance, here: u64, next: u64) -> u64
     ensures { (result ≡ base_of (distance_is d).base here next) × (result < 131072) }
 {
     match d {
-        Distance::Near => here,
+        Distance::Near | Distance::Jip | Distance::Uip => here,
         Distance::Far => next,
-        Distance::Jip => here,
-        Distance::Uip => here,
     }
 }
 
@@ -48,10 +46,8 @@ fn half(d: Distance) -> u64
     ensures { (result ≡ 2 ^ ((distance_is d).width - 1)) × (2 * result ≡ 2 ^ (distance_is d).width) × (32768 ≤ result) × (result ≤ 2147483648) }
 {
     match d {
-        Distance::Near => 0x8000,
+        Distance::Near | Distance::Jip | Distance::Uip => 0x8000,
         Distance::Far => 0x8000_0000,
-        Distance::Jip => 0x8000,
-        Distance::Uip => 0x8000,
     }
 }
 
@@ -71,6 +67,8 @@ pub fn reach(d: Distance, w: Word, here: u64, next: u64) -> Option<u64>
     }
     Some(from + distance - 2 * least)
 }
+
+// Each field is written by its own powers of 2: one function of a place and a width would need three shifts, and a law for each half of a word.
 
 // The word with `distance` in bits 63:48.
 fn with_near(w: Word, distance: u64) -> Word

@@ -62,7 +62,7 @@ pub fn is_unaligned(subregister: u64, size: u64) -> bool
     }
 }
 
-// UNUSUAL tells whether the word is: where it is not, a0 has no part, and nothing is asked for that.
+// UNUSUAL tells whether the word is: where it is not, a0 has no part, and nothing is asked for that. A clause says so, as in `served`.
 
 // The destination's is none, and it is named directly.
 fn dst_unaligned<const UNUSUAL: bool>(w: Word) -> bool

@@ -91,7 +91,8 @@ pub fn control_served(comparing: bool, saturating: bool, w: Word) -> bool
 
 // ---- 7: operands
 
-// UNUSUAL tells whether the word is: what few words need is asked of these alone.
+// UNUSUAL tells whether the word is: what few words need is asked of these alone. Each test says so in a clause: of a type that said it for all, each would
+// have to take its word out again.
 
 // Registers, named directly or by address; or null or a0, named directly; of a listed type.
 #[tactic(auto, unfolding(paper::specs::Legal::dst_served))]
