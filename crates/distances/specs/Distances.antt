@@ -1,5 +1,6 @@
 -- The code's distances and targets in the paper's terms. Assumes nothing.
-use Rattle.std.specs.Prelude.{List, [], ◌∷◌, ◌≡◌, refl, ℕ, ◌-◌, ◌*◌, ◌^◌, ◌≤◌, ℤ, pos, negsuc, ◌+ℤ◌}
+use Rattle.std.specs.Prelude.{List, [], ◌∷◌, Option, Some, None, ◌≡◌, refl, ℕ, ◌-◌, ◌*◌, ◌^◌, ◌≤◌, ℤ, pos, negsuc, ◌+ℤ◌}
+use Rattle.std.specs.Option.{unwrap_or}
 use Rattle.std.proofs.Common.{sym, ◌∙◌}
 use Rattle.paper.specs.Bits.{bits}
 use Rattle.paper.specs.Jump as paper
@@ -7,8 +8,6 @@ use Rattle.paper.specs.Jump.{place_of}
 use Rattle.distances.specs.Reach.{said_of, said_from, said_from_lem}
 use Rattle.distances.specs.declared.distance.Distance.{Distance}
 use Rattle.distances.specs.declared.distance.Distance.TheVariants.{Near, Far, Jip, Uip}
-use Rattle.distances.specs.declared.distance.Target.{Target}
-use Rattle.distances.specs.declared.distance.Target.TheVariants.{Place, Below}
 use Rattle.distances.specs.declared.branch.Distances.{Distances}
 use Rattle.distances.specs.declared.branch.Distances.TheVariants.{Nothing, One, Two}
 
@@ -23,14 +22,13 @@ distances_is Nothing = []
 distances_is (One d) = distance_is d ∷ []
 distances_is (Two d e) = distance_is d ∷ distance_is e ∷ []
 
--- What the code says of where a jump leads.
-abbrev pub told : ℤ → Target
-told = said_of Place Below
+-- What the code says of where a jump leads: the place, and nothing of what lies below place 0.
+abbrev pub told : ℤ → Option ℕ
+told = said_of Some None
 
--- The place that a target says.
-abbrev pub place_in : Target → ℕ
-place_in (Place p) = p
-place_in Below = 0
+-- The place that it says; 0 of what lies below, where no accepted jump leads.
+abbrev pub place_in : Option ℕ → ℕ
+place_in target = unwrap_or target 0
 
 -- It is the paper's.
 pub place_told : (z : ℤ) → place_in (told z) ≡ place_of z
@@ -47,7 +45,7 @@ base_most paper.own_end h n = n
 -- Where a distance leads, by the place from which it counts, its bits and the least of them that means one below 0.
 pub reach_told : (d : Distance) (w here next from field half : ℕ) → from ≡ paper.base_of (distance_is d).base here next
     → field ≡ bits w (distance_is d).lo (distance_is d).width → half ≡ 2 ^ ((distance_is d).width - 1) → 2 * half ≡ 2 ^ (distance_is d).width
-    → said_from Place Below from field half ≡ told (paper.reach (distance_is d) w here next)
+    → said_from Some None from field half ≡ told (paper.reach (distance_is d) w here next)
 reach_told d w here next from field half a b least span =
-    said_from_lem Place Below from field half (distance_is d).width (sym least) (sym span)
+    said_from_lem Some None from field half (distance_is d).width (sym least) (sym span)
     ∙ (λ i. told (pos (a i) +ℤ paper.signed_of (distance_is d).width (b i)))

@@ -4,7 +4,7 @@ ghost use Rattle.paper.specs.Bits.{bits, put};
 ghost use Rattle.paper.specs.Jump.{base_of, reach};
 ghost use Rattle.laws.specs.Moved.{aim};
 ghost use Rattle.words.specs.Words.{to_word};
-ghost use Rattle.distances.specs.Distances.{distance_is, told, place_in};
+ghost use Rattle.distances.specs.Distances.{distance_is, told};
 
 use words::bytes::Word;
 use words::fields::{high_half, long_distance, low_half, short_distance};
@@ -16,13 +16,6 @@ pub enum Distance {
     Far,
     Jip,
     Uip,
-}
-
-// Where a jump leads: to a place, or to what lies below place 0.
-#[derive(Clone, Copy)]
-pub enum Target {
-    Place(u64),
-    Below,
 }
 
 // The distance's bits.
@@ -62,8 +55,8 @@ fn half(d: Distance) -> u64
     }
 }
 
-// Where the distance in word w, an instruction from place `here` to place `next`, leads.
-pub fn reach(d: Distance, w: Word, here: u64, next: u64) -> Target
+// The place to which the distance in word w, an instruction from place `here` to place `next`, leads; none where it leads below place 0.
+pub fn reach(d: Distance, w: Word, here: u64, next: u64) -> Option<u64>
     requires { (here < 131072) × (next < 131072) }
     ensures { result ≡ told (reach (distance_is d) (to_word w) here next) }
 {
@@ -71,22 +64,12 @@ pub fn reach(d: Distance, w: Word, here: u64, next: u64) -> Target
     let distance = field(d, w);
     let least = half(d);
     if distance < least {
-        return Target::Place(from + distance);
+        return Some(from + distance);
     }
     if from + distance < 2 * least {
-        return Target::Below;
+        return None;
     }
-    Target::Place(from + distance - 2 * least)
-}
-
-// The target's place; 0 for what lies below, where no accepted jump leads.
-pub fn place_of(t: Target) -> u64
-    ensures { result ≡ place_in t }
-{
-    match t {
-        Target::Place(place) => place,
-        Target::Below => 0,
-    }
+    Some(from + distance - 2 * least)
 }
 
 // The word with `distance` in bits 63:48.

@@ -6,7 +6,6 @@ use Rattle.std.proofs.Math.Seq.{take-append_seam}
 use Rattle.std.specs.Io.KnownBytes.{Appends}
 use Rattle.std.proofs.KnownBytes.{Appends-nil}
 use Rattle.paper.specs.Limits.{dictionary_bytes}
-use Rattle.front.specs.Printed.{check_text, input_text}
 use Rattle.front.specs.Streams.{AppendsPart}
 
 -- What follows is said too.
@@ -44,11 +43,20 @@ pub all_unasked : {X : Type 0} (known : Option X) (held : Option (List ℕ)) (f 
 all_unasked None held f = tt
 all_unasked (Some x) held f = unasked held (f x)
 
--- The lines in their buffer are the input's text.
-pub text_of : (input dictionary kernel rest written : List ℕ) (n : ℕ) → dictionary ≡ take (min dictionary_bytes (length input)) input
-    → kernel ≡ drop (min dictionary_bytes (length input)) input → n ≡ length (check_text dictionary kernel) → written ≡ check_text dictionary kernel ++ rest
-    → take n written ≡ input_text input
-unfolding input_text
-text_of input dictionary kernel rest written n d k e w =
-    ap₂ take e w
-    ∙ (take-append_seam (check_text dictionary kernel) rest ∙ ap₂ check_text (d ∙ take_min dictionary_bytes input) (k ∙ drop_min dictionary_bytes input))
+-- What was written as a whole, or a beginning of it, is the text.
+module _ {T E : Type 0} (r : Result T E) (old new : Option (List ℕ)) (written text : List ℕ) (e : written ≡ text) where
+  pub all_written : OnOk r (Appends old new written) → OnOk r (Appends old new text)
+  all_written h = subst (λ (w : List ℕ). OnOk r (Appends old new w)) e h
+
+  pub part_written : OnErr r (AppendsPart old new written) → OnErr r (AppendsPart old new text)
+  part_written h = subst (λ (w : List ℕ). OnErr r (AppendsPart old new w)) e h
+
+-- A text that stands first in its buffer.
+pub first_is : (t rest written : List ℕ) (n : ℕ) → n ≡ length t → written ≡ t ++ rest → take n written ≡ t
+first_is t rest written n e w = ap₂ take e w ∙ take-append_seam t rest
+
+-- What is made of an input that is split where its dictionary ends.
+pub split_there : {X : Type 0} (f : List ℕ → List ℕ → X) (input dictionary rest : List ℕ) (n : ℕ) → n ≡ min dictionary_bytes (length input)
+    → dictionary ≡ take n input → rest ≡ drop n input → f dictionary rest ≡ f (take dictionary_bytes input) (drop dictionary_bytes input)
+split_there f input dictionary rest n m d r =
+    ap₂ f (d ∙ ap (λ (k : ℕ). take k input) m ∙ take_min dictionary_bytes input) (r ∙ ap (λ (k : ℕ). drop k input) m ∙ drop_min dictionary_bytes input)

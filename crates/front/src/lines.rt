@@ -14,10 +14,12 @@ pub fn put_report(out: &mut [u8], r: Report) -> usize
     requires { most_bytes ≤ length out.old }
     ensures { (result ≡ length (printed_text (report_is r))) × (result ≤ most_bytes) × (out.new ≡ printed_text (report_is r) ++ drop result out.old) }
 {
-    let verdict = r.verdict;
-    let at = r.at;
-    let instructions = r.instructions;
-    let bytes = r.bytes;
+    let Report {
+        verdict,
+        at,
+        instructions,
+        bytes,
+    } = r;
     let a = put_line(out, 0, b"verdict=", verdict);
     let b = put_line(out, a, b"at=", at);
     let c = put_line(out, b, b"instructions=", instructions);
@@ -29,6 +31,5 @@ pub fn lines_on(dictionary: &[u8], kernel: &[u8], out: &mut [u8]) -> usize
     requires { most_bytes ≤ length out.old }
     ensures { (result ≡ length (check_text dictionary.now kernel.now)) × (result ≤ most_bytes) × (out.new ≡ check_text dictionary.now kernel.now ++ drop result out.old) }
 {
-    let r = report_on(dictionary, kernel);
-    put_report(out, r)
+    put_report(out, report_on(dictionary, kernel))
 }

@@ -6,7 +6,7 @@ use kernel::check::check;
 use words::answer::Answer;
 
 // Named as the lines are.
-#[derive(Clone, Copy)]
+#[derive(Clone, Copy, Debug, PartialEq, Eq)]
 pub struct Report {
     pub verdict: u64,
     pub at: u64,
@@ -19,7 +19,7 @@ pub fn refused(number: u8, offset: u64) -> Report
     ensures { report_is result ≡ record { verdict = number; at = offset; instructions = 0; bytes = 0 } }
 {
     Report {
-        verdict: number as u64,
+        verdict: u64::from(number),
         at: offset,
         instructions: 0,
         bytes: 0,
@@ -33,10 +33,10 @@ pub fn report_on(dictionary: &[u8], kernel: &[u8]) -> Report
     let bytes = kernel.len() as u64;
     match check(dictionary, kernel) {
         Answer::Told(number, count) => Report {
-            verdict: number as u64,
+            verdict: u64::from(number),
             at: 0,
             instructions: count,
-            bytes: bytes,
+            bytes,
         },
         Answer::Refused(number, offset) => refused(number, offset),
         Answer::RefusedWith(number, offset, _) => refused(number, offset),

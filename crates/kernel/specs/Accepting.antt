@@ -1,8 +1,9 @@
 -- An accepted kernel: how the code comes to accept or refuse, and what is then known. Assumes nothing.
+use Rattle.std.specs.Prelude as std
 use Rattle.std.specs.Prelude.{Bool, true, false, cond, List, ◌≡◌, ℕ, ◌*◌, ◌<◌, ◌≤◌, eqb, leb, length}
 use Rattle.std.proofs.Math.Option.{Option, none, some}
 use Rattle.std.proofs.Math.Path.{refl, ap}
-use Rattle.std.proofs.Common.{sym, ap₂, ◌∙◌, subst, arith, eqb-true, leb-true}
+use Rattle.std.proofs.Common.{sym, ap₂, ◌∙◌, subst, arith, eqb-true, leb-true, eq-eqb, ne_eqb, le-leb}
 use Rattle.paper.specs.Limits.{instruction_limit, dictionary_bytes, kernel_bytes}
 use Rattle.paper.specs.Dictionary.{Dictionary, dictionary_of, in_range}
 use Rattle.paper.specs.Legal.{refusal_of}
@@ -15,11 +16,10 @@ use Rattle.laws.specs.Walk.{walked}
 use Rattle.laws.specs.Parse.{jumps_good}
 use Rattle.kernel.specs.declared.walk.Said.{Said}
 use Rattle.kernel.specs.declared.walk.Said.TheVariants.{Good, Bad}
-use Rattle.kernel.specs.declared.jumps.Astray.{Astray}
-use Rattle.kernel.specs.declared.jumps.Astray.TheVariants.{Nowhere, Branch}
-use Rattle.kernel.specs.Standing.{size_at, word_at, Whole, Fetches, fits, Stands, Standing, walk-stands, stands-fetch}
+use Rattle.kernel.specs.Standing.{size_at, word_at, Whole, Fetches, fits, Stands, walk-stands, stands-fetch}
+use Rattle.kernel.specs.Reading.{filled, instrs_from, stands_filled, stands_read}
 use Rattle.kernel.specs.Marks.{marked, Says, says_bad, says_refused, Accepts, says_accepted}
-use Rattle.kernel.specs.Jumps.{instr_of, FirstOut, astray_is, out_astray}
+use Rattle.kernel.specs.Jumps.{instr_of, first_out, astray_is, out_astray}
 use Rattle.laws.specs.Truth.{both_true}
 
 -- ---- 1
@@ -33,6 +33,12 @@ right_sizes dictionary kernel e =
     let p = both_true (eqb (length dictionary) dictionary_bytes) (leb (length kernel) kernel_bytes) e in
     record { dictionary-is = eqb-true _ _ p.0; kernel-most = leb-true _ _ p.1 }
 
+pub right_sized : (dictionary kernel : List ℕ) → RightSizes dictionary kernel → sized dictionary kernel ≡ true
+right_sized dictionary kernel s = rw (eq-eqb _ _ s.dictionary-is, le-leb _ _ s.kernel-most)
+
+pub unsized : (dictionary kernel : List ℕ) → (length dictionary ≡ dictionary_bytes → ⊥) → sized dictionary kernel ≡ false
+unsized dictionary kernel h = rw (ne_eqb _ _ h)
+
 -- ---- a parse, and what is then known without its list
 
 pub parse-stands : (forms : Forms) (dictionary kernel : List ℕ) (k : List Instr) → parse forms (dictionary_of dictionary) kernel ≡ good k
@@ -40,11 +46,11 @@ pub parse-stands : (forms : Forms) (dictionary kernel : List ℕ) (k : List Inst
 unfolding parse
 parse-stands forms dictionary kernel k e = walk-stands forms (dictionary_of dictionary) kernel instruction_limit 0 (omega arith) k e
 
-pub parse_standing : (forms : Forms) (dictionary kernel marks : List ℕ) (r : Said) → Says (parse forms (dictionary_of dictionary) kernel) r marks
-    → (count : ℕ) → r ≡ Good count → Standing (dictionary_of dictionary) kernel
-parse_standing forms dictionary kernel marks r s count e =
+pub parse_filled : (forms : Forms) (dictionary kernel marks : List ℕ) (r : Said) → Says (parse forms (dictionary_of dictionary) kernel) r marks
+    → (count : ℕ) → r ≡ Good count → filled kernel 0 ≡ true
+parse_filled forms dictionary kernel marks r s count e =
     let a = says_accepted (parse forms (dictionary_of dictionary) kernel) r marks s count e in
-    record { forms = forms; instrs = a.instrs; stands = parse-stands forms dictionary kernel a.instrs a.judged }
+    stands_filled (dictionary_of dictionary) kernel forms a.instrs (parse-stands forms dictionary kernel a.instrs a.judged)
 
 -- ---- the answers, in the code's order
 
@@ -75,7 +81,8 @@ module _ (forms : Forms) (dictionary kernel marks : List ℕ) where
             let q = says_refused (parse forms (dictionary_of dictionary) kernel) walked marks says number offset e in
             says_as (bad number offset) walked (accepted-parse ∙ ap with_jumps q) (rw q at says)
 
-        module _ (count : ℕ) (told : walked ≡ Good count) (o : Astray) (out : FirstOut (dictionary_of dictionary) kernel (marked marks) o) where
+        module _ (count : ℕ) (told : walked ≡ Good count) (o : std.Option ℕ)
+            (out : astray_is o ≡ first_out (marked marks) (instrs_from (dictionary_of dictionary) kernel 0)) where
           abbrev walks : Accepts (parse forms (dictionary_of dictionary) kernel) marks
           walks = says_accepted (parse forms (dictionary_of dictionary) kernel) walked marks says count told
 
@@ -85,18 +92,18 @@ module _ (forms : Forms) (dictionary kernel marks : List ℕ) where
           jumped =
               let k = walks.instrs in
               accepted-parse ∙ ap with_jumps walks.judged
-              ∙ ap (astray k) (sym (out forms k (parse-stands forms dictionary kernel k walks.judged) ∙ out_astray (marked marks) k walks.land k))
+              ∙ ap (astray k) (sym (out ∙ ap (first_out (marked marks)) (stands_read (dictionary_of dictionary) kernel forms k (parse-stands forms dictionary kernel k walks.judged)) ∙ out_astray (marked marks) k walks.land k))
 
           -- No jump goes astray.
-          pub accept_good : o ≡ Nowhere → Says (accepted forms dictionary kernel) (Good count) marks
+          pub accept_good : o ≡ std.None → Says (accepted forms dictionary kernel) (Good count) marks
           accept_good e =
-              says_as (good walks.instrs) (Good count) (jumped ∙ ap (λ (o : Astray). astray walks.instrs (astray_is o)) e)
+              says_as (good walks.instrs) (Good count) (jumped ∙ ap (λ (o : std.Option ℕ). astray walks.instrs (astray_is o)) e)
               (subst (λ (r : Said). Says (good walks.instrs) r marks) told (rw walks.judged at says))
 
           -- One does.
-          pub accept_astray : (offset : ℕ) → o ≡ Branch offset → Says (accepted forms dictionary kernel) (Bad 12 offset) marks
+          pub accept_astray : (offset : ℕ) → o ≡ std.Some offset → Says (accepted forms dictionary kernel) (Bad 12 offset) marks
           accept_astray offset e =
-              says_as (bad 12 offset) (Bad 12 offset) (jumped ∙ ap (λ (o : Astray). astray walks.instrs (astray_is o)) e) (says_bad 12 offset marks)
+              says_as (bad 12 offset) (Bad 12 offset) (jumped ∙ ap (λ (o : std.Option ℕ). astray walks.instrs (astray_is o)) e) (says_bad 12 offset marks)
 
 -- ---- what is known of an accepted kernel
 

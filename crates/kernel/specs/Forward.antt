@@ -2,16 +2,16 @@
 use Rattle.std.specs.Prelude.{Bool, true, ◌&&◌, List, [], ◌∷◌, ◌≡◌, refl, ℕ, ◌+◌, ltb, ℤ, pos, negsuc}
 use Rattle.std.proofs.Math.Path.{sym, ap}
 use Rattle.std.proofs.Common.{◌∙◌}
-use Rattle.paper.specs.Dictionary.{Dictionary, dictionary_of}
+use Rattle.paper.specs.Dictionary.{dictionary_of}
 use Rattle.paper.specs.Enable.{digit}
-use Rattle.paper.specs.Kernel.{Instr, Forms, long_and_short}
+use Rattle.paper.specs.Kernel.{long_and_short}
 use Rattle.paper.specs.Operation.{operation}
 use Rattle.paper.specs.Jump.{Distance, distances, reach, targets_of}
 use Rattle.paper.specs.Forward.{lie_after, forward}
 use Rattle.paper.specs.Calls.{verdict, refusal, accepted, forward_as, forward_call}
 use Rattle.kernel.specs.declared.walk.Said.{Said}
 use Rattle.kernel.specs.declared.walk.Said.TheVariants.{Good, Bad}
-use Rattle.kernel.specs.Standing.{Stands, Standing}
+use Rattle.kernel.specs.Reading.{filled, instrs_from, stands_filled, stands_read}
 use Rattle.kernel.specs.Marks.{Says, says_refused, Accepts, says_accepted}
 use Rattle.kernel.specs.Jumps.{lands_at, land_by, instr_of, none-lands, one_lands, two_land}
 use Rattle.kernel.specs.Accepting.{AcceptedKernel, accepted_kernel}
@@ -36,10 +36,6 @@ module _ (here size w : ℕ) where
       → (lands_at (ltb here) (reach f w here (here + size)) && lands_at (ltb here) (reach g w here (here + size))) ≡ lie_after here (targets_of (instr_of here size w))
   two_forward f g e = two_land (ltb here) here size w f g e ∙ after_lands here (targets_of (instr_of here size w))
 
--- The answer for whatever instructions stand in the bytes.
-abbrev pub Tells : Dictionary → List ℕ → Bool → Type 0
-Tells D kernel r = (forms : Forms) (k : List Instr) → Stands forms D kernel 0 k → r ≡ forward k
-
 module _ (dictionary kernel marks : List ℕ) (judged : Said) (says : Says (accepted long_and_short dictionary kernel) judged marks) where
   -- What check refuses is refused so.
   pub forward_refused : (number offset : ℕ) → judged ≡ Bad number offset → refusal number offset ≡ forward_call dictionary kernel
@@ -54,12 +50,12 @@ module _ (dictionary kernel marks : List ℕ) (judged : Said) (says : Says (acce
     pub forward_kernel : AcceptedKernel long_and_short dictionary kernel accepts.instrs
     forward_kernel = accepted_kernel long_and_short dictionary kernel accepts.instrs accepts.judged
 
-    pub forward_standing : Standing (dictionary_of dictionary) kernel
-    forward_standing = record { forms = long_and_short; instrs = accepts.instrs; stands = forward_kernel.stands }
+    pub forward_filled : filled kernel 0 ≡ true
+    forward_filled = stands_filled (dictionary_of dictionary) kernel long_and_short accepts.instrs forward_kernel.stands
 
     -- The count is what the second pass tells.
-    pub forward_told : (b r : Bool) → Tells (dictionary_of dictionary) kernel r → r ≡ b → verdict 0 (digit b) ≡ forward_call dictionary kernel
+    pub forward_told : (b r : Bool) → r ≡ forward (instrs_from (dictionary_of dictionary) kernel 0) → r ≡ b → verdict 0 (digit b) ≡ forward_call dictionary kernel
     unfolding forward_call
     forward_told b r tells e =
         let k = accepts.instrs in
-        ap (λ (x : Bool). verdict 0 (digit x)) (sym e ∙ tells long_and_short k forward_kernel.stands) ∙ sym (ap forward_as accepts.judged)
+        ap (λ (x : Bool). verdict 0 (digit x)) (sym e ∙ tells ∙ ap forward (stands_read (dictionary_of dictionary) kernel long_and_short k forward_kernel.stands)) ∙ sym (ap forward_as accepts.judged)

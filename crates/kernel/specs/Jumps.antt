@@ -1,35 +1,30 @@
 -- Rule 12 against a test of places, where the paper tests the instructions themselves. Assumes nothing.
+use Rattle.std.specs.Prelude as std
 use Rattle.std.specs.Prelude.{Bool, true, false, cond, ◌&&◌, List, [], ◌∷◌, ◌≡◌, refl, ℕ, ◌+◌, ◌*◌, ℤ, pos, negsuc}
 use Rattle.std.proofs.Math.Bool.{and-true}
 use Rattle.std.proofs.Math.Option.{Option, none, some}
 use Rattle.std.proofs.Common.{sym, ap, ap₂, ◌∙◌}
-use Rattle.paper.specs.Dictionary.{Dictionary}
-use Rattle.paper.specs.Kernel.{Instr, Forms}
+use Rattle.paper.specs.Kernel.{Instr}
 use Rattle.paper.specs.Operation.{operation}
 use Rattle.paper.specs.Jump.{Distance, distances, reach, reached, targets_of, lands, jump_lands, targets_land, first_astray}
 use Rattle.distances.specs.Reach.{said_of}
 use Rattle.distances.specs.Distances.{told}
-use Rattle.distances.specs.declared.distance.Target.{Target}
-use Rattle.distances.specs.declared.distance.Target.TheVariants.{Place, Below}
-use Rattle.kernel.specs.declared.jumps.Astray.{Astray}
-use Rattle.kernel.specs.declared.jumps.Astray.TheVariants.{Nowhere, Branch}
-use Rattle.kernel.specs.Standing.{Stands}
 
 -- A place of which the test `land` holds; none lies below 0.
 abbrev pub lands_at : (ℕ → Bool) → ℤ → Bool
 lands_at land = said_of land false
 
 -- The same of a target as the code tells it.
-abbrev pub lands_in : (ℕ → Bool) → Target → Bool
-lands_in land (Place p) = land p
-lands_in land Below = false
+abbrev pub lands_in : (ℕ → Bool) → std.Option ℕ → Bool
+lands_in land (std.Some p) = land p
+lands_in land std.None = false
 
 pub lands-told : (land : ℕ → Bool) (z : ℤ) → lands_in land (told z) ≡ lands_at land z
 lands-told land (pos p) = refl
 lands-told land (negsuc p) = refl
 
 -- It is the same of a whole number that the code tells.
-pub lands_at_lem : (land : ℕ → Bool) (z : ℤ) (t : Target) → t ≡ told z → lands_in land t ≡ lands_at land z
+pub lands_at_lem : (land : ℕ → Bool) (z : ℤ) (t : std.Option ℕ) → t ≡ told z → lands_in land t ≡ lands_at land z
 lands_at_lem land z t e = ap (lands_in land) e ∙ lands-told land z
 
 -- Each target lands there.
@@ -46,13 +41,9 @@ abbrev pub instr_of : ℕ → ℕ → ℕ → Instr
 instr_of here size w = record { place = here; size = size; word = w }
 
 -- What the code's answer is: none, or the offset.
-abbrev pub astray_is : Astray → Option ℕ
-astray_is Nowhere = none
-astray_is (Branch offset) = some offset
-
--- The answer for whatever instructions stand in the bytes.
-abbrev pub FirstOut : Dictionary → List ℕ → (ℕ → Bool) → Astray → Type 0
-FirstOut D kernel land r = (forms : Forms) (k : List Instr) → Stands forms D kernel 0 k → astray_is r ≡ first_out land k
+abbrev pub astray_is : std.Option ℕ → Option ℕ
+astray_is std.None = none
+astray_is (std.Some offset) = some offset
 
 -- ---- the paper's test
 

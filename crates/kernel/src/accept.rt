@@ -1,25 +1,26 @@
 // A kernel is accepted or refused: 1, 2, 17 and 3 to 11, then 12.
-ghost use Rattle.std.specs.Prelude.{true, ◌≡◌};
+ghost use Rattle.std.specs.Prelude.{false, ◌≡◌};
+ghost use Rattle.std.specs.Option.{MatchOption};
 ghost use Rattle.paper.specs.Calls.{sized, accepted};
 ghost use Rattle.kernel.specs.Judging.{forms_is};
 ghost use Rattle.kernel.specs.Marks.{Says};
 ghost use Rattle.kernel.specs.Accepting.{RightSizes};
 
-use crate::jumps::{Astray, first_astray};
+use crate::instructions::Instructions;
+use crate::jumps::first_astray;
 use crate::walk::{Said, walk};
 use short::dictionary::in_range;
 use table::regions::region_table;
 use words::limits::{DICTIONARY_BYTES, KERNEL_BYTES, PLACES};
 
-// 1: the dictionary has its bytes, the kernel not too many.
-pub fn is_sized(dictionary: &[u8], kernel: &[u8]) -> bool
-    ensures { (result ≡ sized dictionary.now kernel.now)
-        × (result ≡ true → RightSizes dictionary.now kernel.now) }
+// 1: the dictionary has its bytes, the kernel not too many. Then the dictionary's type says so.
+pub fn sized<'a>(dictionary: &'a [u8], kernel: &[u8]) -> Option<&'a [u8; DICTIONARY_BYTES]>
+    ensures { MatchOption result (sized dictionary.now kernel.now ≡ false) (λ d. (d.now ≡ dictionary.now) × RightSizes d.now kernel.now) }
 {
-    if dictionary.len() != DICTIONARY_BYTES {
-        return false;
+    if kernel.len() > KERNEL_BYTES {
+        return None;
     }
-    kernel.len() <= KERNEL_BYTES
+    dictionary.as_array()
 }
 
 // What is said of a kernel as a whole: how many instructions it has, or its refusal. In the marks that are lent, whatever they hold, an accepted kernel's
@@ -27,9 +28,9 @@ pub fn is_sized(dictionary: &[u8], kernel: &[u8]) -> bool
 pub fn accept(long: bool, dictionary: &[u8], kernel: &[u8], marks: &mut [u8; PLACES]) -> Said
     ensures { Says (accepted (forms_is long) dictionary.now kernel.now) result marks.new }
 {
-    if !is_sized(dictionary, kernel) {
+    let Some(dictionary) = sized(dictionary, kernel) else {
         return Said::Bad(1, 0);
-    }
+    };
     if !in_range(dictionary) {
         return Said::Bad(2, 0);
     }
@@ -38,8 +39,8 @@ pub fn accept(long: bool, dictionary: &[u8], kernel: &[u8], marks: &mut [u8; PLA
     let Said::Good(count) = walked else {
         return walked;
     };
-    match first_astray(dictionary, kernel, marks) {
-        Astray::Nowhere => Said::Good(count),
-        Astray::Branch(offset) => Said::Bad(12, offset),
+    match first_astray(Instructions::of(dictionary, kernel), marks) {
+        None => Said::Good(count),
+        Some(offset) => Said::Bad(12, offset),
     }
 }

@@ -5,7 +5,7 @@ ghost use Rattle.paper.specs.Calls.{decode_at, decode_call, decode_part};
 ghost use Rattle.words.specs.Answer.{answer_is};
 ghost use Rattle.kernel.specs.Answers.{decoded_is};
 
-use crate::accept::is_sized;
+use crate::accept::sized;
 use crate::instruction::{Judged, judge_at};
 use short::dictionary::in_range;
 use table::regions::region_table;
@@ -35,9 +35,9 @@ fn lies_inside(kernel: &[u8], place: u64) -> bool
 pub fn decode(dictionary: &[u8], kernel: &[u8], place: u64) -> Decoded
     ensures { decoded_is result ≡ decode_at dictionary.now kernel.now place }
 {
-    if !is_sized(dictionary, kernel) {
+    let Some(dictionary) = sized(dictionary, kernel) else {
         return Decoded::Refused(1, 0);
-    }
+    };
     if !in_range(dictionary) {
         return Decoded::Refused(2, 0);
     }

@@ -1,75 +1,58 @@
 // Do all jumps of a kernel go forward: every target lies after its branch.
-ghost use Rattle.std.specs.Prelude.{◌≡◌, ◌+◌, ◌≤◌, ◌<◌, ltb, length};
-ghost use Rattle.paper.specs.Limits.{dictionary_bytes, kernel_bytes};
-ghost use Rattle.paper.specs.Dictionary.{dictionary_of};
+ghost use Rattle.std.specs.Prelude.{◌≡◌, ◌+◌, ltb};
 ghost use Rattle.paper.specs.Jump.{reach, targets_of};
-ghost use Rattle.paper.specs.Forward.{lie_after};
+ghost use Rattle.paper.specs.Forward.{lie_after, forward};
 ghost use Rattle.paper.specs.Calls.{forward_call};
 ghost use Rattle.words.specs.Words.{to_word};
 ghost use Rattle.words.specs.Answer.{answer_is};
 ghost use Rattle.distances.specs.Distances.{distance_is};
-ghost use Rattle.kernel.specs.Marks.{place_count};
-ghost use Rattle.kernel.specs.Standing.{Standing};
-ghost use Rattle.kernel.specs.Jumps.{lands_at, lands_in, instr_of};
-ghost use Rattle.kernel.specs.Forward.{Tells};
+ghost use Rattle.kernel.specs.Instructions.{instr_is, instrs_left};
+ghost use Rattle.kernel.specs.Jumps.{lands_at, lands_in};
 
 use crate::accept::accept;
-use crate::fetch::word_at;
+use crate::instructions::{Instruction, Instructions};
 use crate::walk::Said;
 use distances::branch::{Distances, distances_in};
-use distances::distance::{Distance, Target, reach};
+use distances::distance::Distance;
 use words::answer::Answer;
-use words::bytes::Word;
 use words::limits::PLACES;
 
-// The target lies after place `here`. What lies below place 0 does not.
-fn lies_after(here: u64, t: Target) -> bool
-    ensures { result ≡ lands_in (ltb here) t }
+// The place to which a jump leads lies after place `here`. What lies below place 0 does not.
+fn lies_after(here: u64, target: Option<u64>) -> bool
+    ensures { result ≡ lands_in (ltb here) target }
 {
-    match t {
-        Target::Place(place) => here < place,
-        Target::Below => false,
+    match target {
+        Some(place) => here < place,
+        None => false,
     }
 }
 
-// The distance d in word w, an instruction of `size` places from place `here` on, leads to a place after `here`.
-fn distance_forward(d: Distance, w: Word, here: u64, size: u64) -> bool
-    requires { (here < place_count) × (size ≤ 2) }
-    ensures { result ≡ lands_at (ltb here) (reach (distance_is d) (to_word w) here (here + size)) }
+// The instruction's distance d leads to a place after its own.
+fn distance_forward(d: Distance, i: Instruction) -> bool
+    ensures { result ≡ lands_at (ltb i.place) (reach (distance_is d) (to_word i.word) i.place (i.place + i.size)) }
 {
-    lies_after(here, reach(d, w, here, here + size))
+    lies_after(i.place, i.target(d))
 }
 
-// Each distance in word w, an instruction of `size` places from place `here` on, leads to a place after `here`.
-fn leads_forward(w: Word, here: u64, size: u64) -> bool
-    requires { (here < place_count) × (size ≤ 2) }
-    ensures { result ≡ lie_after here (targets_of (instr_of here size (to_word w))) }
+// Each distance of the instruction leads to a place after its own.
+fn leads_forward(i: Instruction) -> bool
+    ensures { result ≡ lie_after i.place (targets_of (instr_is i)) }
 {
-    let held = distances_in(w);
-    match held {
+    match distances_in(i.word) {
         Distances::Nothing => true,
-        Distances::One(d) => distance_forward(d, w, here, size),
-        Distances::Two(d, e) => {
-            let first = distance_forward(d, w, here, size);
-            let second = distance_forward(e, w, here, size);
-            first & second
-        }
+        Distances::One(d) => distance_forward(d, i),
+        Distances::Two(d, e) => distance_forward(d, i) & distance_forward(e, i),
     }
 }
 
-// Every distance of every instruction leads to a place after the instruction itself.
-fn all_forward(dictionary: &[u8], kernel: &[u8]) -> bool
-    requires { (length dictionary.now ≡ dictionary_bytes) × (length kernel.now ≤ kernel_bytes) × Standing (dictionary_of dictionary.now) kernel.now }
-    ensures { Tells (dictionary_of dictionary.now) kernel.now result }
+// Every distance of every instruction leads to a place after the instruction's own.
+fn all_forward(all: Instructions) -> bool
+    ensures { result ≡ forward (instrs_left all.entry) }
 {
-    let mut from: usize = 0;
-    while from < kernel.len() {
-        let f = word_at(dictionary, kernel, from);
-        let here = (from / 8) as u64;
-        if !leads_forward(f.word, here, f.size) {
+    for i in all {
+        if !leads_forward(i) {
             return false;
         }
-        from += 8 * (f.size as usize);
     }
     true
 }
@@ -78,15 +61,15 @@ fn all_forward(dictionary: &[u8], kernel: &[u8]) -> bool
 pub fn forward(dictionary: &[u8], kernel: &[u8]) -> Answer
     ensures { answer_is result ≡ forward_call dictionary.now kernel.now }
 {
+    let Some(dictionary) = dictionary.as_array() else {
+        return Answer::Refused(1, 0);
+    };
     let mut marks = [0u8; PLACES];
-    let judged = accept(false, dictionary, kernel, &mut marks);
-    match judged {
-        Said::Good(_) => {
-            if all_forward(dictionary, kernel) {
-                return Answer::Told(0, 1);
-            }
-            Answer::Told(0, 0)
-        }
+    match accept(false, dictionary, kernel, &mut marks) {
+        Said::Good(_) => Answer::Told(
+            0,
+            u64::from(all_forward(Instructions::of(dictionary, kernel))),
+        ),
         Said::Bad(number, offset) => Answer::Refused(number, offset),
     }
 }

@@ -1,6 +1,5 @@
 // One instruction of a kernel: 3, then 4, 5, then 6 to 11.
 ghost use Rattle.std.specs.Prelude.{◌≡◌, ◌≤◌, length};
-ghost use Rattle.paper.specs.Limits.{dictionary_bytes};
 ghost use Rattle.paper.specs.Dictionary.{dictionary_of};
 ghost use Rattle.paper.specs.Kernel.{judge_word, judge_short, judge_long, judge_at};
 ghost use Rattle.words.specs.Words.{to_word};
@@ -12,6 +11,7 @@ use short::expand::expand;
 use table::regions::FIELDS;
 use words::bytes::{Word, read8, read16};
 use words::fields::{is_short, operation, operation_in};
+use words::limits::DICTIONARY_BYTES;
 use words::operation::{is_branch, is_listed};
 
 // Where a parameter `long` is true, only long words are taken. A parameter `regions` is the table of what source fields allow.
@@ -36,8 +36,13 @@ fn judge_word(regions: &[u8; FIELDS], size: u8, w: Word) -> Judged
 }
 
 // 4, 5, then 6 to 11, of a short word.
-fn judge_short(regions: &[u8; FIELDS], long: bool, dictionary: &[u8], s: u64) -> Judged
-    requires { (regions.now ≡ region_table) × (length dictionary.now ≡ dictionary_bytes) }
+fn judge_short(
+    regions: &[u8; FIELDS],
+    long: bool,
+    dictionary: &[u8; DICTIONARY_BYTES],
+    s: u64,
+) -> Judged
+    requires { regions.now ≡ region_table }
     ensures { judged_is result ≡ judge_short (forms_is long) (dictionary_of dictionary.now) s }
 {
     if !is_listed(operation_in(s)) {
@@ -68,11 +73,11 @@ fn judge_long(regions: &[u8; FIELDS], w: Word) -> Judged
 pub(crate) fn judge_at(
     regions: &[u8; FIELDS],
     long: bool,
-    dictionary: &[u8],
+    dictionary: &[u8; DICTIONARY_BYTES],
     kernel: &[u8],
     from: usize,
 ) -> Judged
-    requires { (regions.now ≡ region_table) × (length dictionary.now ≡ dictionary_bytes) × (from ≤ length kernel.now) }
+    requires { (regions.now ≡ region_table) × (from ≤ length kernel.now) }
     ensures { judged_is result ≡ judge_at (forms_is long) (dictionary_of dictionary.now) kernel.now from }
 {
     let left = kernel.len() - from;

@@ -7,5 +7,6 @@ pub mod decode;
 pub mod fetch;
 pub mod forward;
 pub mod instruction;
+pub mod instructions;
 pub mod jumps;
 pub mod walk;

@@ -1,6 +1,6 @@
 // The first pass over a kernel: 17 and 3 to 11, instruction by instruction.
 ghost use Rattle.std.specs.Prelude.{◌≡◌, ◌≤◌, length};
-ghost use Rattle.paper.specs.Limits.{dictionary_bytes, kernel_bytes};
+ghost use Rattle.paper.specs.Limits.{kernel_bytes};
 ghost use Rattle.paper.specs.Dictionary.{dictionary_of};
 ghost use Rattle.paper.specs.Kernel.{parse};
 ghost use Rattle.table.specs.Entries.{region_table};
@@ -9,7 +9,7 @@ ghost use Rattle.kernel.specs.Marks.{Says};
 
 use crate::instruction::{Judged, judge_at};
 use table::regions::FIELDS;
-use words::limits::{INSTRUCTION_LIMIT, PLACES};
+use words::limits::{DICTIONARY_BYTES, INSTRUCTION_LIMIT, PLACES};
 
 // What is said of a kernel: how many instructions it has; or a refusal's number, and the byte offset of what is refused.
 #[derive(Clone, Copy)]
@@ -24,11 +24,11 @@ pub enum Said {
 pub(crate) fn walk(
     regions: &[u8; FIELDS],
     long: bool,
-    dictionary: &[u8],
+    dictionary: &[u8; DICTIONARY_BYTES],
     kernel: &[u8],
     marks: &mut [u8; PLACES],
 ) -> Said
-    requires { (regions.now ≡ region_table) × (length dictionary.now ≡ dictionary_bytes) × (length kernel.now ≤ kernel_bytes) }
+    requires { (regions.now ≡ region_table) × (length kernel.now ≤ kernel_bytes) }
     ensures { Says (parse (forms_is long) (dictionary_of dictionary.now) kernel.now) result marks.new }
 {
     *marks = [0u8; PLACES];

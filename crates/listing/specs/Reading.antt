@@ -1,8 +1,11 @@
 -- Reading one instruction, as the code does it. Assumes nothing.
-use Rattle.std.specs.Prelude.{Bool, true, false, cond, ◌&&◌, List, ◌≡◌, refl, ℕ, ◌+◌, ◌-◌, ◌*◌, ◌^◌, ◌≤◌, ◌<◌, eqb, length, drop, get_or}
+use Rattle.std.specs.Prelude as std
+use Rattle.std.specs.Prelude.{Some, None, Result, Ok, Err, is_ok, replicate, take, Bool, true, false, cond, ◌&&◌, List, ◌≡◌, refl, ℕ, ◌+◌, ◌-◌, ◌*◌, ◌^◌, ◌≤◌, ◌<◌, eqb, length, drop, get_or}
 use Rattle.std.proofs.Math.Option.{Option, none, some}
 use Rattle.std.proofs.Common.{sym, ap, ◌∙◌, subst, arith, drop_of_length-le, eq-eqb, ne_eqb}
 use Rattle.std.proofs.Math.ListN.{get_or-eq_default}
+use Rattle.std.proofs.lemmas.Bool.{false≢true}
+use Rattle.std.proofs.lemmas.List.Edits.{sets}
 use Rattle.paper.specs.Dictionary.{Dictionary}
 use Rattle.paper.specs.Expand.{is_short}
 use Rattle.paper.specs.Shorten.{shorten}
@@ -12,18 +15,21 @@ use Rattle.paper.specs.Kernel.{Instr}
 use Rattle.paper.specs.Text.{decimal, line, hex_from, whole, torn, other, found}
 use Rattle.paper.specs.Log.{place_name}
 use Rattle.paper.specs.Listing.{form_name, form_of, instr_text, word_taken, present, form_taken, taken, word_at, candidate, instr_at}
+use Rattle.text.specs.declared.read.Unread.{Unread}
+use Rattle.text.specs.declared.read.Unread.TheVariants.{Torn, Other}
 use Rattle.text.specs.Decimals.{decimal_most}
+use Rattle.text.specs.Meaning.{found_is}
+use Rattle.text.specs.Reading.{stored_first}
 use Rattle.words.specs.declared.bytes.Word.{Word}
 use Rattle.words.specs.Words.{to_word}
 use Rattle.kernel.specs.Jumps.{instr_of}
-use Rattle.listing.specs.declared.lines.Lines.{Lines}
-use Rattle.listing.specs.declared.lines.Lines.TheVariants.{Instruction, Nothing}
+use Rattle.kernel.specs.declared.fetch.Fetched.{Fetched}
 use Rattle.listing.specs.Lines.{length_lined, lines_length, from_lt, form_length, sum_joined}
 
 -- What the code finds at a byte, of the instruction that can be read there at a place: its size, its word and the byte after its lines; or none.
-abbrev pub LinesAt : Option Instr → ℕ → ℕ → Lines → Type 0
-LinesAt o place from (Instruction size w next) = (o ≡ some (instr_of place size (to_word w))) × (next ≡ from + length (instr_text (instr_of place size (to_word w))))
-LinesAt o place from Nothing = o ≡ none
+abbrev pub LinesAt : Option Instr → ℕ → ℕ → std.Option (Fetched × ℕ) → Type 0
+LinesAt o place from (Some (f, next)) = (o ≡ some (instr_of place f.size (to_word f.word))) × (next ≡ from + length (instr_text (instr_of place f.size (to_word f.word))))
+LinesAt o place from None = o ≡ none
 
 -- ---- digits
 
@@ -92,9 +98,6 @@ module _ (w : ℕ) where
   unfolding word_taken
   taken_judged e l b h = rw (e, l) h
 
-pub form_long : (o : Option ℕ) (size : ℕ) → (size ≡ 1 → ⊥) → true ≡ cond (eqb size 1) (present o) true
-form_long o size h = rw (ne_eqb size 1 h)
-
 pub form_short : (o p : Option ℕ) (size : ℕ) → size ≡ 1 → p ≡ o → present p ≡ cond (eqb size 1) (present o) true
 form_short o p size h e = rw (eq-eqb size 1 h, e)
 
@@ -129,10 +132,16 @@ module _ (D : Dictionary) (s : List ℕ) (place from size w : ℕ) (is : instr_o
   unfolding instr_at
   instr_other f = rw (← is, f)
 
--- What the code's answer says.
-pub at_nothing : (o : Option Instr) (place from : ℕ) (r : Lines) → LinesAt o place from r → r ≡ Nothing → o ≡ none
-at_nothing o place from r h e = subst (λ (x : Lines). LinesAt o place from x) e h
+  -- What was looked for is the instruction's own lines, as they were written.
+  pub looked : (out : List ℕ) (n : ℕ) (r : Result (Unit {0}) Unread) → place < 2 ^ 64 → n ≡ 0 + length (instr_text own) → out ≡ sets (replicate 86 0) 0 (instr_text own)
+      → found_is r ≡ found (take n out) (drop from s) → found_is r ≡ found (instr_text own) (drop from s)
+  looked out n r h e k f = f ∙ ap (λ (t : List ℕ). found t (drop from s)) (stored_first (replicate 86 0) out (instr_text own) n (lines_fit place size w h) e k)
 
-pub at_some : (o : Option Instr) (place from : ℕ) (r : Lines) → LinesAt o place from r → (size : ℕ) (w : Word) (next : ℕ) → r ≡ Instruction size w next
-    → (o ≡ some (instr_of place size (to_word w))) × (next ≡ from + length (instr_text (instr_of place size (to_word w))))
-at_some o place from r h size w next e = subst (λ (x : Lines). LinesAt o place from x) e h
+  pub instr_whole : (r : Result (Unit {0}) Unread) → true ≡ is_ok r → found_is r ≡ found (instr_text own) (drop from s) → found (instr_text own) (drop from s) ≡ whole
+  instr_whole (Ok done) h f = sym f
+  instr_whole (Err e) h f = absurd (false≢true (sym h))
+
+  pub instr_unread : (r : Result (Unit {0}) Unread) → false ≡ is_ok r → found_is r ≡ found (instr_text own) (drop from s) → instr_at D s place from ≡ none
+  instr_unread (Ok done) h f = absurd (false≢true h)
+  instr_unread (Err Torn) h f = instr_torn (sym f)
+  instr_unread (Err Other) h f = instr_other (sym f)

@@ -6,7 +6,7 @@ ghost use Rattle.listing.specs.Again.{lines_in, CanRead, MarksAre, astray_is};
 use crate::lines::candidate;
 use crate::write::lines_length;
 use kernel::jumps::jump_lands;
-use words::limits::PLACES;
+use words::limits::{DICTIONARY_BYTES, PLACES};
 
 // The byte at which the lines begin of a branch that goes astray, if there is one.
 #[derive(Clone, Copy)]
@@ -16,7 +16,11 @@ pub enum Astray {
 }
 
 // The first branch with a distance that leads to no mark. The marks are those of the text's instructions and of the end.
-pub(crate) fn first_astray(dictionary: &[u8], text: &[u8], marks: &[u8; PLACES]) -> Astray
+pub(crate) fn first_astray(
+    dictionary: &[u8; DICTIONARY_BYTES],
+    text: &[u8],
+    marks: &[u8; PLACES],
+) -> Astray
     requires { CanRead dictionary.now text.now × MarksAre (lines_in dictionary.now text.now) marks.now }
     ensures { astray_is result ≡ astray_lines (lines_in dictionary.now text.now) (lines_in dictionary.now text.now) 0 }
 {

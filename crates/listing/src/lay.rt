@@ -1,7 +1,6 @@
 // The third pass over a text that can be read: its kernel's bytes.
 ghost use Rattle.std.specs.Prelude.{◌≡◌, ◌+◌, ◌≤◌, length};
 ghost use Rattle.std.proofs.lemmas.List.Edits.{sets};
-ghost use Rattle.paper.specs.Limits.{dictionary_bytes};
 ghost use Rattle.paper.specs.Dictionary.{dictionary_of};
 ghost use Rattle.paper.specs.Packing.{encode};
 ghost use Rattle.paper.specs.Listing.{kernel_of};
@@ -11,12 +10,12 @@ ghost use Rattle.listing.specs.Laying.{form_in};
 
 use crate::lines::candidate;
 use crate::write::lines_length;
-use short::shorten::{Shorter, shorten};
-use words::bytes::{Word, write8, write16};
+use short::shorten::shorten;
+use words::bytes::{Word, write, write16};
+use words::limits::DICTIONARY_BYTES;
 
 // The bytes of a word in the form of so many places.
-fn put_word(dictionary: &[u8], out: &mut [u8], at: usize, size: u64, w: Word)
-    requires dictionary_len { length dictionary.now ≡ dictionary_bytes }
+fn put_word(dictionary: &[u8; DICTIONARY_BYTES], out: &mut [u8], at: usize, size: u64, w: Word)
     requires w_in_bounds { at + length (encode (form_in (dictionary_of dictionary.now) size (to_word w)) (to_word w)) ≤ length out.old }
     ensures { out.new ≡ sets out.old at (encode (form_in (dictionary_of dictionary.now) size (to_word w)) (to_word w)) }
 {
@@ -24,16 +23,15 @@ fn put_word(dictionary: &[u8], out: &mut [u8], at: usize, size: u64, w: Word)
         write16(out, at, w);
         return;
     }
-    let none = [0u32; 0];
-    match shorten(dictionary, &none, w) {
-        Shorter::Short(s) => write8(out, at, s),
-        Shorter::NoShort => write16(out, at, w),
+    match shorten(dictionary, None, w) {
+        Some(s) => write::<8>(out, at, s),
+        None => write16(out, at, w),
     }
 }
 
 // The kernel's bytes, in the output's first.
-pub(crate) fn write_kernel(dictionary: &[u8], text: &[u8], out: &mut [u8])
-    requires dictionary_len { (length dictionary.now ≡ dictionary_bytes) × CanRead dictionary.now text.now }
+pub(crate) fn write_kernel(dictionary: &[u8; DICTIONARY_BYTES], text: &[u8], out: &mut [u8])
+    requires can_read { CanRead dictionary.now text.now }
     requires text_in_bounds { length (kernel_of (dictionary_of dictionary.now) (lines_in dictionary.now text.now)) ≤ length out.old }
     ensures { out.new ≡ sets out.old 0 (kernel_of (dictionary_of dictionary.now) (lines_in dictionary.now text.now)) }
 {

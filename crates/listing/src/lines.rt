@@ -1,7 +1,6 @@
 // Reading one instruction: of the one instruction whose lines can stand at a byte of the text, the lines are written and held against what stands there. So
 // nothing else is read.
 ghost use Rattle.std.specs.Prelude.{cond, ◌≡◌, ◌≤◌, ◌<◌, eqb, length, drop, get_or};
-ghost use Rattle.paper.specs.Limits.{dictionary_bytes};
 ghost use Rattle.paper.specs.Dictionary.{dictionary_of};
 ghost use Rattle.paper.specs.Text.{hex_from};
 ghost use Rattle.paper.specs.Listing.{word_at, candidate, instr_at};
@@ -14,22 +13,16 @@ use crate::taken::is_taken;
 use crate::write::put_lines;
 use kernel::fetch::Fetched;
 use table::regions::FIELDS;
-use text::read::{Found, find, hex_digits};
+use text::read::{find, hex_digits};
 use text::write::width;
 use words::bytes::Word;
+use words::limits::DICTIONARY_BYTES;
 
 // The most bytes that an instruction's lines can have, by any place.
 const LINES_BYTES: usize = 86;
 
 // The dwords of 64 bits.
 const DWORD: u64 = 4294967296;
-
-// An instruction's size in places and its word, and the byte after its lines; or there is none.
-#[derive(Clone, Copy)]
-pub enum Lines {
-    Instruction(u64, Word, usize),
-    Nothing,
-}
 
 // The number of the eight hex digits from a byte on; those past the end count as 0.
 fn digits_at(text: &[u8], from: usize) -> u64
@@ -81,30 +74,23 @@ pub(crate) fn candidate(text: &[u8], place: u64, from: usize) -> Fetched
     Fetched { size, word }
 }
 
-// The instruction at a place whose six lines begin at a byte, if it can be read. The table of what source fields allow is lent.
+// The instruction at a place whose six lines begin at a byte, if it can be read, and the byte after its lines. The table of what source fields allow is lent.
 pub(crate) fn lines_at(
     regions: &[u8; FIELDS],
-    dictionary: &[u8],
+    dictionary: &[u8; DICTIONARY_BYTES],
     text: &[u8],
     place: u64,
     from: usize,
-) -> Lines
-    requires { (regions.now ≡ region_table) × (length dictionary.now ≡ dictionary_bytes) × (from ≤ length text.now) }
+) -> Option<(Fetched, usize)>
+    requires { (regions.now ≡ region_table) × (from ≤ length text.now) }
     ensures { LinesAt (instr_at (dictionary_of dictionary.now) text.now place from) place from result }
 {
-    let f = candidate(text, place, from);
-    let size = f.size;
-    let word = f.word;
+    let instruction = candidate(text, place, from);
     let mut lines = [0u8; LINES_BYTES];
-    let n = put_lines(&mut lines, 0, place, size, word);
-    match find(text, from, &lines[..n]) {
-        Found::Whole => {
-            if is_taken(regions, dictionary, size, word) {
-                return Lines::Instruction(size, word, from + n);
-            }
-            Lines::Nothing
-        }
-        Found::Torn => Lines::Nothing,
-        Found::Other => Lines::Nothing,
+    let n = put_lines(&mut lines, 0, place, instruction.size, instruction.word);
+    find(text, from, &lines[..n]).ok()?;
+    if !is_taken(regions, dictionary, instruction.size, instruction.word) {
+        return None;
     }
+    Some((instruction, from + n))
 }

@@ -11,10 +11,10 @@ use crate::write::{lines_length, put_lines};
 use kernel::accept::accept;
 use kernel::walk::Said;
 use words::answer::Answer;
-use words::limits::PLACES;
+use words::limits::{DICTIONARY_BYTES, PLACES};
 
 // How many bytes the listing of an accepted kernel has.
-fn text_length(dictionary: &[u8], kernel: &[u8]) -> usize
+fn text_length(dictionary: &[u8; DICTIONARY_BYTES], kernel: &[u8]) -> usize
     requires { Listable dictionary.now kernel.now }
     ensures { result ≡ length (listing (instrs_in dictionary.now kernel.now)) }
 {
@@ -29,7 +29,7 @@ fn text_length(dictionary: &[u8], kernel: &[u8]) -> usize
 }
 
 // The listing of an accepted kernel, in the output's first bytes.
-fn write_text(dictionary: &[u8], kernel: &[u8], out: &mut [u8])
+fn write_text(dictionary: &[u8; DICTIONARY_BYTES], kernel: &[u8], out: &mut [u8])
     requires listable { Listable dictionary.now kernel.now }
     requires kernel_in_bounds { length (listing (instrs_in dictionary.now kernel.now)) ≤ length out.old }
     ensures { out.new ≡ sets out.old 0 (listing (instrs_in dictionary.now kernel.now)) }
@@ -44,7 +44,7 @@ fn write_text(dictionary: &[u8], kernel: &[u8], out: &mut [u8])
 }
 
 // An accepted kernel's listing, or 14 where the output is shorter.
-fn list_accepted(dictionary: &[u8], kernel: &[u8], out: &mut [u8]) -> Answer
+fn list_accepted(dictionary: &[u8; DICTIONARY_BYTES], kernel: &[u8], out: &mut [u8]) -> Answer
     requires { Listable dictionary.now kernel.now }
     ensures { Wrote (deliver (listing (instrs_in dictionary.now kernel.now)) out.old) result out.new }
 {
@@ -61,9 +61,11 @@ fn list_accepted(dictionary: &[u8], kernel: &[u8], out: &mut [u8]) -> Answer
 pub fn list(dictionary: &[u8], kernel: &[u8], out: &mut [u8]) -> Answer
     ensures { Wrote (list_call dictionary.now kernel.now out.old) result out.new }
 {
+    let Some(dictionary) = dictionary.as_array() else {
+        return Answer::Refused(1, 0);
+    };
     let mut marks = [0u8; PLACES];
-    let said = accept(false, dictionary, kernel, &mut marks);
-    match said {
+    match accept(false, dictionary, kernel, &mut marks) {
         Said::Good(_) => list_accepted(dictionary, kernel, out),
         Said::Bad(number, offset) => Answer::Refused(number, offset),
     }

@@ -1,6 +1,6 @@
 // Reading a text, for all inputs. A refusal leaves the output as it was.
 ghost use Rattle.std.specs.Prelude.{◌≡◌, ◌*◌, ◌≤◌, length};
-ghost use Rattle.paper.specs.Limits.{dictionary_bytes, instruction_limit};
+ghost use Rattle.paper.specs.Limits.{instruction_limit};
 ghost use Rattle.paper.specs.Dictionary.{dictionary_of};
 ghost use Rattle.paper.specs.Listing.{kernel_of, read_listing, read_as, read_call};
 ghost use Rattle.paper.specs.Calls.{deliver};
@@ -17,8 +17,13 @@ use words::answer::Answer;
 use words::limits::{DICTIONARY_BYTES, PLACES};
 
 // The kernel of so many places that a text was read as, or 14 where the output is shorter.
-fn write_read(dictionary: &[u8], text: &[u8], places: u64, out: &mut [u8]) -> Answer
-    requires dictionary_len { (length dictionary.now ≡ dictionary_bytes) × CanRead dictionary.now text.now }
+fn write_read(
+    dictionary: &[u8; DICTIONARY_BYTES],
+    text: &[u8],
+    places: u64,
+    out: &mut [u8],
+) -> Answer
+    requires can_read { CanRead dictionary.now text.now }
     requires places_value { (8 * places ≡ length (kernel_of (dictionary_of dictionary.now) (lines_in dictionary.now text.now))) × (places ≤ 2 * instruction_limit) }
     ensures { Wrote (deliver (kernel_of (dictionary_of dictionary.now) (lines_in dictionary.now text.now)) out.old) result out.new }
 {
@@ -32,13 +37,13 @@ fn write_read(dictionary: &[u8], text: &[u8], places: u64, out: &mut [u8]) -> An
 
 // A text whose lines can be read, with those marks and so many places: 30 if a jump goes astray, else its kernel.
 fn read_lines(
-    dictionary: &[u8],
+    dictionary: &[u8; DICTIONARY_BYTES],
     text: &[u8],
     marks: &[u8; PLACES],
     places: u64,
     out: &mut [u8],
 ) -> Answer
-    requires { (length dictionary.now ≡ dictionary_bytes) × Passed dictionary.now text.now marks.now places }
+    requires { Passed dictionary.now text.now marks.now places }
     ensures { Wrote (read_as (dictionary_of dictionary.now) out.old (read_listing (dictionary_of dictionary.now) text.now)) result out.new }
 {
     match first_astray(dictionary, text, marks) {
@@ -51,9 +56,9 @@ fn read_lines(
 pub fn read(dictionary: &[u8], text: &[u8], out: &mut [u8]) -> Answer
     ensures { Wrote (read_call dictionary.now text.now out.old) result out.new }
 {
-    if dictionary.len() != DICTIONARY_BYTES {
+    let Some(dictionary) = dictionary.as_array() else {
         return Answer::Refused(1, 0);
-    }
+    };
     if !in_range(dictionary) {
         return Answer::Refused(2, 0);
     }

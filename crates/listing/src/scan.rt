@@ -1,14 +1,14 @@
 // The first pass over a text: its instructions, one after the other. Jumps come after it.
-ghost use Rattle.std.specs.Prelude.{◌≡◌, length};
-ghost use Rattle.paper.specs.Limits.{dictionary_bytes, instruction_limit};
+ghost use Rattle.std.specs.Prelude.{◌≡◌};
+ghost use Rattle.paper.specs.Limits.{instruction_limit};
 ghost use Rattle.paper.specs.Dictionary.{dictionary_of};
 ghost use Rattle.paper.specs.Listing.{lines_from};
 ghost use Rattle.table.specs.Entries.{region_table};
 ghost use Rattle.listing.specs.Scanning.{Scans};
 
-use crate::lines::{Lines, lines_at};
+use crate::lines::lines_at;
 use table::regions::FIELDS;
-use words::limits::{INSTRUCTION_LIMIT, PLACES};
+use words::limits::{DICTIONARY_BYTES, INSTRUCTION_LIMIT, PLACES};
 
 // What is said of a text: how many places its kernel has; or the byte at which the first faulty lines begin.
 #[derive(Clone, Copy)]
@@ -21,11 +21,11 @@ pub enum Scanned {
 // none elsewhere; the marks that a faulty text leaves are working storage. The table of what source fields allow is lent.
 pub(crate) fn scan(
     regions: &[u8; FIELDS],
-    dictionary: &[u8],
+    dictionary: &[u8; DICTIONARY_BYTES],
     text: &[u8],
     marks: &mut [u8; PLACES],
 ) -> Scanned
-    requires { (regions.now ≡ region_table) × (length dictionary.now ≡ dictionary_bytes) }
+    requires { regions.now ≡ region_table }
     ensures { Scans (lines_from (dictionary_of dictionary.now) text.now instruction_limit 0 0) result marks.new }
 {
     *marks = [0u8; PLACES];
@@ -37,19 +37,15 @@ pub(crate) fn scan(
             return Scanned::Faulty(from as u64);
         }
         match lines_at(regions, dictionary, text, place, from) {
-            Lines::Nothing => {
-                return Scanned::Faulty(from as u64);
-            }
-            Lines::Instruction(size, _, next) => {
-                let here = place as usize;
-                marks[here] = 1;
+            None => return Scanned::Faulty(from as u64),
+            Some((instruction, next)) => {
+                marks[place as usize] = 1;
                 count += 1;
-                place += size;
+                place += instruction.size;
                 from = next;
             }
         }
     }
-    let end = place as usize;
-    marks[end] = 1;
+    marks[place as usize] = 1;
     Scanned::Whole(place)
 }

@@ -1,6 +1,5 @@
 // Which instructions can be read.
-ghost use Rattle.std.specs.Prelude.{cond, true, ◌≡◌, eqb, length};
-ghost use Rattle.paper.specs.Limits.{dictionary_bytes};
+ghost use Rattle.std.specs.Prelude.{cond, true, ◌≡◌, eqb};
 ghost use Rattle.paper.specs.Dictionary.{dictionary_of};
 ghost use Rattle.paper.specs.Shorten.{shorten};
 ghost use Rattle.paper.specs.Listing.{word_taken, present};
@@ -9,10 +8,11 @@ ghost use Rattle.table.specs.Entries.{region_table};
 ghost use Rattle.listing.specs.Reading.{TakenAs};
 
 use judge::refusal::{judge, number_of};
-use short::shorten::{Shorter, shorten};
+use short::shorten::shorten;
 use table::regions::FIELDS;
 use words::bytes::Word;
 use words::fields::{cmpt_ctrl, operation};
+use words::limits::DICTIONARY_BYTES;
 use words::operation::is_listed;
 
 // The bench takes the word: bit 29 is clear, its operation is listed, and it breaks none of 6 to 11.
@@ -30,27 +30,21 @@ fn word_taken(regions: &[u8; FIELDS], w: Word) -> bool
 }
 
 // It can have its form, that of so many places: to be short there must be a short word for it.
-fn form_taken(dictionary: &[u8], size: u64, w: Word) -> bool
-    requires { length dictionary.now ≡ dictionary_bytes }
+fn form_taken(dictionary: &[u8; DICTIONARY_BYTES], size: u64, w: Word) -> bool
     ensures { result ≡ cond (eqb size 1) (present (shorten (dictionary_of dictionary.now) (to_word w))) true }
 {
-    if size != 1 {
-        return true;
-    }
-    let none = [0u32; 0];
-    match shorten(dictionary, &none, w) {
-        Shorter::Short(_) => true,
-        Shorter::NoShort => false,
-    }
+    size != 1 || shorten(dictionary, None, w).is_some()
 }
 
 // An instruction of so many places with that word can be read, at any place.
-pub(crate) fn is_taken(regions: &[u8; FIELDS], dictionary: &[u8], size: u64, w: Word) -> bool
-    requires { (regions.now ≡ region_table) × (length dictionary.now ≡ dictionary_bytes) }
+pub(crate) fn is_taken(
+    regions: &[u8; FIELDS],
+    dictionary: &[u8; DICTIONARY_BYTES],
+    size: u64,
+    w: Word,
+) -> bool
+    requires { regions.now ≡ region_table }
     ensures { TakenAs (dictionary_of dictionary.now) size (to_word w) result }
 {
-    if !word_taken(regions, w) {
-        return false;
-    }
-    form_taken(dictionary, size, w)
+    word_taken(regions, w) && form_taken(dictionary, size, w)
 }

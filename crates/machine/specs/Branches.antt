@@ -141,46 +141,38 @@ abbrev pub ActsBy : Branch → ℕ → Ways → ℕ → List ℕ → Forked → 
 ActsBy b predicate ways up here r after =
     (st : Store) (cs : List Channel) → Posted up here cs → Acts r after (act_by b (bit predicate) ways st cs)
 
+-- The awake channels of a mask wait where the branch says, and then the kernel goes on, from any channels that the masks tell.
+abbrev pub ParksBy : ℕ → Ways → ℕ → List ℕ → Forked → List ℕ → Type 0
+ParksBy mask ways up here r after =
+    (test : ℕ → Bool) → ((n : ℕ) → n < 16 → bit mask n ≡ test n) → (st : Store) (cs : List Channel) → Posted up here cs
+    → Acts r after (fork ways st (each (λ n. park (test n) ways.wait) 0 cs))
+
 module _ (ways : Ways) (up : ℕ) (here : List ℕ) where
-  -- Those of a mask wait at a place, and then the kernel goes on.
-  pub parks_onward : (mask : ℕ) (test : ℕ → Bool) → ((n : ℕ) → n < 16 → bit mask n ≡ test n) → ways.wait < length here
-      → (r : Forked) (after : List ℕ) → r.awake ≡ without_mask up mask
+  -- As the code makes it.
+  pub parks_onward : (mask : ℕ) → ways.wait < length here → (r : Forked) (after : List ℕ) → r.awake ≡ without_mask up mask
       → after ≡ set here ways.wait (either_mask (get_or here ways.wait 0) (both_mask up mask))
       → r.place ≡ cond (not (eqb (either_mask r.awake (get_or after ways.next 0)) 0)) ways.next ways.jump
-      → (st : Store) (cs : List Channel) → Posted up here cs → Acts r after (fork ways st (each (λ n. park (test n) ways.wait) 0 cs))
-  parks_onward mask test e h r after ea eh ep st cs s =
+      → ParksBy mask ways up here r after
+  parks_onward mask h r after ea eh ep test e st cs s =
       let posted : Posted r.awake after (each (λ n. park (test n) ways.wait) 0 cs) = rw (ea, eh) (posted_park up here cs s mask ways.wait test e h) in
       record { posted = posted; place = ep ∙ sym (posted-onward r.awake after (each (λ n. park (test n) ways.wait) 0 cs) posted ways) }
 
-  pub acts_if : (predicate : ℕ) → predicate < 65536 → ways.wait < length here
-      → (r : Forked) (after : List ℕ) → r.awake ≡ without_mask up (65535 - predicate)
-      → after ≡ set here ways.wait (either_mask (get_or here ways.wait 0) (both_mask up (65535 - predicate)))
-      → r.place ≡ cond (not (eqb (either_mask r.awake (get_or after ways.next 0)) 0)) ways.next ways.jump
-      → ActsBy if predicate ways up here r after
-  unfolding act_by
-  acts_if predicate l h r after ea eh ep =
-      parks_onward (65535 - predicate) (λ n. not (bit predicate n)) (λ n q. bit_not predicate 16 n l q) h r after ea eh ep
+  module _ (predicate : ℕ) (r : Forked) (after : List ℕ) where
+    pub acts_if : predicate < 65536 → ParksBy (65535 - predicate) ways up here r after → ActsBy if predicate ways up here r after
+    unfolding act_by
+    acts_if l parks = parks (λ n. not (bit predicate n)) (λ n q. bit_not predicate 16 n l q)
 
-  pub acts_else : (predicate : ℕ) → ways.wait < length here
-      → (r : Forked) (after : List ℕ) → r.awake ≡ without_mask up 65535
-      → after ≡ set here ways.wait (either_mask (get_or here ways.wait 0) (both_mask up 65535))
-      → r.place ≡ cond (not (eqb (either_mask r.awake (get_or after ways.next 0)) 0)) ways.next ways.jump
-      → ActsBy else predicate ways up here r after
-  unfolding act_by
-  acts_else predicate h r after ea eh ep = parks_onward 65535 (λ _. true) (λ n q. bit-ones 16 n q) h r after ea eh ep
+    pub acts_else : ParksBy 65535 ways up here r after → ActsBy else predicate ways up here r after
+    unfolding act_by
+    acts_else parks = parks (λ _. true) (λ n q. bit-ones 16 n q)
 
-  pub acts_break : (predicate : ℕ) → ways.wait < length here
-      → (r : Forked) (after : List ℕ) → r.awake ≡ without_mask up predicate
-      → after ≡ set here ways.wait (either_mask (get_or here ways.wait 0) (both_mask up predicate))
-      → r.place ≡ cond (not (eqb (either_mask r.awake (get_or after ways.next 0)) 0)) ways.next ways.jump
-      → ActsBy break predicate ways up here r after
-  unfolding act_by
-  acts_break predicate h r after ea eh ep = parks_onward predicate (bit predicate) (λ n q. refl) h r after ea eh ep
+    pub acts_break : ParksBy predicate ways up here r after → ActsBy break predicate ways up here r after
+    unfolding act_by
+    acts_break parks = parks (bit predicate) (λ n q. refl)
 
-  -- cont acts as break does.
-  pub acts_cont : (predicate : ℕ) (r : Forked) (after : List ℕ) → ActsBy break predicate ways up here r after → ActsBy cont predicate ways up here r after
-  unfolding act_by
-  acts_cont predicate r after a = a
+    pub acts_cont : ParksBy predicate ways up here r after → ActsBy cont predicate ways up here r after
+    unfolding act_by
+    acts_cont parks = parks (bit predicate) (λ n q. refl)
 
   -- None waits, and the kernel goes on.
   pub acts_endif : (predicate : ℕ) (r : Forked) → r.awake ≡ up

@@ -32,12 +32,10 @@ pub record Shows (registers addresses here : List ℕ) (s : Stand) (t : State) :
   pub posted : Posted s.awake here t.channels
   pub place : s.place ≡ t.place
 
--- Numbers of 16 bits.
-pub record Sound (here : List ℕ) (s : Stand) : Type 0 where
+-- Flags are numbers of 16 bits.
+pub record Sound (s : Stand) : Type 0 where
   pub flag0 : s.flags.flag0 < 65536
   pub flag1 : s.flags.flag1 < 65536
-  pub awake : s.awake < 65536
-  pub masks : (p : ℕ) → get_or here p 0 < 65536
 
 -- The awake channels are those of the mask.
 posted-awake : (up : ℕ) (here : List ℕ) (cs : List Channel) → Posted up here cs → map is_awake cs ≡ awake_list up

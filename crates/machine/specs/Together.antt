@@ -1,6 +1,6 @@
 -- Masks of channels taken together, as numbers of 16 bits. Assumes nothing.
-use Rattle.std.specs.Prelude.{◌≡◌, not, ◌&&◌, ◌||◌, false, ℕ, ◌-◌, ◌^◌, ◌<◌}
-use Rattle.std.proofs.Common.{◌∙◌, sym, arith, lit<}
+use Rattle.std.specs.Prelude.{◌≡◌, not, ◌&&◌, ◌||◌, false, ℕ, ◌-◌, ◌*◌, ◌%◌, ◌^◌, ◌<◌}
+use Rattle.std.proofs.Common.{◌∙◌, sym, arith, lit<, one-mul, shl_exact}
 use Rattle.std.specs.Int.Bits.{bit_and, bit_or}
 use Rattle.std.proofs.lemmas.Nat.{and_le_l, or_lt}
 use Rattle.paper.specs.Bits.{bit}
@@ -59,6 +59,10 @@ and_without a b h g =
     (omega (arith, and_le_l a (2 ^ 16 - 1 - b)))
     (of_bits_less (λ k. bit a k && not (bit b k)) 16)
     (λ k q. bit_and_lem a (2 ^ 16 - 1 - b) k ∙ rw (bit_not b 16 k g q) (sym (bit-of_bits (λ k. bit a k && not (bit b k)) 16 k q)))
+
+-- The mask of channel n alone has bit n.
+pub one_channel : (n : ℕ) → n < 16 → 1 * 2 ^ n % 2 ^ 16 ≡ 2 ^ n
+one_channel n h = shl_exact {a = 1} 1 n 16 (omega arith) (omega arith) ∙ one-mul (2 ^ n)
 
 -- ---- they have 16 bits
 

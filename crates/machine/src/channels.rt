@@ -3,7 +3,7 @@
 // Which channels are awake, which wait, and where; one that does not wait has place 0.
 #[derive(Clone, Copy)]
 pub struct Channels {
-    pub awake: u64,
-    pub waiting: u64,
+    pub awake: u16,
+    pub waiting: u16,
     pub places: [u64; 16],
 }

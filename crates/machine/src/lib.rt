@@ -5,7 +5,6 @@ pub mod branch;
 pub mod channels;
 mod dispatch;
 pub mod ends;
-pub mod masks;
 pub mod posting;
 pub mod posts;
 pub mod start;

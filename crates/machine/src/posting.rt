@@ -8,20 +8,16 @@ ghost use Rattle.machine.specs.Channels.{channels_is, Sane};
 ghost use Rattle.machine.specs.Posts.{Posted};
 
 use crate::channels::Channels;
-use crate::masks::either;
-use crate::posts::wide;
 use lanes::mask::bit;
 
 // Channel n, if it waits, is put into the mask of its place.
-fn post_one(waiting: u64, place: u64, n: u64, here: &mut [u16])
-    requires { (n < 16) × (bit waiting n ≡ true → (place < length here.old) × (get_or here.old place 0 < 65536)) }
+fn post_one(waiting: u16, place: u64, n: u64, here: &mut [u16])
+    requires { (n < 16) × (bit waiting n ≡ true → place < length here.old) }
     ensures { here.new ≡ cond (bit waiting n) (set here.old place (either_mask (get_or here.old place 0) (2 ^ n))) here.old }
 {
-    if bit(waiting, n) {
+    if bit(u64::from(waiting), n) {
         let i = place as usize;
-        let before = wide(here[i]);
-        here[i] = either(before, 1 << n) as u16;
-        return;
+        here[i] |= 1 << n;
     }
 }
 
@@ -32,66 +28,40 @@ pub(crate) fn post_all(c: Channels, here: &mut [u16])
     ensures { Posted c.awake here.new (channels_is c) × (length here.new ≡ length here.old) }
 {
     let places = c.places;
-    let mut n = 0;
-    while n < 16 {
-        let place = places[n];
-        post_one(c.waiting, place, n as u64, here);
-        n += 1;
+    for n in 0..16 {
+        post_one(c.waiting, places[n], n as u64, here);
     }
 }
 
-// The place of channel n once the channels of a mask have another.
-fn place_after(mask: u64, own: u64, place: u64, n: u64) -> u64
-    requires { n < 16 }
-    ensures { result ≡ cond (bit mask n) place own }
-{
-    if bit(mask, n) {
-        return place;
-    }
-    own
-}
-
-// The channels of a mask have another place.
-fn place_each(mask: u64, place: u64, places: &mut [u64; 16])
-    requires { length places.old ≡ 16 }
-    ensures { Mapped (λ k old new. new ≡ cond (bit mask k) place old) 16 places.old places.new }
-{
-    let mut n = 0;
-    while n < 16 {
-        let own = places[n];
-        places[n] = place_after(mask, own, place, n as u64);
-        n += 1;
-    }
-}
-
-// The same; where the mask has no channel nothing is done.
-fn place_those(mask: u64, place: u64, places: &mut [u64; 16])
-    requires { length places.old ≡ 16 }
+// The channels of a mask have another place. Where the mask has none, as at most places, nothing is done.
+fn place_those(mask: u16, place: u64, places: &mut [u64; 16])
     ensures { Mapped (λ k old new. new ≡ cond (bit mask k) place old) 16 places.old places.new }
 {
     if mask == 0 {
         return;
     }
-    place_each(mask, place, places);
+    for n in 0..16 {
+        if bit(u64::from(mask), n as u64) {
+            places[n] = place;
+        }
+    }
 }
 
 // The channels that the masks tell.
-pub(crate) fn channels_from(up: u64, here: &[u16]) -> Channels
-    requires { (length here.now ≤ 65536) × ((p : ℕ) → get_or here.now p 0 < 65536) }
+pub(crate) fn channels_from(up: u16, here: &[u16]) -> Channels
+    requires { length here.now ≤ 65536 }
     ensures { (cs : List Channel) → Posted up here.now cs → (channels_is result ≡ cs) × Sane result }
 {
     let mut waiting = 0;
-    let mut places = [0u64; 16];
-    let mut p = 0;
-    while p < here.len() {
-        let mask = wide(here[p]);
-        waiting = either(waiting, mask);
+    let mut places = [0; 16];
+    for p in 0..here.len() {
+        let mask = here[p];
+        waiting |= mask;
         place_those(mask, p as u64, &mut places);
-        p += 1;
     }
     Channels {
         awake: up,
-        waiting: waiting,
-        places: places,
+        waiting,
+        places,
     }
 }

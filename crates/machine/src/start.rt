@@ -11,24 +11,22 @@ use crate::state::{State, write_state};
 use lanes::flags::Flags;
 use words::answer::Answer;
 use words::bytes::{Word, write16};
-use words::limits::{ADDRESSES_AT, STATE_LENGTH};
+use words::limits::ADDRESSES_AT;
 
 // The state at a start.
 pub fn started(mask: u16, flag0: u16, flag1: u16) -> State
     ensures { ((registers : List ℕ) → state_is registers (replicate address_bytes 0) result ≡ begun registers flag0 flag1 mask) × SaneState result }
 {
-    let flags = Flags {
-        flag0: flag0 as u64,
-        flag1: flag1 as u64,
-    };
-    let channels = Channels {
-        awake: mask as u64,
-        waiting: 0,
-        places: [0; 16],
-    };
     State {
-        flags: flags,
-        channels: channels,
+        flags: Flags {
+            flag0: u64::from(flag0),
+            flag1: u64::from(flag1),
+        },
+        channels: Channels {
+            awake: mask,
+            waiting: 0,
+            places: [0; 16],
+        },
         place: 0,
     }
 }
@@ -37,10 +35,12 @@ pub fn started(mask: u16, flag0: u16, flag1: u16) -> State
 pub fn start(mask: u16, flag0: u16, flag1: u16, bytes: &mut [u8]) -> Answer
     ensures { Wrote (start_call mask flag0 flag1 bytes.old) result bytes.new }
 {
-    if bytes.len() != STATE_LENGTH {
-        return Answer::Refused(1, 0);
+    match bytes.as_mut_array() {
+        None => Answer::Refused(1, 0),
+        Some(bytes) => {
+            write16(bytes, ADDRESSES_AT, Word { lo: 0, hi: 0 });
+            write_state(bytes, started(mask, flag0, flag1));
+            Answer::Told(0, 0)
+        }
     }
-    write16(bytes, ADDRESSES_AT, Word { lo: 0, hi: 0 });
-    write_state(bytes, started(mask, flag0, flag1));
-    Answer::Told(0, 0)
 }

@@ -1,6 +1,5 @@
 // The state between two steps, and the bytes in which it is lent.
-ghost use Rattle.std.specs.Prelude.{◌≡◌, true, List, ℕ, ◌<◌, length};
-ghost use Rattle.paper.specs.Limits.{state_length};
+ghost use Rattle.std.specs.Prelude.{◌≡◌, true, List, ℕ, ◌<◌};
 ghost use Rattle.paper.specs.State.{waiting_place, one_of_three, channels_in, addresses_in, state_of, all_three, state_bytes};
 ghost use Rattle.lanes.specs.Values.{values};
 ghost use Rattle.machine.specs.Channels.{channels_is, Sane};
@@ -9,7 +8,8 @@ ghost use Rattle.machine.specs.States.{state_is, SaneState, places_put};
 use crate::channels::Channels;
 use lanes::flags::Flags;
 use lanes::mask::bit;
-use words::bytes::{read2, write2};
+use words::bytes::{read2, write};
+use words::limits::STATE_LENGTH;
 
 // Flags, channels, and the place at which the next step is made. Registers are lent beside it, and a0's bytes stay where they are lent.
 #[derive(Clone, Copy)]
@@ -22,83 +22,66 @@ pub struct State {
 // ---- reading
 
 // The sixteen waiting places.
-fn read_places(bytes: &[u8]) -> [u64; 16]
-    requires { length bytes.now ≡ state_length }
+fn read_places(bytes: &[u8; STATE_LENGTH]) -> [u64; 16]
     ensures { (result ≡ values (waiting_place bytes.now) 16) × ((k : ℕ) → k < 16 → waiting_place bytes.now k < 65536) }
 {
-    let mut places = [0u64; 16];
-    let mut n = 0;
-    while n < 16 {
-        let from = 10 + 2 * n;
-        places[n] = read2(bytes, from);
-        n += 1;
+    let mut places = [0; 16];
+    for n in 0..16 {
+        places[n] = read2(bytes, 10 + 2 * n);
     }
     places
 }
 
 // The channels. They are sane if each is one of the three.
-fn read_channels(bytes: &[u8]) -> Channels
-    requires { length bytes.now ≡ state_length }
+fn read_channels(bytes: &[u8; STATE_LENGTH]) -> Channels
     ensures { (channels_is result ≡ channels_in bytes.now 0 16) × (all_three bytes.now 16 ≡ true → Sane result) }
 {
-    let awake = read2(bytes, 6);
-    let waiting = read2(bytes, 8);
-    let places = read_places(bytes);
     Channels {
-        awake: awake,
-        waiting: waiting,
-        places: places,
+        awake: read2(bytes, 6) as u16,
+        waiting: read2(bytes, 8) as u16,
+        places: read_places(bytes),
     }
 }
 
 // The state that the bytes write, with whatever registers. It is sane if each channel is one of the three.
-pub fn read_state(bytes: &[u8]) -> State
-    requires { length bytes.now ≡ state_length }
+pub fn read_state(bytes: &[u8; STATE_LENGTH]) -> State
     ensures { ((registers : List ℕ) → state_is registers (addresses_in bytes.now) result ≡ state_of registers bytes.now)
         × (all_three bytes.now 16 ≡ true → SaneState result) }
 {
     let flag0 = read2(bytes, 0);
     let flag1 = read2(bytes, 2);
     let place = read2(bytes, 4);
-    let channels = read_channels(bytes);
-    let flags = Flags {
-        flag0: flag0,
-        flag1: flag1,
-    };
     State {
-        flags: flags,
-        channels: channels,
-        place: place,
+        flags: Flags { flag0, flag1 },
+        channels: read_channels(bytes),
+        place,
     }
 }
 
 // ---- off, awake or waiting
 
 // Channel n is one of the three: it waits and is not awake, or it does not wait and its place is 0.
-fn one_of_three(bytes: &[u8], n: usize) -> bool
-    requires { (length bytes.now ≡ state_length) × (n < 16) }
+fn one_of_three(bytes: &[u8; STATE_LENGTH], n: usize) -> bool
+    requires { n < 16 }
     ensures { result ≡ one_of_three bytes.now n }
 {
     let awake = read2(bytes, 6);
     let waiting = read2(bytes, 8);
-    let from = 10 + 2 * n;
     if bit(waiting, n as u64) {
-        return !bit(awake, n as u64);
+        !bit(awake, n as u64)
+    } else {
+        read2(bytes, 10 + 2 * n) == 0
     }
-    read2(bytes, from) == 0
 }
 
 // All channels are one of the three.
-pub fn three(bytes: &[u8]) -> bool
-    requires { length bytes.now ≡ state_length }
+pub fn three(bytes: &[u8; STATE_LENGTH]) -> bool
     ensures { result ≡ all_three bytes.now 16 }
 {
-    let mut n = 0;
-    while n < 16 {
+    for n in 0..16 {
         if !one_of_three(bytes, n) {
             return false;
         }
-        n += 1;
     }
     true
 }
@@ -106,31 +89,23 @@ pub fn three(bytes: &[u8]) -> bool
 // ---- writing
 
 // Stores the sixteen waiting places.
-fn write_places(bytes: &mut [u8], places: &[u64; 16])
-    requires { length bytes.old ≡ state_length }
+fn write_places(bytes: &mut [u8; STATE_LENGTH], places: &[u64; 16])
     ensures { bytes.new ≡ places_put bytes.old places.now 16 }
 {
-    let mut n = 0;
-    while n < 16 {
-        let from = 10 + 2 * n;
-        let place = places[n];
-        write2(bytes, from, place);
-        n += 1;
+    for n in 0..16 {
+        write::<2>(bytes, 10 + 2 * n, places[n]);
     }
 }
 
 // Stores a state in its bytes, in front of a0's.
-pub(crate) fn write_state(bytes: &mut [u8], s: State)
-    requires { (length bytes.old ≡ state_length) × Sane s.channels }
+pub(crate) fn write_state(bytes: &mut [u8; STATE_LENGTH], s: State)
+    requires { Sane s.channels }
     ensures { (registers : List ℕ) → bytes.new ≡ state_bytes (state_is registers (addresses_in bytes.old) s) }
 {
-    let flags = s.flags;
-    let channels = s.channels;
-    let places = channels.places;
-    write2(bytes, 0, flags.flag0);
-    write2(bytes, 2, flags.flag1);
-    write2(bytes, 4, s.place);
-    write2(bytes, 6, channels.awake);
-    write2(bytes, 8, channels.waiting);
-    write_places(bytes, &places);
+    write::<2>(bytes, 0, s.flags.flag0);
+    write::<2>(bytes, 2, s.flags.flag1);
+    write::<2>(bytes, 4, s.place);
+    write::<2>(bytes, 6, u64::from(s.channels.awake));
+    write::<2>(bytes, 8, u64::from(s.channels.waiting));
+    write_places(bytes, &s.channels.places);
 }

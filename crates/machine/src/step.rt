@@ -1,6 +1,6 @@
 // One step, at a known instruction.
 ghost use Rattle.std.specs.Prelude.{List, ◌≡◌, ℕ, ◌<◌, length, get_or};
-ghost use Rattle.paper.specs.Limits.{address_bytes, register_bytes};
+ghost use Rattle.paper.specs.Limits.{address_bytes};
 ghost use Rattle.paper.specs.Operation.{mov, plain, operation};
 ghost use Rattle.paper.specs.Machine.{Channel, State, perform, step_at};
 ghost use Rattle.words.specs.Words.{to_word};
@@ -22,13 +22,14 @@ use execute::transfer::transfer;
 use lanes::flags::Flags;
 use words::bytes::Word;
 use words::fields::opcode;
+use words::limits::REGISTER_BYTES;
 use words::operation::{Operation, Plain};
 
 // Where a run stands: the flags, who is awake, and the place of the next step. Registers are lent beside it, a0's bytes, and who waits where.
 #[derive(Clone, Copy)]
 pub struct Stand {
     pub flags: Flags,
-    pub awake: u64,
+    pub awake: u16,
     pub place: u64,
 }
 
@@ -38,41 +39,35 @@ fn perform(
     w: Word,
     ways: Ways,
     flags: Flags,
-    up: u64,
-    registers: &mut [u8],
+    up: u16,
+    registers: &mut [u8; REGISTER_BYTES],
     here: &mut [u16],
 ) -> Stand
-    requires o_value { (operation_is o ≡ operation (to_word w)) × OnRegisters (to_word w) × (length registers.old ≡ register_bytes) }
-    requires flag0_bound { (flags.flag0 < 65536) × (flags.flag1 < 65536) × (up < 65536) × ((p : ℕ) → get_or here.old p 0 < 65536)
-        × Within (length here.old) (ways_is ways) }
+    requires o_value { (operation_is o ≡ operation (to_word w)) × OnRegisters (to_word w) }
+    requires flag0_bound { (flags.flag0 < 65536) × (flags.flag1 < 65536) × Within (length here.old) (ways_is ways) }
     ensures by_index { (addresses : List ℕ) (cs : List Channel) → Posted up here.old cs → Shows registers.new addresses here.new result
         (perform (operation_is o) (to_word w) (ways_is ways) (store_of registers.old flags addresses) cs) }
     ensures flag0_bound_2 { (result.flags.flag0 < 65536) × (result.flags.flag1 < 65536) × (length here.new ≡ length here.old) }
 {
     match o {
         Operation::Makes(p) => {
-            let after = execute(p, w, up, flags, registers);
+            let flags = execute(p, w, u64::from(up), flags, registers);
             Stand {
-                flags: after,
+                flags,
                 awake: up,
                 place: ways.next,
             }
         }
-        Operation::Nop => Stand {
-            flags: flags,
-            awake: up,
-            place: ways.next,
-        },
         Operation::Jumps(b) => {
-            let forked = act(b, voted(w, flags), ways, up, here);
+            let forked = act(b, voted(w, flags) as u16, ways, up, here);
             Stand {
-                flags: flags,
+                flags,
                 awake: forked.awake,
                 place: forked.place,
             }
         }
-        Operation::Unlisted => Stand {
-            flags: flags,
+        Operation::Nop | Operation::Unlisted => Stand {
+            flags,
             awake: up,
             place: ways.next,
         },
@@ -80,24 +75,22 @@ fn perform(
 }
 
 // One step where an accepted word stands whose operands are named directly, none of them a0 or a float; it first wakes the channels that wait there. a0 stays.
-pub fn step_at(w: Word, ways: Ways, s: Stand, registers: &mut [u8], here: &mut [u16]) -> Stand
-    requires on_registers { OnRegisters (to_word w) × (length registers.old ≡ register_bytes) × Within (length here.old) (ways_is ways) }
-    requires sound { Sound here.old s × (s.place < length here.old) }
+pub fn step_at(
+    w: Word,
+    ways: Ways,
+    s: Stand,
+    registers: &mut [u8; REGISTER_BYTES],
+    here: &mut [u16],
+) -> Stand
+    requires on_registers { OnRegisters (to_word w) × Within (length here.old) (ways_is ways) }
+    requires sound { Sound s × (s.place < length here.old) }
     ensures by_index { (addresses : List ℕ) (t : State) → Shows registers.old addresses here.old s t
         → Shows registers.new addresses here.new result (step_at (to_word w) s.place (ways_is ways) t) }
     ensures flag0_bound { (result.flags.flag0 < 65536) × (result.flags.flag1 < 65536) × (length here.new ≡ length here.old) }
 {
-    let flags = s.flags;
     let up = rouse(s.awake, s.place, here);
-    perform(
-        operation_here(opcode(w)),
-        w,
-        ways,
-        flags,
-        up,
-        registers,
-        here,
-    )
+    let o = operation_here(opcode(w));
+    perform(o, w, ways, s.flags, up, registers, here)
 }
 
 // One step where a mov stands of which an operand is a0.
@@ -105,22 +98,21 @@ pub fn move_at(
     w: Word,
     ways: Ways,
     s: Stand,
-    registers: &mut [u8],
+    registers: &mut [u8; REGISTER_BYTES],
     addresses: &mut [u8],
     here: &mut [u16],
 ) -> Stand
-    requires w_value { (operation (to_word w) ≡ plain mov) × Counting mov (to_word w) × (length registers.old ≡ register_bytes) × (length addresses.old ≡ address_bytes) }
-    requires sound { Sound here.old s × (s.place < length here.old) }
+    requires w_value { (operation (to_word w) ≡ plain mov) × Counting mov (to_word w) × (length addresses.old ≡ address_bytes) }
+    requires sound { Sound s × (s.place < length here.old) }
     ensures shows { (t : State) → Shows registers.old addresses.old here.old s t
         → Shows registers.new addresses.new here.new result (step_at (to_word w) s.place (ways_is ways) t) }
     ensures flag0_bound { (result.flags.flag0 < 65536) × (result.flags.flag1 < 65536) × (length here.new ≡ length here.old) }
 {
-    let flags = s.flags;
-    let woken = rouse(s.awake, s.place, here);
-    transfer(w, woken, flags, registers, addresses);
+    let awake = rouse(s.awake, s.place, here);
+    transfer(w, u64::from(awake), s.flags, registers, addresses);
     Stand {
-        flags: flags,
-        awake: woken,
+        flags: s.flags,
+        awake,
         place: ways.next,
     }
 }
@@ -131,21 +123,20 @@ pub fn float_at(
     w: Word,
     ways: Ways,
     s: Stand,
-    registers: &mut [u8],
+    registers: &mut [u8; REGISTER_BYTES],
     here: &mut [u16],
 ) -> Stand
-    requires w_value { (operation (to_word w) ≡ plain (plain_is p)) × Reckoning (plain_is p) (to_word w) × (length registers.old ≡ register_bytes) }
-    requires sound { Sound here.old s × (s.place < length here.old) }
+    requires w_value { (operation (to_word w) ≡ plain (plain_is p)) × Reckoning (plain_is p) (to_word w) }
+    requires sound { Sound s × (s.place < length here.old) }
     ensures by_index { (addresses : List ℕ) (t : State) → Shows registers.old addresses here.old s t
         → Shows registers.new addresses here.new result (step_at (to_word w) s.place (ways_is ways) t) }
     ensures flag0_bound { (result.flags.flag0 < 65536) × (result.flags.flag1 < 65536) × (length here.new ≡ length here.old) }
 {
-    let flags = s.flags;
-    let woken = rouse(s.awake, s.place, here);
-    let after = reckon(p, w, woken, flags, registers);
+    let awake = rouse(s.awake, s.place, here);
+    let flags = reckon(p, w, u64::from(awake), s.flags, registers);
     Stand {
-        flags: after,
-        awake: woken,
+        flags,
+        awake,
         place: ways.next,
     }
 }

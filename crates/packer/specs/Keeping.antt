@@ -1,9 +1,9 @@
 -- The forms of a kernel's instructions, kept by number from one pass to the next. Assumes nothing.
-use Rattle.std.specs.Prelude.{Bool, true, false, List, [], ◌∷◌, ◌≡◌, refl, ℕ, zero, suc, ◌+◌, ◌*◌, ◌/◌, ◌^◌, ◌<◌, ◌≤◌, eqb, length, get_or, set, replicate, take}
+use Rattle.std.specs.Prelude as std
+use Rattle.std.specs.Prelude.{Some, None, unwrap_or, Bool, true, false, List, [], ◌∷◌, ◌≡◌, refl, ℕ, zero, suc, ◌+◌, ◌*◌, ◌/◌, ◌^◌, ◌<◌, ◌≤◌, eqb, length, get_or, set}
 use Rattle.std.proofs.Math.Option.{none, some, some-injective}
 use Rattle.std.proofs.Common.{sym, ap, ◌∙◌, subst, arith, add-one, get_or-set_same, get_or-set_other, eqb-true}
 use Rattle.std.proofs.Math.ListN.{get_elem?}
-use Rattle.std.proofs.Math.Seq.{take-length}
 use Rattle.std.proofs.lemmas.Bool.{eqb-false}
 use Rattle.paper.specs.Limits.{instruction_limit}
 use Rattle.paper.specs.Dictionary.{Dictionary, dictionary_of}
@@ -15,7 +15,7 @@ use Rattle.paper.specs.Packing.{index, Form, Piece, piece}
 use Rattle.laws.specs.Names.{pieces_of}
 use Rattle.laws.specs.Places.{start_zero, index_le}
 use Rattle.laws.specs.Shorten.{shorten-some}
-use Rattle.short.specs.Sets.{set_count, Sets, Serves, Empty}
+use Rattle.short.specs.Shorter.{shorter_is}
 use Rattle.kernel.specs.Standing.{Fetches}
 use Rattle.kernel.specs.Jumps.{instr_of}
 use Rattle.kernel.specs.Accepting.{AcceptedKernel}
@@ -30,35 +30,22 @@ Kept form k shorts n = (j : ℕ) (p : Piece) → j < n → get_elem? (pieces_of 
 abbrev pub AllKept : Form → List Instr → List ℕ → Type 0
 AllKept form k shorts = Kept form k shorts (length k)
 
--- Before words are shortened no set has an index.
-pub empty_start : (n : ℕ) → Empty (replicate n 0) 0
-empty_start n k h = go n k
-  where
-    go : (n k : ℕ) → get_or {A = ℕ} (replicate n 0) k 0 ≡ 0
-    go zero k = refl
-    go (suc n) zero = refl
-    go (suc n) (suc k) = go n k
-
--- No sets serve any dictionary.
-pub none_serves : (D : Dictionary) (sets : List ℕ) → Serves D (take 0 sets)
-none_serves D [] h = absurd (h refl)
-none_serves D (x ∷ sets) h = absurd (h refl)
-
--- All of them serve their own.
-pub all_serve : (D : Dictionary) (sets : List ℕ) → Sets D sets → Serves D (take set_count sets)
-all_serve D sets s h = subst (λ (l : List ℕ). Sets D l) (sym (ap (λ (n : ℕ). take n sets) (sym s.all) ∙ take-length sets)) s
-
 -- ---- a short word is not 0, so 0 can stand for none
 
 module _ (packs : Bool) (on : packs ≡ true) (D : Dictionary) (w : ℕ) where
-  pub form_short : (s : ℕ) → w < 2 ^ 128 → some s ≡ shorten D w → recalled s ≡ form_of packs D w
+  form_short : (s : ℕ) → w < 2 ^ 128 → some s ≡ shorten D w → recalled s ≡ form_of packs D w
   form_short s h e =
       let marked : is_short s ≡ true = (shorten-some D w s h (sym e)).is.marked in
       let some_bit : s ≡ 0 → ⊥ = λ z. (let clear : ◌≡◌ {A = ℕ} 0 1 = ap digit (sym (ap is_short z) ∙ marked) in omega arith) in
       rw on (recalled-some s some_bit ∙ e)
 
-  pub form_none : none ≡ shorten D w → recalled 0 ≡ form_of packs D w
+  form_none : none ≡ shorten D w → recalled 0 ≡ form_of packs D w
   form_none e = rw on e
+
+  -- What the code answers, or 0 in its place.
+  pub form_kept : (o : std.Option ℕ) → w < 2 ^ 128 → shorter_is o ≡ shorten D w → recalled (unwrap_or o 0) ≡ form_of packs D w
+  form_kept (Some s) h e = form_short s h e
+  form_kept None h e = form_none e
 
 -- ---- a pass
 

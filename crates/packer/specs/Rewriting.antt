@@ -1,5 +1,5 @@
 -- What rewriting a word comes to, by the distances that it holds. Assumes nothing.
-use Rattle.std.specs.Prelude.{List, [], ◌∷◌, map, ◌≡◌, ℕ, ◌+◌, get_or}
+use Rattle.std.specs.Prelude.{List, [], ◌∷◌, Option, map, ◌≡◌, ℕ, ◌+◌, get_or}
 use Rattle.std.proofs.Math.Path.{sym, ap}
 use Rattle.std.proofs.Common.{◌∙◌, subst}
 use Rattle.paper.specs.Operation.{operation}
@@ -8,7 +8,6 @@ use Rattle.paper.specs.Packing.{aimed}
 use Rattle.laws.specs.Rename.{AtPlaces}
 use Rattle.laws.specs.Moved.{aim}
 use Rattle.distances.specs.Distances.{told, place_in, place_told}
-use Rattle.distances.specs.declared.distance.Target.{Target}
 use Rattle.kernel.specs.Jumps.{instr_of}
 use Rattle.packer.specs.Stages.{new_places, ReachesAt, Reaches}
 
@@ -17,7 +16,7 @@ abbrev pub old_place : Distance → ℕ → ℕ → ℕ → ℕ
 old_place f w here size = place_of (reach f w here (here + size))
 
 -- It is the one that the code tells.
-pub old_told : (f : Distance) (w here size : ℕ) (t : Target) → t ≡ told (reach f w here (here + size)) → (p : ℕ) → p ≡ place_in t → p ≡ old_place f w here size
+pub old_told : (f : Distance) (w here size : ℕ) (t : Option ℕ) → t ≡ told (reach f w here (here + size)) → (p : ℕ) → p ≡ place_in t → p ≡ old_place f w here size
 old_told f w here size t leads p e = e ∙ ap place_in leads ∙ place_told (reach f w here (here + size))
 
 module _ (news : List ℕ) (w here size to next : ℕ) where

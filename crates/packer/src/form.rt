@@ -1,15 +1,16 @@
 // Which form each word gets.
-ghost use Rattle.std.specs.Prelude.{◌≡◌, ◌<◌, ◌≤◌, length};
-ghost use Rattle.paper.specs.Limits.{dictionary_bytes};
+ghost use Rattle.std.specs.Prelude.{◌≡◌, ◌<◌, ◌≤◌};
+ghost use Rattle.std.specs.Option.{option_copied};
 ghost use Rattle.paper.specs.Dictionary.{dictionary_of};
 ghost use Rattle.paper.specs.Packing.{places_taken};
 ghost use Rattle.short.specs.Sets.{Serves};
 ghost use Rattle.words.specs.Words.{to_word};
 ghost use Rattle.packer.specs.Forms.{form_of, recalled};
 
-use short::shorten::{Shorter, shorten};
+use short::sets::IndexSets;
+use short::shorten::shorten;
 use words::bytes::Word;
-use words::limits::INSTRUCTION_LIMIT;
+use words::limits::{DICTIONARY_BYTES, INSTRUCTION_LIMIT};
 
 // Where a parameter `packs` is true, words are shortened, by the dictionary's sets if there are any; else all are long.
 
@@ -17,26 +18,24 @@ use words::limits::INSTRUCTION_LIMIT;
 pub(crate) const SHORTS: usize = INSTRUCTION_LIMIT as usize;
 
 // The short word that w becomes, or 0 where it stays long.
-pub(crate) fn form(packs: bool, dictionary: &[u8], sets: &[u32], w: Word) -> u64
-    requires { (length dictionary.now ≡ dictionary_bytes) × Serves (dictionary_of dictionary.now) sets.now }
+pub(crate) fn form(
+    packs: bool,
+    dictionary: &[u8; DICTIONARY_BYTES],
+    sets: Option<&IndexSets>,
+    w: Word,
+) -> u64
+    requires { Serves (dictionary_of dictionary.now) (option_copied sets) }
     ensures { recalled result ≡ form_of packs (dictionary_of dictionary.now) (to_word w) }
 {
     if !packs {
         return 0;
     }
-    let a = shorten(dictionary, sets, w);
-    match a {
-        Shorter::Short(s) => s,
-        Shorter::NoShort => 0,
-    }
+    shorten(dictionary, sets, w).unwrap_or(0)
 }
 
 // The places that a word takes in its form.
 pub(crate) fn places_taken(short: u64) -> u64
     ensures { (result ≡ places_taken (recalled short)) × (0 < result) × (result ≤ 2) }
 {
-    if short == 0 {
-        return 2;
-    }
-    1
+    if short == 0 { 2 } else { 1 }
 }

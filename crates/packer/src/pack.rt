@@ -1,9 +1,7 @@
 // Packing and unpacking, for all inputs. A refusal leaves the output as it was.
-ghost use Rattle.std.specs.Prelude.{◌≡◌, ◌≤◌, length, take};
-ghost use Rattle.paper.specs.Limits.{dictionary_bytes};
 ghost use Rattle.paper.specs.Dictionary.{dictionary_of};
 ghost use Rattle.paper.specs.Calls.{deliver, accepted, relaid, pack_call, unpack_call};
-ghost use Rattle.short.specs.Sets.{set_count, Serves, Empty};
+ghost use Rattle.short.specs.Sets.{Serves};
 ghost use Rattle.words.specs.Answer.{Wrote};
 ghost use Rattle.kernel.specs.Judging.{forms_is};
 ghost use Rattle.packer.specs.Forms.{form_of, Taken, result_of};
@@ -13,41 +11,40 @@ use crate::place::place_all;
 use crate::write::write_all;
 use kernel::accept::accept;
 use kernel::walk::Said;
-use short::sets::{SETS, gather_all};
+use short::sets::{IndexSets, gather_all};
 use words::answer::Answer;
-use words::limits::PLACES;
+use words::limits::{DICTIONARY_BYTES, PLACES};
 
 // A kernel of so many bytes or more is worth gathering sets for; in a shorter one numbers are walked.
 const WORTH_SETS: usize = 128;
 
-// How many sets there are to shorten words by: all, or none where words are few or not shortened.
-fn sets_for(packs: bool, dictionary: &[u8], kernel: &[u8], sets: &mut [u32; SETS]) -> usize
-    requires { (length dictionary.now ≡ dictionary_bytes) × (length sets.old ≡ set_count) × Empty sets.old 0 }
-    ensures { (length sets.new ≡ set_count) × (result ≤ set_count) × Serves (dictionary_of dictionary.now) (take result sets.new) }
+// The sets to shorten words by, or none where words are few or not shortened.
+fn sets_for(packs: bool, dictionary: &[u8; DICTIONARY_BYTES], kernel: &[u8]) -> Option<IndexSets>
+    ensures { Serves (dictionary_of dictionary.now) result }
 {
-    if !packs {
-        return 0;
+    if packs && WORTH_SETS <= kernel.len() {
+        return Some(gather_all(dictionary));
     }
-    if kernel.len() < WORTH_SETS {
-        return 0;
-    }
-    gather_all(dictionary, sets);
-    SETS
+    None
 }
 
 // An accepted kernel laid out anew, in the output's first bytes; 14 where it is shorter.
-fn lay_out(packs: bool, dictionary: &[u8], kernel: &[u8], out: &mut [u8]) -> Answer
+fn lay_out(
+    packs: bool,
+    dictionary: &[u8; DICTIONARY_BYTES],
+    kernel: &[u8],
+    out: &mut [u8],
+) -> Answer
     requires { Taken packs dictionary.now kernel.now }
     ensures { Wrote (deliver (result_of packs dictionary.now kernel.now) out.old) result out.new }
 {
-    let mut sets = [0u32; SETS];
-    let count = sets_for(packs, dictionary, kernel, &mut sets);
+    let sets = sets_for(packs, dictionary, kernel);
     let mut shorts = [0u64; SHORTS];
     let mut places = [0u16; PLACES];
     let end = place_all(
         packs,
         dictionary,
-        &sets[0..count],
+        sets.as_ref(),
         kernel,
         &mut shorts,
         &mut places,
@@ -65,9 +62,11 @@ fn relay(packs: bool, dictionary: &[u8], kernel: &[u8], out: &mut [u8]) -> Answe
     ensures { Wrote (relaid (form_of packs (dictionary_of dictionary.now)) out.old
         (accepted (forms_is packs) dictionary.now kernel.now)) result out.new }
 {
+    let Some(dictionary) = dictionary.as_array() else {
+        return Answer::Refused(1, 0);
+    };
     let mut marks = [0u8; PLACES];
-    let said = accept(packs, dictionary, kernel, &mut marks);
-    match said {
+    match accept(packs, dictionary, kernel, &mut marks) {
         Said::Good(_) => lay_out(packs, dictionary, kernel, out),
         Said::Bad(number, offset) => Answer::Refused(number, offset),
     }

@@ -1,5 +1,6 @@
 // The first pass: which form each instruction gets, and where it comes to stand.
 ghost use Rattle.std.specs.Prelude.{◌≡◌, length};
+ghost use Rattle.std.specs.Option.{option_copied};
 ghost use Rattle.paper.specs.Limits.{instruction_limit};
 ghost use Rattle.paper.specs.Dictionary.{dictionary_of};
 ghost use Rattle.short.specs.Sets.{Serves};
@@ -10,19 +11,20 @@ ghost use Rattle.packer.specs.Keeping.{AllKept};
 
 use crate::form::{SHORTS, form, places_taken};
 use kernel::fetch::word_at;
-use words::limits::PLACES;
+use short::sets::IndexSets;
+use words::limits::{DICTIONARY_BYTES, PLACES};
 
 // Stores each instruction's short word by its number, 0 where it stays long; at each place at which an instruction starts, the place at which it comes to
 // stand; and at the end's place the new end, which is answered.
 pub(crate) fn place_all(
     packs: bool,
-    dictionary: &[u8],
-    sets: &[u32],
+    dictionary: &[u8; DICTIONARY_BYTES],
+    sets: Option<&IndexSets>,
     kernel: &[u8],
     shorts: &mut [u64; SHORTS],
     places: &mut [u16; PLACES],
 ) -> u64
-    requires taken { Taken packs dictionary.now kernel.now × Serves (dictionary_of dictionary.now) sets.now }
+    requires taken { Taken packs dictionary.now kernel.now × Serves (dictionary_of dictionary.now) (option_copied sets) }
     requires shorts_len { (length shorts.old ≡ instruction_limit) × (length places.old ≡ place_count) }
     ensures value { result ≡ result_end packs dictionary.now kernel.now }
     ensures placed { Placed (form_of packs (dictionary_of dictionary.now)) (kernel_of packs dictionary.now kernel.now)

@@ -15,10 +15,10 @@ ghost use Rattle.packer.specs.Keeping.{AllKept};
 
 use crate::form::{SHORTS, places_taken};
 use distances::branch::{Distances, distances_in};
-use distances::distance::{Distance, aim, place_of, reach};
+use distances::distance::{Distance, aim, reach};
 use kernel::fetch::word_at;
-use words::bytes::{Word, write8, write16};
-use words::limits::PLACES;
+use words::bytes::{Word, write, write16};
+use words::limits::{DICTIONARY_BYTES, PLACES};
 
 // Stores a word in its form from byte `from` on.
 fn write_word(short: u64, w: Word, out: &mut [u8], from: usize)
@@ -29,7 +29,7 @@ fn write_word(short: u64, w: Word, out: &mut [u8], from: usize)
     if short == 0 {
         write16(out, from, w);
     } else {
-        write8(out, from, short);
+        write::<8>(out, from, short);
     }
 }
 
@@ -38,7 +38,7 @@ fn new_place(places: &[u16; PLACES], d: Distance, w: Word, here: u64, size: u64)
     requires { (here < place_count) × (size ≤ 2) × ReachesAt places.now (old_place (distance_is d) (to_word w) here size) }
     ensures { (result ≡ get_or places.now (old_place (distance_is d) (to_word w) here size) 0) × (result < place_count) }
 {
-    let old = place_of(reach(d, w, here, here + size)) as usize;
+    let old = reach(d, w, here, here + size).unwrap_or(0) as usize;
     places[old] as u64
 }
 
@@ -62,7 +62,7 @@ pub fn rewrite(places: &[u16; PLACES], w: Word, here: u64, size: u64, to: u64, n
 // The kernel's instructions, in the forms that were kept, as the output's first bytes.
 pub(crate) fn write_all(
     packs: bool,
-    dictionary: &[u8],
+    dictionary: &[u8; DICTIONARY_BYTES],
     kernel: &[u8],
     shorts: &[u64; SHORTS],
     places: &[u16; PLACES],

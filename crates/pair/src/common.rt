@@ -9,7 +9,7 @@ ghost use Rattle.packer.specs.Stages.{Placed};
 use kernel::fetch::word_at;
 use packer::write::rewrite;
 use words::bytes::{Word, read16};
-use words::limits::PLACES;
+use words::limits::{DICTIONARY_BYTES, PLACES};
 
 // Two words are the same, bit by bit.
 fn same_word(v: Word, w: Word) -> bool
@@ -23,7 +23,12 @@ fn same_word(v: Word, w: Word) -> bool
 
 // One pass over both: each word of the sent kernel is written as it stands where every word is long, and then it must be the long kernel's word. `places` says
 // where the sent kernel's instructions come to stand so.
-pub(crate) fn common(dictionary: &[u8], long: &[u8], sent: &[u8], places: &[u16; PLACES]) -> u64
+pub(crate) fn common(
+    dictionary: &[u8; DICTIONARY_BYTES],
+    long: &[u8],
+    sent: &[u8],
+    places: &[u16; PLACES],
+) -> u64
     requires taken { Taken true dictionary.now long.now × Taken false dictionary.now sent.now }
     requires placed { Placed long_form (kernel_of false dictionary.now sent.now) places.now }
     ensures { result ≡ agreed (program (kernel_of true dictionary.now long.now)) (program (kernel_of false dictionary.now sent.now)) }

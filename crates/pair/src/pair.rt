@@ -10,11 +10,17 @@ use crate::place::place_long;
 use kernel::accept::accept;
 use kernel::walk::Said;
 use words::answer::Answer;
-use words::limits::PLACES;
+use words::limits::{DICTIONARY_BYTES, PLACES};
 
 // Two accepted kernels, the long one with `ours` instructions and the sent one with `theirs`: 0 if they are the same program, else 31 with how many they have in
 // common. The count is the length of what is to be loaded.
-fn compare(dictionary: &[u8], long: &[u8], sent: &[u8], ours: u64, theirs: u64) -> Answer
+fn compare(
+    dictionary: &[u8; DICTIONARY_BYTES],
+    long: &[u8],
+    sent: &[u8],
+    ours: u64,
+    theirs: u64,
+) -> Answer
     requires taken { Taken true dictionary.now long.now × Taken false dictionary.now sent.now }
     requires ours_value { (ours ≡ length (kernel_of true dictionary.now long.now)) × (theirs ≡ length (kernel_of false dictionary.now sent.now)) }
     ensures { answer_is result ≡ compared_as long.now sent.now (kernel_of true dictionary.now long.now)
@@ -33,7 +39,7 @@ fn compare(dictionary: &[u8], long: &[u8], sent: &[u8], ours: u64, theirs: u64) 
 }
 
 // The long kernel has passed, with `ours` instructions: the sent one's refusal, or the comparison.
-fn with_sent(dictionary: &[u8], long: &[u8], sent: &[u8], ours: u64) -> Answer
+fn with_sent(dictionary: &[u8; DICTIONARY_BYTES], long: &[u8], sent: &[u8], ours: u64) -> Answer
     requires { Taken true dictionary.now long.now × (ours ≡ length (kernel_of true dictionary.now long.now)) }
     ensures { answer_is result ≡ paired_as long.now sent.now (good (kernel_of true dictionary.now long.now))
         (accepted long_and_short dictionary.now sent.now) }
@@ -49,6 +55,9 @@ fn with_sent(dictionary: &[u8], long: &[u8], sent: &[u8], ours: u64) -> Answer
 pub fn pair(dictionary: &[u8], long: &[u8], sent: &[u8]) -> Answer
     ensures { answer_is result ≡ pair_call dictionary.now long.now sent.now }
 {
+    let Some(dictionary) = dictionary.as_array() else {
+        return Answer::Refused(1, 0);
+    };
     let mut marks = [0u8; PLACES];
     match accept(true, dictionary, long, &mut marks) {
         Said::Good(ours) => with_sent(dictionary, long, sent, ours),

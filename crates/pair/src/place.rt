@@ -6,10 +6,14 @@ ghost use Rattle.packer.specs.Forms.{kernel_of, Taken};
 ghost use Rattle.packer.specs.Stages.{Placed};
 
 use kernel::fetch::word_at;
-use words::limits::PLACES;
+use words::limits::{DICTIONARY_BYTES, PLACES};
 
 // Stores at each place at which an instruction starts, and at the end's, the place at which it comes to stand: twice the instruction's number.
-pub(crate) fn place_long(dictionary: &[u8], kernel: &[u8], places: &mut [u16; PLACES])
+pub(crate) fn place_long(
+    dictionary: &[u8; DICTIONARY_BYTES],
+    kernel: &[u8],
+    places: &mut [u16; PLACES],
+)
     requires taken { Taken false dictionary.now kernel.now }
     requires places_len { length places.old ≡ place_count }
     ensures { Placed long_form (kernel_of false dictionary.now kernel.now) places.new }

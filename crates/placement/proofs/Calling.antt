@@ -1,16 +1,13 @@
 -- What the call of an order answers, case by case. Assumes nothing.
-use mathlib.Core.List.{List, ◌++◌, append_assoc}
+use mathlib.Core.List.{List, ◌++◌}
 use mathlib.Core.Path.{◌≡◌, refl, sym, ap, ◌∙◌}
-use Prim.Native.Nat.{ℕ, ◌+◌, ◌≤◌, ◌<◌}
-use native.Mathlib.Omega.{arith}
-use lib.ListN.{length, take, drop}
-use lib.Seq.{sets, sets-eq}
+use Prim.Native.Nat.{ℕ, ◌≤◌, ◌<◌}
+use Rattle.std.proofs.Common.{length, take, drop, drop-drop}
 use borrow.Author.Tests.{lt-ltb, le-ltb, eq-eqb, ne_eqb}
-use Rattle.paper.specs.Bits.{bytes_of}
 use Rattle.paper.specs.Limits.{register_bytes}
 use Rattle.paper.specs.Calls.{Answer, verdict, refusal, Written, kept, deliver}
-use Rattle.paper.specs.Placing.{record_bytes, Placement, Point, placement_of, point_bytes, answered, order_of, place_kernel, loaded_with, place_call, place_kernel_call, place_load_call}
-use Rattle.paper.specs.Assembler.{to, from0, from1, op, long}
+use Rattle.paper.specs.Placing.{record_bytes, Placement, Point, placement_of, point_bytes, answered, order_of, loaded_with, place_call, place_load_call}
+use Rattle.paper.specs.Assembler.{to}
 
 -- A call that is refused so gives this answer and leaves its output.
 pub as_written : (answer : Answer) (output : List ℕ) (w : Written) → w ≡ kept answer output → (answer ≡ w.answer) × (output ≡ w.output)
@@ -32,35 +29,13 @@ module _ (order : ℕ) (bytes : List ℕ) (at : Point) (out : List ℕ) where
   pub place_answer : length bytes ≡ record_bytes → order < 3
       → (p : Placement) → p ≡ placement_of bytes
       → (to : Point) → to ≡ answered (order_of order p) at
-      → (both : ℕ) → bytes_of 8 both ≡ point_bytes to
-      → place_call order bytes at out ≡ deliver (bytes_of 8 both) out
+      → (told : List ℕ) → told ≡ point_bytes to
+      → place_call order bytes at out ≡ deliver told out
   unfolding place_call
-  place_answer h k p ep to et both eb =
+  place_answer h k p ep to et told e =
       rw (eq-eqb (length bytes) record_bytes h, lt-ltb order 3 k)
       (ap (λ (l : List ℕ). deliver l out)
-      (ap (λ (q : Placement). point_bytes (answered (order_of order q) at)) (sym ep) ∙ ap point_bytes (sym et) ∙ sym eb))
-
--- ---- the fixed kernel
-
-kernel_length : length place_kernel ≡ 128
-unfolding place_kernel long op to from0 from1 bytes_of
-kernel_length = refl
-
-module _ (out : List ℕ) where
-  pub kernel_refused : length out < 128 → place_kernel_call out ≡ kept (refusal 14 0) out
-  unfolding place_kernel_call deliver
-  kernel_refused h = rw (lt-ltb (length out) (length place_kernel) (omega (arith, kernel_length)))
-
-  pub kernel_given : (kernel after : List ℕ) (end : ℕ) → 128 ≤ length out → kernel ≡ place_kernel → end ≡ 0 + length kernel → after ≡ sets out 0 kernel
-      → (verdict 0 end ≡ (place_kernel_call out).answer) × (after ≡ (place_kernel_call out).output)
-  unfolding place_kernel_call deliver
-  kernel_given kernel after end h ek ee ea =
-      let n : end ≡ length place_kernel = omega (arith, ee, ap length ek) in
-      rw (le-ltb (length out) (length place_kernel) (omega (arith, kernel_length))) (
-        ap (verdict 0) n,
-        ea ∙ ap (sets out 0) ek ∙ sets-eq place_kernel out 0 (omega (arith, kernel_length))
-            ∙ ap (λ (n : ℕ). place_kernel ++ drop n out) (let e : 0 + length place_kernel ≡ length place_kernel = omega arith in e),
-      )
+      (ap (λ (q : Placement). point_bytes (answered (order_of order q) at)) (sym ep) ∙ ap point_bytes (sym et) ∙ sym e))
 
 -- ---- loading
 
@@ -73,12 +48,9 @@ module _ (bytes registers : List ℕ) where
   unfolding place_load_call
   load_elsewhere h k = rw (eq-eqb (length bytes) record_bytes h, ne_eqb (length registers) register_bytes k)
 
-  pub load_done : (after : List ℕ) → length bytes ≡ record_bytes → length registers ≡ register_bytes → after ≡ sets registers 192 bytes
+  pub load_done : (after : List ℕ) → length bytes ≡ record_bytes → length registers ≡ register_bytes → after ≡ take 192 registers ++ (bytes ++ drop 24 (drop 192 registers))
       → (verdict 0 0 ≡ (place_load_call bytes registers).answer) × (after ≡ (place_load_call bytes registers).output)
   unfolding place_load_call loaded_with
   load_done after h k ea =
-      rw (eq-eqb (length bytes) record_bytes h, eq-eqb (length registers) register_bytes k) (
-        refl,
-        ea ∙ sets-eq bytes registers 192 (omega arith) ∙ append_assoc (take 192 registers) bytes (drop (192 + length bytes) registers)
-            ∙ ap (λ (n : ℕ). take 192 registers ++ (bytes ++ drop n registers)) (let e : 192 + length bytes ≡ 216 = omega arith in e),
-      )
+      rw (eq-eqb (length bytes) record_bytes h, eq-eqb (length registers) register_bytes k)
+      (refl, ea ∙ ap (λ (r : List ℕ). take 192 registers ++ (bytes ++ r)) (drop-drop 24 192 registers))

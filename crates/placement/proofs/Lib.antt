@@ -1,4 +1,2 @@
 mod Calling
-mod Joined
-mod Sixed
 mod SameBits

@@ -1,6 +1,6 @@
 // The calls on bytes: an order's answer, the fixed kernel, and a record loaded for it. A refusal leaves what is lent as it was.
 ghost use Rattle.std.specs.Prelude.{◌≡◌, ◌+◌, ◌≤◌, length};
-ghost use Rattle.paper.specs.Bits.{bytes_of, number_at};
+ghost use Rattle.paper.specs.Bits.{number_at};
 ghost use Rattle.paper.specs.Placing.{record_bytes, placement_of, point_bytes, place_kernel, place_call, place_kernel_call, place_load_call};
 ghost use Rattle.words.specs.Answer.{Wrote};
 ghost use Rattle.placement.specs.Spots.{record_is, spot_is, point_at, loaded_from, six_bytes};
@@ -8,15 +8,17 @@ ghost use Rattle.placement.specs.Spots.{record_is, spot_is, point_at, loaded_fro
 use crate::Placement;
 use crate::fixed::KERNEL;
 use crate::patterns::{Record, Spot, answer_spot, load};
-use numbers::write4;
-use short::calls::deliver8;
-use text::write::put_text;
+use numbers::write;
+use short::calls::deliver;
 use words::answer::Answer;
 use words::bytes::read4;
 use words::limits::REGISTER_BYTES;
 
 // How many bytes a record has.
 pub const RECORD_BYTES: usize = 24;
+
+// The byte of the registers at which r6 begins.
+const R6: usize = 192;
 
 // The float at a byte of a record.
 fn float_at(bytes: &[u8], from: usize) -> u32
@@ -40,11 +42,14 @@ fn record_of(bytes: &[u8]) -> Record
     Record { a, b, c, d, e, f }
 }
 
-// Two patterns as one number, whose bytes are theirs.
-fn joined(x: u32, y: u32) -> u64
-    ensures { bytes_of 8 result ≡ point_bytes (point_at x y) }
+// The bytes of a point's two patterns.
+fn point_bytes(at: Spot) -> [u8; 8]
+    ensures { result ≡ point_bytes (spot_is at) }
 {
-    x as u64 + 4294967296 * (y as u64)
+    let mut bytes = [0u8; 8];
+    write::<4>(&mut bytes, 0, u64::from(at.x));
+    write::<4>(&mut bytes, 4, u64::from(at.y));
+    bytes
 }
 
 // Answers an order: the bytes of two patterns.
@@ -57,10 +62,8 @@ pub fn place(order: u64, bytes: &[u8], x: u32, y: u32, out: &mut [u8]) -> Answer
     if order >= 3 {
         return Answer::Refused(7, 0);
     }
-    let k = record_of(bytes);
-    let r = answer_spot(order, k, Spot { x, y });
-    let both = joined(r.x, r.y);
-    deliver8(out, both)
+    let answered = answer_spot(order, record_of(bytes), Spot { x, y });
+    deliver(out, &point_bytes(answered))
 }
 
 // The fixed kernel.
@@ -74,39 +77,31 @@ fn kernel_bytes() -> [u8; 128]
 pub fn place_kernel(out: &mut [u8]) -> Answer
     ensures { Wrote (place_kernel_call out.old) result out.new }
 {
-    if out.len() < 128 {
-        return Answer::Refused(14, 0);
-    }
-    let kernel = kernel_bytes();
-    let end = put_text(out, 0, &kernel);
-    Answer::Told(0, end as u64)
+    deliver(out, &kernel_bytes())
 }
 
 // Puts a record where the fixed kernel finds it, in r6 from its first byte.
 pub fn place_load(bytes: &[u8], registers: &mut [u8]) -> Answer
     ensures { Wrote (place_load_call bytes.now registers.old) result registers.new }
 {
-    if bytes.len() != RECORD_BYTES {
+    if bytes.len() != RECORD_BYTES || registers.len() != REGISTER_BYTES {
         return Answer::Refused(1, 0);
     }
-    if registers.len() != REGISTER_BYTES {
-        return Answer::Refused(1, 0);
-    }
-    put_text(registers, 192, bytes);
+    registers[R6..R6 + RECORD_BYTES].copy_from_slice(bytes);
     Answer::Told(0, 0)
 }
 
 // The bytes of a record's six patterns.
-fn bytes_of(k: Record) -> [u8; 24]
+fn bytes_of(k: Record) -> [u8; RECORD_BYTES]
     ensures { result ≡ six_bytes k }
 {
-    let mut bytes = [0u8; 24];
-    write4(&mut bytes, 0, k.a as u64);
-    write4(&mut bytes, 4, k.b as u64);
-    write4(&mut bytes, 8, k.c as u64);
-    write4(&mut bytes, 12, k.d as u64);
-    write4(&mut bytes, 16, k.e as u64);
-    write4(&mut bytes, 20, k.f as u64);
+    let mut bytes = [0u8; RECORD_BYTES];
+    write::<4>(&mut bytes, 0, u64::from(k.a));
+    write::<4>(&mut bytes, 4, u64::from(k.b));
+    write::<4>(&mut bytes, 8, u64::from(k.c));
+    write::<4>(&mut bytes, 12, u64::from(k.d));
+    write::<4>(&mut bytes, 16, u64::from(k.e));
+    write::<4>(&mut bytes, 20, u64::from(k.f));
     bytes
 }
 
@@ -114,7 +109,5 @@ fn bytes_of(k: Record) -> [u8; 24]
 pub fn load_placement(p: Placement, registers: &mut [u8]) -> Answer
     ensures { Wrote (place_load_call (six_bytes (loaded_from p)) registers.old) result registers.new }
 {
-    let k = load(p);
-    let bytes = bytes_of(k);
-    place_load(&bytes, registers)
+    place_load(&bytes_of(load(p)), registers)
 }

@@ -1,2 +1,3 @@
 -- What the proofs of more than one function cite.
+pub mod Numbers
 pub mod Reading

@@ -1,4 +1,5 @@
--- What the rows' bytes hold, and what their text means.
+-- What the rows' bytes hold, what their text means, and how they come out.
 pub mod Room
 pub mod Text
+pub mod Outcomes
 pub mod Sizes

@@ -1,5 +1,5 @@
 -- Numbers in bytes at any place, also where there is no room. Assumes nothing.
-use Rattle.std.specs.Prelude.{◌≡◌, ℕ, ◌+◌, ◌-◌, ◌<◌, ◌≤◌, Bool, true, false, cond, List, length, nat_le, refl}
+use Rattle.std.specs.Prelude.{◌≡◌, ℕ, ◌+◌, ◌-◌, ◌<◌, ◌≤◌, Bool, true, false, cond, List, length, nat_le, refl, Option, None, Some}
 use Rattle.std.proofs.Math.Path.{sym}
 use Rattle.std.proofs.Common.{◌∙◌, arith}
 use borrow.Author.Tests.{leb-true, leb-false, le-leb, lt-leb}
@@ -9,9 +9,9 @@ use Rattle.paper.specs.Bits.{number_at, put_at}
 unfoldable pub room : List ℕ → ℕ → ℕ → Bool
 room bytes at size = nat_le (at + size) (length bytes)
 
--- The number of the `size` bytes from `at` on; 2^32 where they are not all there.
-unfoldable pub number_in : List ℕ → ℕ → ℕ → ℕ
-number_in bytes at size = cond (room bytes at size) (number_at bytes at size) 4294967296
+-- The number of the `size` bytes from `at` on; none where they are not all there.
+unfoldable pub number_in : List ℕ → ℕ → ℕ → Option ℕ
+number_in bytes at size = cond (room bytes at size) (Some (number_at bytes at size)) None
 
 -- The bytes with the number v in the `size` bytes from `at` on; unchanged where they are not all there.
 unfoldable pub put_in : List ℕ → ℕ → ℕ → ℕ → List ℕ
@@ -38,11 +38,11 @@ module _ (bytes : List ℕ) (at size : ℕ) (t : Bool) (test : t ≡ room bytes 
   unfolding room
   all_there e = leb-true (at + size) (length bytes) (sym test ∙ e)
 
-  pub read_there : t ≡ true → (v : ℕ) → v ≡ number_at bytes at size → v ≡ number_in bytes at size
+  pub read_there : t ≡ true → (v : ℕ) → v ≡ number_at bytes at size → Some v ≡ number_in bytes at size
   unfolding number_in
-  read_there e v h = rw (sym test ∙ e) h
+  read_there e v h = rw (sym test ∙ e, h)
 
-  pub read_none : t ≡ false → 4294967296 ≡ number_in bytes at size
+  pub read_none : t ≡ false → None ≡ number_in bytes at size
   unfolding number_in
   read_none e = rw (sym test ∙ e)
 

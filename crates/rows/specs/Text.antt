@@ -1,19 +1,20 @@
 -- What the text of a row means. Assumes nothing.
-use Rattle.std.specs.Prelude.{ℕ, ◌+◌, ◌-◌, ◌*◌, cond, List, [], ◌∷◌, ◌==◌, nat_le, nat_lt, slice_index}
+use Rattle.std.specs.Prelude.{ℕ, ◌+◌, ◌-◌, ◌*◌, cond, List, [], ◌∷◌, nat_le, nat_lt, Option, None, Some, unwrap_or}
 
--- The digit that a byte writes, 0 to 9 or a to f; 16 for any other byte.
-unfoldable pub digit_of : ℕ → ℕ
-digit_of b = cond (nat_lt b 48) 16 (cond (nat_lt b 58) (b - 48) (cond (nat_lt b 97) 16 (cond (nat_lt b 103) (b - 87) 16)))
+-- The digit that a byte writes, 0 to 9 or a to f.
+unfoldable pub digit_of : ℕ → Option ℕ
+digit_of b = cond (nat_lt b 48) None (cond (nat_lt b 58) (Some (b - 48)) (cond (nat_lt b 97) None (cond (nat_lt b 103) (Some (b - 87)) None)))
 
--- What a field that is no number of 32 bits counts as.
-abbrev pub no_number : ℕ
-no_number = 4294967296
+-- A digit more of a number, which counts as 0 before its first digit; and how it goes on. None where that is no digit, or the number has more than 32 bits.
+unfoldable pub digit_more : Option ℕ → Option ℕ → (ℕ → Option ℕ) → Option ℕ
+digit_more number None rest = None
+digit_more number (Some d) rest = cond (nat_le 268435456 (unwrap_or number 0)) None (rest (unwrap_or number 0 * 16 + d))
 
--- The number that a field writes after v, the highest digit first. A byte that is at most 32 ends the field.
-unfoldable pub hex_from : ℕ → List ℕ → ℕ
-hex_from v [] = v
-hex_from v (b ∷ bs) = cond (nat_le b 32) v (cond (digit_of b == 16) no_number (cond (nat_le 268435456 v) no_number (hex_from (v * 16 + digit_of b) bs)))
+-- The number that a field writes after what is read of it, the highest digit first. A byte that is at most 32 ends the field.
+unfoldable pub hex_from : Option ℕ → List ℕ → Option ℕ
+hex_from number [] = number
+hex_from number (b ∷ bs) = cond (nat_le b 32) number (digit_more number (digit_of b) (λ v. hex_from (Some v) bs))
 
 -- The number that the field at the text's start writes; an empty field writes none.
-unfoldable pub number_of : List ℕ → ℕ
-number_of text = cond (nat_le (slice_index text 0) 32) no_number (hex_from 0 text)
+abbrev pub number_of : List ℕ → Option ℕ
+number_of text = hex_from None text

@@ -1,60 +1,112 @@
-// What is known between two lines of a file, beside the bytes.
+// The bytes that rows lay out, and what is known between two lines of a file.
+ghost use Rattle.std.specs.Prelude.{◌≡◌, ◌+◌, ◌%◌, ◌^◌, ◌<◌, true, false, min, take, drop};
+ghost use Rattle.rows.specs.Sizes.{kernel_from, longest, output_from};
+
+use crate::sizes::{BOARD, KERNEL, LONGEST, OUTPUT, STATE, TABLE};
 use words::limits::{DICTIONARY_BYTES, REGISTER_BYTES, STATE_LENGTH};
 
-// The sizes of what is lent; the last call's answer; the line's number, and whether its command is known; how many cases are right of how many, and
-// whether the one at hand is.
-#[derive(Clone, Copy)]
-pub struct Desk {
+// How many bytes of each are lent; none are that are not there.
+#[derive(Clone, Copy, Debug, PartialEq, Eq)]
+pub struct Sizes {
     pub kernel: usize,
     pub room: usize,
     pub dictionary: usize,
     pub registers: usize,
     pub state: usize,
+}
+
+impl Sizes {
+    // The right ones, with no kernel and no output.
+    fn right() -> Sizes {
+        Sizes {
+            kernel: 0,
+            room: 0,
+            dictionary: DICTIONARY_BYTES,
+            registers: REGISTER_BYTES,
+            state: STATE_LENGTH,
+        }
+    }
+}
+
+// The dictionary and from KERNEL on the kernel; the registers and from OUTPUT on the output; the state. How much of these is lent; the last call's answer; the
+// line's number; how many cases are right of how many, and whether the one at hand is.
+#[derive(Drop)]
+pub struct Desk {
+    pub table: [u8; TABLE],
+    pub board: [u8; BOARD],
+    pub state: [u8; STATE],
+    pub sizes: Sizes,
     pub answer: u64,
     pub line: u64,
-    pub known: bool,
     pub right: u64,
     pub total: u64,
     pub good: bool,
 }
 
-// No call has been made: no call answers this.
+// No call has been made: no call answers this. (It is a number, and no `Option`, since `load`, `logrun` and `answer` take it as they take any answer.)
 const UNASKED: u64 = 0xFFFF_FFFF_FFFF_FFFF;
 
-// The sizes are the right ones, with no kernel and no output, and no case has begun.
-pub fn bare() -> Desk {
-    Desk {
-        kernel: 0,
-        room: 0,
-        dictionary: DICTIONARY_BYTES,
-        registers: REGISTER_BYTES,
-        state: STATE_LENGTH,
-        answer: UNASKED,
-        line: 0,
-        known: false,
-        right: 0,
-        total: 0,
-        good: false,
+impl Desk {
+    // Zeros, and no case has begun.
+    pub fn bare() -> Desk
+        ensures { (result.right ≡ 0) × (result.total ≡ 0) × (result.good ≡ false) }
+    {
+        Desk {
+            table: [0; TABLE],
+            board: [0; BOARD],
+            state: [0; STATE],
+            sizes: Sizes::right(),
+            answer: UNASKED,
+            line: 0,
+            right: 0,
+            total: 0,
+            good: false,
+        }
     }
-}
 
-// A new case. It is right until a row of it is not.
-pub fn opened(desk: Desk) -> Desk {
-    let mut d = bare();
-    d.line = desk.line;
-    d.known = true;
-    d.right = std::num::wrapping_add_u64(desk.right, 1);
-    d.total = std::num::wrapping_add_u64(desk.total, 1);
-    d.good = true;
-    d
-}
-
-// The case is wrong; it counts once.
-pub fn failed(desk: Desk) -> Desk {
-    let mut d = desk;
-    if desk.good {
-        d.right = std::num::wrapping_sub_u64(desk.right, 1);
-        d.good = false;
+    // A new case. The dictionary stays. The case is right until a row of it is not.
+    pub fn open(&mut self)
+        ensures counted { (self.new.right ≡ (self.old.right + 1) % 2 ^ 64) × (self.new.total ≡ (self.old.total + 1) % 2 ^ 64) × (self.new.good ≡ true) }
+        ensures stays { (self.new.table ≡ self.old.table) × (self.new.line ≡ self.old.line) }
+    {
+        self.board.fill(0);
+        self.state.fill(0);
+        self.sizes = Sizes::right();
+        self.answer = UNASKED;
+        self.right = self.right.wrapping_add(1);
+        self.total = self.total.wrapping_add(1);
+        self.good = true;
     }
-    d
+
+    // The case is wrong; it counts once.
+    pub fn fail(&mut self)
+        ensures counted { self.old.good ≡ true → 0 < self.old.right → (self.new.right + 1 ≡ self.old.right) × (self.new.good ≡ false) }
+        ensures once { self.old.good ≡ false → self.new ≡ self.old }
+    {
+        if self.good {
+            self.right = self.right.wrapping_sub(1);
+            self.good = false;
+        }
+    }
+
+    // The dictionary that is lent.
+    pub fn dictionary(&self) -> &[u8]
+        ensures { result.now ≡ take (min self.now.sizes.dictionary kernel_from) self.now.table }
+    {
+        &self.table[..self.sizes.dictionary.min(KERNEL)]
+    }
+
+    // The kernel that is lent.
+    pub fn kernel(&self) -> &[u8]
+        ensures { result.now ≡ take (min self.now.sizes.kernel longest) (drop kernel_from self.now.table) }
+    {
+        &self.table[KERNEL..KERNEL + self.sizes.kernel.min(LONGEST)]
+    }
+
+    // The output that is lent.
+    pub fn output(&self) -> &[u8]
+        ensures { result.now ≡ take (min self.now.sizes.room longest) (drop output_from self.now.board) }
+    {
+        &self.board[OUTPUT..OUTPUT + self.sizes.room.min(LONGEST)]
+    }
 }

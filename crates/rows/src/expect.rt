@@ -1,64 +1,72 @@
 // The commands that say what must have come of the last call.
-ghost use Rattle.std.specs.Prelude.{◌≡◌, ◌+◌, ◌*◌, ◌^◌, ◌<◌, ◌==◌};
+ghost use Rattle.std.specs.Prelude.{◌≡◌, ◌+◌, ◌*◌, ◌^◌, ◌<◌, Some, IfSome};
+ghost use Rattle.rows.specs.Outcomes.{outcome_of};
 
-use crate::bytes::{dword_at, half_at};
-use crate::lay::board_place;
-use crate::row::{ANSWER, HOLDS, Row, STANDS, WROTE};
-use crate::sizes::{BOARD, STATE};
+use crate::bytes::number_at;
+use crate::desk::Desk;
+use crate::row::Expectation;
+use crate::sizes::OUTPUT;
 
 // How an expectation came out: as the row says, or with another number. Unasked where the row is none.
-#[derive(Clone, Copy)]
+#[derive(Clone, Copy, Debug, PartialEq, Eq)]
 pub enum Outcome {
     Unasked,
     Right,
     Found(u64),
 }
 
-// The number is the one asked for.
-fn same(found: u64, asked: u64) -> bool
-    ensures { result ≡ (found == asked) }
-{
-    found == asked
-}
-
-// No call answers this.
-const NEVER: u64 = 0xFFFF_FFFF_FFFF_FFFE;
-
-// The answer that has these parts; one that no call gives, where a part is too wide.
-fn answer_of(number: u64, offset: u64, count: u64) -> u64
-    ensures { number < 2 ^ 8 → offset < 2 ^ 24 → count < 2 ^ 32 → result ≡ number + offset * 2 ^ 8 + count * 2 ^ 32 }
-{
-    if 0x100 <= number {
-        return NEVER;
-    }
-    if 0x100_0000 <= offset {
-        return NEVER;
-    }
-    if 0x1_0000_0000 <= count {
-        return NEVER;
-    }
-    number + offset * 0x100 + count * 0x1_0000_0000
-}
+// What is told as found past the bytes' end: more than a row can ask for.
+const NOTHING: u64 = 0x1_0000_0000;
 
 // A number was found where another, or the same, was asked for.
-pub fn compared(found: u64, asked: u64) -> Outcome {
-    if same(found, asked) {
-        return Outcome::Right;
+pub fn compared(found: Option<u64>, asked: u32) -> Outcome
+    ensures { result ≡ outcome_of found asked }
+{
+    match found {
+        None => Outcome::Found(NOTHING),
+        Some(found) if found == u64::from(asked) => Outcome::Right,
+        Some(found) => Outcome::Found(found),
     }
-    Outcome::Found(found)
 }
 
-// `answer NUMBER OFFSET COUNT`, `wrote BYTE DWORD`, `holds BYTE DWORD`, `stands BYTE HALF`.
-pub fn expected(row: Row, answer: u64, board: &[u8; BOARD], state: &[u8; STATE]) -> Outcome {
-    if row.key == ANSWER {
-        return compared(answer, answer_of(row.a, row.b, row.c));
+// The answer that has these parts; none where a part is too wide.
+fn answer_of(number: u32, offset: u32, count: u32) -> Option<u64>
+    ensures some { IfSome result (λ answer. answer ≡ number + offset * 2 ^ 8 + count * 2 ^ 32) }
+    ensures fits { number < 2 ^ 8 → offset < 2 ^ 24 → result ≡ Some (number + offset * 2 ^ 8 + count * 2 ^ 32) }
+{
+    if number >= 0x100 || offset >= 0x100_0000 {
+        return None;
     }
-    if row.key == STANDS {
-        return compared(half_at(state, row.a as usize), row.b);
+    Some(u64::from(number) + u64::from(offset) * 0x100 + u64::from(count) * 0x1_0000_0000)
+}
+
+// What the last call answered, or left in the bytes. A row that asks for a dword past the registers' or the output's end is none.
+pub fn expected(desk: &Desk, expectation: Expectation) -> Outcome {
+    match expectation {
+        Expectation::Answer {
+            number,
+            offset,
+            count,
+        } => match answer_of(number, offset, count) {
+            Some(answer) if answer == desk.answer => Outcome::Right,
+            _ => Outcome::Found(desk.answer),
+        },
+        Expectation::Wrote { at, value } => {
+            seen(number_at::<4>(&desk.board[OUTPUT..], at as usize), value)
+        }
+        Expectation::Holds { at, value } => {
+            seen(number_at::<4>(&desk.board[..OUTPUT], at as usize), value)
+        }
+        Expectation::Stands { at, value } => {
+            compared(number_at::<2>(&desk.state, at as usize), value)
+        }
     }
-    let at = board_place(row, HOLDS, WROTE);
-    if at <= BOARD {
-        return compared(dword_at(board, at), row.b);
+}
+
+// The same of a number that has to be there.
+fn seen(found: Option<u64>, asked: u32) -> Outcome {
+    if found.is_none() {
+        return Outcome::Unasked;
     }
-    Outcome::Unasked
+    compared(found, asked)
 }

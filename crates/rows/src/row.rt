@@ -1,107 +1,237 @@
 // A line as a command and its numbers.
-use crate::text::{byte_at, name_in, numbers_in};
+use crate::text::{name_in, name_of, numbers_in};
 
-// The command, and the four numbers that follow it, or 0 where there are fewer.
-#[derive(Clone, Copy)]
-pub struct Row {
-    pub key: u64,
-    pub a: u64,
-    pub b: u64,
-    pub c: u64,
-    pub d: u64,
+// What lays out the bytes that calls are lent.
+#[derive(Clone, Copy, Debug, PartialEq, Eq)]
+pub enum Layout {
+    // A new case.
+    Case,
+    // A dictionary of zeros.
+    Blank,
+    // One of the dictionary's numbers.
+    Number {
+        index: u32,
+        value: u32,
+    },
+    // A word more of the kernel.
+    Long([u32; 4]),
+    Short([u32; 2]),
+    // What the last call wrote as the kernel.
+    Load,
+    // How many bytes of output, and of the others, are lent.
+    Room(u32),
+    Lend {
+        dictionary: u32,
+        registers: u32,
+        state: u32,
+    },
+    // A dword of the registers, 16 bits of the state, a dword of the output.
+    Set {
+        at: u32,
+        value: u32,
+    },
+    Put {
+        at: u32,
+        value: u16,
+    },
+    Mark {
+        at: u32,
+        value: u32,
+    },
 }
 
-// A command's key: the letters of its name, and behind them how many numbers follow it. Any number of fields follows `case`.
-pub const CASE: u64 = 0x63617365;
+// A call. The kernel's bytes are also the word to shorten or to expand, the text to read, and the record to place and to load; the output's are the kernel that
+// was sent for it, and the log.
+#[derive(Clone, Copy, Debug, PartialEq, Eq)]
+pub enum Call {
+    Check,
+    Forward,
+    Decode(u32),
+    Pack,
+    Unpack,
+    List,
+    Read,
+    Pair,
+    Shorten,
+    Expand,
+    Place { order: u32, x: u32, y: u32 },
+    Fixed,
+    Record,
+    Start { mask: u16, flag0: u16, flag1: u16 },
+    Step,
+    Run(u32),
+    LogRead(u32),
+    LogRuns(u32),
+    LogRun(u32),
+}
 
-pub const BLANK: u64 = 0x626C616E6B_0;
+// What must have come of the last call.
+#[derive(Clone, Copy, Debug, PartialEq, Eq)]
+pub enum Expectation {
+    // What it answered.
+    Answer {
+        number: u32,
+        offset: u32,
+        count: u32,
+    },
+    // A dword of the output, and of the registers; 16 bits of the state.
+    Wrote {
+        at: u32,
+        value: u32,
+    },
+    Holds {
+        at: u32,
+        value: u32,
+    },
+    Stands {
+        at: u32,
+        value: u32,
+    },
+}
 
-pub const NUMBER: u64 = 0x6E756D626572_2;
+// What must stand in a part that is handed back: in the bytes of the instruction at a place, and in the kernel to load.
+#[derive(Clone, Copy, Debug, PartialEq, Eq)]
+pub enum Look {
+    Part { place: u32, at: u32, value: u32 },
+    Loads { at: u32, value: u32 },
+}
 
-pub const LONG: u64 = 0x6C6F6E67_4;
+// A line's command. Nothing is an empty line, or a comment.
+#[derive(Clone, Copy, Debug, PartialEq, Eq)]
+pub enum Command {
+    Nothing,
+    Lay(Layout),
+    Make(Call),
+    Expect(Expectation),
+    See(Look),
+    Unknown,
+}
 
-pub const SHORT: u64 = 0x73686F7274_2;
+// A line's command, and its key, by which a line is told that is not understood: the letters of its name, and behind them how many numbers follow it.
+#[derive(Clone, Copy, Debug, PartialEq, Eq)]
+pub struct Row {
+    pub key: u64,
+    pub command: Command,
+}
 
-pub const LOAD: u64 = 0x6C6F6164_0;
+// The layout of that name and these numbers.
+fn layout_of(name: &[u8], numbers: &[u32]) -> Option<Layout> {
+    match (name, numbers) {
+        (b"blank", []) => Some(Layout::Blank),
+        (b"number", &[index, value]) => Some(Layout::Number { index, value }),
+        (b"long", &[a, b, c, d]) => Some(Layout::Long([a, b, c, d])),
+        (b"short", &[a, b]) => Some(Layout::Short([a, b])),
+        (b"load", []) => Some(Layout::Load),
+        (b"room", &[size]) => Some(Layout::Room(size)),
+        (b"lend", &[dictionary, registers, state]) => Some(Layout::Lend {
+            dictionary,
+            registers,
+            state,
+        }),
+        (b"set", &[at, value]) => Some(Layout::Set { at, value }),
+        (b"put", &[at, value]) => Some(Layout::Put {
+            at,
+            value: u16::try_from(value).ok()?,
+        }),
+        (b"mark", &[at, value]) => Some(Layout::Mark { at, value }),
+        _ => None,
+    }
+}
 
-pub const ROOM: u64 = 0x726F6F6D_1;
+// A start with that mask and these flags, of 16 bits each.
+fn start_with(mask: u32, flag0: u32, flag1: u32) -> Option<Call> {
+    let mask = u16::try_from(mask).ok()?;
+    let flag0 = u16::try_from(flag0).ok()?;
+    let flag1 = u16::try_from(flag1).ok()?;
+    Some(Call::Start { mask, flag0, flag1 })
+}
 
-pub const LEND: u64 = 0x6C656E64_3;
+// The call of that name and these numbers.
+fn call_of(name: &[u8], numbers: &[u32]) -> Option<Call> {
+    match (name, numbers) {
+        (b"check", []) => Some(Call::Check),
+        (b"forward", []) => Some(Call::Forward),
+        (b"decode", &[place]) => Some(Call::Decode(place)),
+        (b"pack", []) => Some(Call::Pack),
+        (b"unpack", []) => Some(Call::Unpack),
+        (b"list", []) => Some(Call::List),
+        (b"read", []) => Some(Call::Read),
+        (b"pair", []) => Some(Call::Pair),
+        (b"shorten", []) => Some(Call::Shorten),
+        (b"expand", []) => Some(Call::Expand),
+        (b"place", &[order, x, y]) => Some(Call::Place { order, x, y }),
+        (b"fixed", []) => Some(Call::Fixed),
+        (b"record", []) => Some(Call::Record),
+        (b"start", &[mask, flag0, flag1]) => start_with(mask, flag0, flag1),
+        (b"step", []) => Some(Call::Step),
+        (b"run", &[budget]) => Some(Call::Run(budget)),
+        (b"logread", &[count]) => Some(Call::LogRead(count)),
+        (b"logruns", &[count]) => Some(Call::LogRuns(count)),
+        (b"logrun", &[count]) => Some(Call::LogRun(count)),
+        _ => None,
+    }
+}
 
-pub const SET: u64 = 0x736574_2;
+// The expectation of that name and these numbers.
+fn expectation_of(name: &[u8], numbers: &[u32]) -> Option<Expectation> {
+    match (name, numbers) {
+        (b"answer", &[number, offset, count]) => Some(Expectation::Answer {
+            number,
+            offset,
+            count,
+        }),
+        (b"wrote", &[at, value]) => Some(Expectation::Wrote { at, value }),
+        (b"holds", &[at, value]) => Some(Expectation::Holds { at, value }),
+        (b"stands", &[at, value]) => Some(Expectation::Stands { at, value }),
+        _ => None,
+    }
+}
 
-pub const PUT: u64 = 0x707574_2;
+// The look of that name and these numbers.
+fn look_of(name: &[u8], numbers: &[u32]) -> Option<Look> {
+    match (name, numbers) {
+        (b"part", &[place, at, value]) => Some(Look::Part { place, at, value }),
+        (b"loads", &[at, value]) => Some(Look::Loads { at, value }),
+        _ => None,
+    }
+}
 
-pub const MARK: u64 = 0x6D61726B_2;
+// The command of that name and these numbers.
+fn command_of(name: &[u8], numbers: &[u32]) -> Command {
+    if name.is_empty() && numbers.is_empty() {
+        Command::Nothing
+    } else if let Some(layout) = layout_of(name, numbers) {
+        Command::Lay(layout)
+    } else if let Some(call) = call_of(name, numbers) {
+        Command::Make(call)
+    } else if let Some(expectation) = expectation_of(name, numbers) {
+        Command::Expect(expectation)
+    } else if let Some(look) = look_of(name, numbers) {
+        Command::See(look)
+    } else {
+        Command::Unknown
+    }
+}
 
-pub const CHECK: u64 = 0x636865636B_0;
+// The count in the key of a line with a field that is no number, or with too many.
+const UNCOUNTED: u64 = 9;
 
-pub const FORWARD: u64 = 0x666F7277617264_0;
-
-pub const DECODE: u64 = 0x6465636F6465_1;
-
-pub const PACK: u64 = 0x7061636B_0;
-
-pub const UNPACK: u64 = 0x756E7061636B_0;
-
-pub const LIST: u64 = 0x6C697374_0;
-
-pub const READ: u64 = 0x72656164_0;
-
-pub const PAIR: u64 = 0x70616972_0;
-
-pub const SHORTEN: u64 = 0x73686F7274656E_0;
-
-pub const EXPAND: u64 = 0x657870616E64_0;
-
-pub const START: u64 = 0x7374617274_3;
-
-pub const STEP: u64 = 0x73746570_0;
-
-pub const RUN: u64 = 0x72756E_1;
-
-pub const ANSWER: u64 = 0x616E73776572_3;
-
-pub const WROTE: u64 = 0x77726F7465_2;
-
-pub const HOLDS: u64 = 0x686F6C6473_2;
-
-pub const STANDS: u64 = 0x7374616E6473_2;
-
-pub const PART: u64 = 0x70617274_3;
-
-pub const LOADS: u64 = 0x6C6F616473_2;
-
-pub const PLACE: u64 = 0x706C616365_3;
-
-pub const FIXED: u64 = 0x6669786564_0;
-
-pub const RECORD: u64 = 0x7265636F7264_0;
-
-pub const LOGREAD: u64 = 0x6C6F6772656164_1;
-
-pub const LOGRUNS: u64 = 0x6C6F6772756E73_1;
-
-pub const LOGRUN: u64 = 0x6C6F6772756E_1;
-
-// The line's command, known or not. A comment has the key 0, as an empty line has.
+// The line's command, known or not. Any fields follow `case`.
 pub fn row_of(line: &[u8]) -> Row {
-    if byte_at(line, 0) == b'#' {
+    if line.first() == Some(&b'#') {
         return Row {
             key: 0,
-            a: 0,
-            b: 0,
-            c: 0,
-            d: 0,
+            command: Command::Nothing,
         };
     }
-    let n = numbers_in(line);
-    let name = name_in(line);
+    let name = name_of(line);
+    let (count, command) = match (name, numbers_in(line)) {
+        (b"case", _) => (0, Command::Lay(Layout::Case)),
+        (_, Some(numbers)) => (numbers.len() as u64, command_of(name, numbers.as_slice())),
+        (_, None) => (UNCOUNTED, Command::Unknown),
+    };
     Row {
-        key: name * 16 + n[4] % 16,
-        a: n[0],
-        b: n[1],
-        c: n[2],
-        d: n[3],
+        key: name_in(line) * 16 + count,
+        command,
     }
 }

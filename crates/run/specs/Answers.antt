@@ -1,11 +1,11 @@
 -- The calls' cases in the code's order. Assumes nothing.
-use Rattle.std.specs.Prelude.{Bool, true, false, cond, ◌&&◌, ◌⊎◌, ◌≡◌, ℕ, ◌*◌, ◌<◌, ◌≤◌, eqb, length}
+use Rattle.std.specs.Prelude.{Bool, true, false, cond, ◌⊎◌, ◌≡◌, ℕ, ◌*◌, ◌/◌, ◌<◌, ◌≤◌, eqb, length}
 use Rattle.std.proofs.Common.{inl, inr, sym, ◌∙◌, subst, arith, length-drop}
 use mathlib.Core.List.{List, ◌++◌}
 use Rattle.std.proofs.Math.Option.{Option, none, some}
 use Rattle.std.proofs.Math.Path.{refl, ap}
 use Rattle.std.proofs.Math.ListN.{take, take-append-drop}
-use borrow.Author.Tests.{eqb-true, eq-eqb, ne_eqb, lt-ltb, le-ltb}
+use borrow.Author.Tests.{eq-eqb, ne_eqb, lt-ltb, le-ltb}
 use Rattle.paper.specs.Limits.{address_bytes, register_bytes, state_length, budget_limit}
 use Rattle.paper.specs.Kernel.{Instr, long_and_short, good}
 use Rattle.paper.specs.Jump.{lands}
@@ -33,8 +33,11 @@ use Rattle.run.specs.declared.calls.Admission.TheVariants.{Fine, Barred}
 use Rattle.run.specs.Landing.{legal_by, legal_same, waits_lands}
 use Rattle.run.specs.declared.running.Outcome.{Outcome}
 use Rattle.run.specs.Running.{Running, running_end, running_either}
-use Rattle.run.specs.Kernels.{instructions, Takes, end_is, end_not, runnable}
+use Rattle.run.specs.declared.call.Call.{Call}
+use Rattle.run.specs.declared.call.Call.TheVariants.{Step, Run}
+use Rattle.run.specs.Kernels.{instructions, MarksLand, Takes, runnable}
 use Rattle.run.specs.Opening.{Blank}
+use Rattle.run.specs.Lent.{lent_in, lent}
 use Rattle.run.specs.Outcomes.{Ends, one_step, no_step}
 use Rattle.laws.specs.Truth.{both_true}
 
@@ -57,29 +60,19 @@ pub record Sizes (dictionary kernel registers bytes : List ℕ) : Type 0 where
   pub state-is : length bytes ≡ state_length
 
 module _ (dictionary kernel registers bytes : List ℕ) where
-  sizes_of : all_sized dictionary kernel registers bytes ≡ true → Sizes dictionary kernel registers bytes
-  sizes_of e =
-      let p = both_true (sized dictionary kernel) (eqb (length registers) register_bytes && eqb (length bytes) state_length) e in
-      let q = both_true (eqb (length registers) register_bytes) (eqb (length bytes) state_length) p.1 in
-      record { all = e; right = p.0; registers-are = eqb-true _ _ q.0; state-is = eqb-true _ _ q.1 }
+  pub sizes_right : sized dictionary kernel ≡ true → length registers ≡ register_bytes → length bytes ≡ state_length → Sizes dictionary kernel registers bytes
+  sizes_right h e f = record { all = rw (h, eq-eqb _ _ e, eq-eqb _ _ f); right = h; registers-are = e; state-is = f }
 
-  -- What the code says of the sizes.
-  abbrev pub AreSized : Bool → Type 0
-  AreSized t = (t ≡ all_sized dictionary kernel registers bytes) × (t ≡ true → Sizes dictionary kernel registers bytes)
-
-  are_sized : (t : Bool) → all_sized dictionary kernel registers bytes ≡ t → AreSized t
-  are_sized t e = (sym e, λ h. sizes_of (e ∙ h))
-
-  -- As the code tests them.
-  pub told_kernel : sized dictionary kernel ≡ false → AreSized false
-  told_kernel h = are_sized false (rw h)
+  -- Something has not.
+  pub unsized_kernel : sized dictionary kernel ≡ false → all_sized dictionary kernel registers bytes ≡ false
+  unsized_kernel h = rw h
 
   module _ (h : sized dictionary kernel ≡ true) where
-    pub told_registers : (length registers ≡ register_bytes → ⊥) → AreSized false
-    told_registers n = are_sized false (rw (h, ne_eqb _ _ n))
+    pub unsized_registers : (length registers ≡ register_bytes → ⊥) → all_sized dictionary kernel registers bytes ≡ false
+    unsized_registers n = rw (h, ne_eqb _ _ n)
 
-    pub told_state : length registers ≡ register_bytes → AreSized (eqb (length bytes) state_length)
-    told_state e = are_sized (eqb (length bytes) state_length) (rw (h, eq-eqb _ _ e))
+    pub unsized_state : length registers ≡ register_bytes → (length bytes ≡ state_length → ⊥) → all_sized dictionary kernel registers bytes ≡ false
+    unsized_state e n = rw (h, eq-eqb _ _ e, ne_eqb _ _ n)
 
 -- ---- the kernel's refusals, and 15
 
@@ -89,9 +82,24 @@ pub record Lawful (dictionary kernel registers bytes : List ℕ) : Type 0 where
   pub judged : judged_kernel long_and_short dictionary kernel ≡ good (instructions dictionary kernel)
   pub legal : state_legal (instructions dictionary kernel) registers bytes ≡ true
 
--- The marks are the places at which its instructions start, and its end.
-abbrev pub MarksLand : List ℕ → List ℕ → List ℕ → Type 0
-MarksLand dictionary kernel marks = (p : ℕ) → marked marks p ≡ lands (instructions dictionary kernel) p
+-- All that is lent to an accepted kernel has its size, the state is legal in it, and the marks are its.
+pub record Allowed (dictionary kernel marks registers bytes : List ℕ) : Type 0 where
+  pub sizes : Sizes dictionary kernel registers bytes
+  pub lawful : Lawful dictionary kernel registers bytes
+  pub marked : MarksLand dictionary kernel marks
+
+-- Where a run stands that begins at a state's bytes: there is a mask for each place of the kernel and for its end.
+pub record Stood (kernel registers bytes here : List ℕ) (s : Stand) : Type 0 where
+  pub shows : Shows registers (addresses_in bytes) here s (state_of registers bytes)
+  pub flag0 : s.flags.flag0 < 65536
+  pub flag1 : s.flags.flag1 < 65536
+  pub room : length kernel < 8 * length here
+  pub few : length here ≤ 65536
+
+pub stood : (kernel registers bytes before here : List ℕ) (s : Stand) → Blank kernel before → Shows registers (addresses_in bytes) here s (state_of registers bytes)
+    → (s.flags.flag0 < 65536) × (s.flags.flag1 < 65536) × (length here ≡ length before) → Stood kernel registers bytes here s
+stood kernel registers bytes before here s blank shows h =
+    record { shows = shows; flag0 = h.0; flag1 = h.1; room = omega (arith, blank.room, h.2); few = omega (arith, blank.few, h.2) }
 
 -- What is said of a kernel and a state: the refusal that any call on them answers, or that they are lawful.
 abbrev pub Admits : List ℕ → List ℕ → List ℕ → List ℕ → List ℕ → Admission → Type 0
@@ -128,6 +136,18 @@ module _ (dictionary kernel bytes : List ℕ) (right : sized dictionary kernel �
     pub admits_fine : legal_by (marked marks) bytes ≡ true → (registers : List ℕ) → Admits dictionary kernel registers bytes marks Fine
     admits_fine l registers = (record { accepts = is_good; judged = judged_is ∙ is_good; legal = sym (legal_is registers) ∙ l }, marks_land)
 
+-- ---- one way for both calls
+
+-- A step, or a run.
+abbrev pub call_of : Call → List ℕ → List ℕ → List ℕ → List ℕ → Changed
+call_of Step dictionary kernel registers bytes = step_call dictionary kernel registers bytes
+call_of (Run budget) dictionary kernel registers bytes = run_call dictionary kernel budget registers bytes
+
+-- The steps that it may make.
+abbrev pub budget_of : Call → ℕ
+budget_of Step = 1
+budget_of (Run budget) = budget
+
 -- ---- the calls, in the code's order
 
 module _ (dictionary kernel registers bytes : List ℕ) where
@@ -151,13 +171,17 @@ module _ (dictionary kernel registers bytes : List ℕ) (sizes : Sizes dictionar
           → on_state registers bytes go (judged_kernel long_and_short dictionary kernel) ≡ unchanged (refusal number offset) registers bytes
       barred = subst (λ (o : Admission). Admits dictionary kernel registers bytes marks o) e admits
 
-      pub step_barred : Left (step_call dictionary kernel registers bytes) (Refused number offset) registers bytes
+      step_barred : Left (step_call dictionary kernel registers bytes) (Refused number offset) registers bytes
       unfolding step_call
       step_barred = rw (sizes.all, barred (λ k s. stepped_as (stops k s) registers bytes s (step k s))) (refl, refl, refl)
 
-      pub run_barred : (budget : ℕ) → budget ≤ budget_limit → Left (run_call dictionary kernel budget registers bytes) (Refused number offset) registers bytes
+      run_barred : (budget : ℕ) → budget ≤ budget_limit → Left (run_call dictionary kernel budget registers bytes) (Refused number offset) registers bytes
       unfolding run_call
       run_barred budget h = rw (sizes.all, le-ltb _ _ h, barred (λ k s. ran_as (run k budget s))) (refl, refl, refl)
+
+      pub call_barred : (call : Call) → budget_of call ≤ budget_limit → Left (call_of call dictionary kernel registers bytes) (Refused number offset) registers bytes
+      call_barred Step h = step_barred
+      call_barred (Run budget) h = run_barred budget h
 
     pub lawful : o ≡ Fine → Lawful dictionary kernel registers bytes × MarksLand dictionary kernel marks
     lawful e = subst (λ (o : Admission). Admits dictionary kernel registers bytes marks o) e admits
@@ -193,8 +217,7 @@ module _ (dictionary kernel registers bytes : List ℕ) (sizes : Sizes dictionar
         (waits_lands k (channels_in bytes 0 16) (both_true (lands k (state_of registers bytes).place) (waits_land k (channels_in bytes 0 16)) legal_parts.1).1 n p e)
 
   -- The step and the run from where the state stands.
-  module _ (here : List ℕ) (s : Stand) (shows : Shows registers (addresses_in bytes) here s (state_of registers bytes)) (flag0 : s.flags.flag0 < 65536) (flag1 : s.flags.flag1 < 65536)
-      (room : length kernel < 8 * length here) (few : length here ≤ 65536) where
+  module _ (here : List ℕ) (s : Stand) (stands : Stood kernel registers bytes here s) where
     sixteen : length (addresses_in bytes) ≡ address_bytes
     sixteen = length-drop 42 bytes ∙ omega (arith, sizes.state-is)
 
@@ -206,26 +229,26 @@ module _ (dictionary kernel registers bytes : List ℕ) (sizes : Sizes dictionar
               record {
                 holding =
                     record {
-                      store = rw (← shows.store) (record { bytes = sizes.registers-are; flag0 = flag0; flag1 = flag1; addresses = sixteen });
-                      count = shows.posted.sixteen;
+                      store = rw (← stands.shows.store) (record { bytes = sizes.registers-are; flag0 = stands.flag0; flag1 = stands.flag1; addresses = sixteen });
+                      count = stands.shows.posted.sixteen;
                     };
                 naming = state_names k taken.sound (state_of registers bytes) legal_parts.1;
               };
-          shows = shows;
-          room = omega (arith, taken.ends);
-          few = few;
+          shows = stands.shows;
+          room = omega (arith, taken.ends, stands.room);
+          few = stands.few;
         }
 
     -- A step at the end,
-    pub step_end : 8 * s.place ≡ length kernel → Left (step_call dictionary kernel registers bytes) (Told 20 0) registers bytes
+    pub step_end : s.place ≡ length kernel / 8 → Left (step_call dictionary kernel registers bytes) (Told 20 0) registers bytes
     unfolding step_call
     step_end h =
-        rw (sizes.all, law.judged, law.legal, running_end k registers (addresses_in bytes) here s (state_of registers bytes) opened (end_is dictionary kernel taken s.place h)) (refl, refl, refl)
+        rw (sizes.all, law.judged, law.legal, running_end k registers (addresses_in bytes) here s (state_of registers bytes) opened (omega (arith, h, taken.ends))) (refl, refl, refl)
 
-    module _ (registers' addresses' here' : List ℕ) (out : Outcome) (ends : Ends k 1 (state_of registers bytes) registers' addresses' here' out) (away : 8 * s.place ≡ length kernel → ⊥) where
+    module _ (registers' addresses' here' : List ℕ) (out : Outcome) (ends : Ends k 1 (state_of registers bytes) registers' addresses' here' out) (away : s.place ≡ length kernel / 8 → ⊥) where
       -- What stops a step away from the end is a broken address.
       stops_away : (stops k (state_of registers bytes) ≡ none) ⊎ (stops k (state_of registers bytes) ≡ some 22)
-      stops_away = running_either k registers (addresses_in bytes) here s (state_of registers bytes) opened (end_not dictionary kernel taken s.place away)
+      stops_away = running_either k registers (addresses_in bytes) here s (state_of registers bytes) opened (λ e. away (omega (arith, e, taken.ends)))
 
       -- a step away from it, which is a run of one, is made if its verdict is not 22,
       pub step_made : (out.verdict ≡ 22 → ⊥) → (bytes' : List ℕ) → bytes' ≡ state_bytes ends.0
@@ -276,9 +299,10 @@ module _ (number place steps : ℕ) where
   pub told_verdict : (number ≡ 22 → ⊥) → answer_is (Told number steps) ≡ stopped_as number place steps
   told_verdict n = rw (ne_eqb _ _ n) refl
 
--- ---- one way for both calls
-
--- A step, or a run.
-abbrev pub call_of : Bool → List ℕ → List ℕ → ℕ → List ℕ → List ℕ → Changed
-call_of true dictionary kernel budget registers bytes = step_call dictionary kernel registers bytes
-call_of false dictionary kernel budget registers bytes = run_call dictionary kernel budget registers bytes
+-- A run begins where a legal state stands, with what is lent of its bytes.
+pub begins : {dictionary kernel marks registers bytes before here : List ℕ} {s : Stand} → Allowed dictionary kernel marks registers bytes → Blank kernel before
+    → Shows registers (addresses_in bytes) here s (state_of registers bytes) → (s.flags.flag0 < 65536) × (s.flags.flag1 < 65536) × (length here ≡ length before)
+    → Running (instructions dictionary kernel) registers (lent_in bytes) here s (state_of registers bytes)
+begins {dictionary} {kernel} {marks} {registers} {bytes} {before} {here} {s} a blank shows h =
+    lent bytes a.sizes.state-is (instructions dictionary kernel) registers here s (state_of registers bytes)
+    (opened dictionary kernel registers bytes a.sizes a.lawful here s (stood kernel registers bytes before here s blank shows h))

@@ -6,10 +6,10 @@ use Rattle.std.proofs.Math.Option.{Option, none, some, none-ne-some, some-inject
 use Rattle.std.proofs.Math.Path.{refl}
 use Rattle.paper.specs.Dictionary.{dictionary_of}
 use Rattle.paper.specs.Kernel.{Instr, long_and_short}
-use Rattle.paper.specs.Jump.{fetch, end_of, lands}
+use Rattle.paper.specs.Jump.{fetch, lands}
 use Rattle.paper.specs.Machine.{ways_of}
 use Rattle.paper.specs.Calls.{accepted}
-use Rattle.kernel.specs.Marks.{instrs_of}
+use Rattle.kernel.specs.Marks.{instrs_of, marked}
 use Rattle.kernel.specs.Standing.{size_at, word_at, Whole, Fetches, fits}
 use Rattle.kernel.specs.Jumps.{instr_of}
 use Rattle.kernel.specs.Accepting.{AcceptedKernel, Here, Found, found_here, none_past, lands_here}
@@ -24,16 +24,18 @@ instructions dictionary kernel = instrs_of (accepted long_and_short dictionary k
 abbrev pub Takes : List ℕ → List ℕ → Type 0
 Takes dictionary kernel = AcceptedKernel long_and_short dictionary kernel (instructions dictionary kernel)
 
+-- The marks are the places at which its instructions start, and its end.
+abbrev pub MarksLand : List ℕ → List ℕ → List ℕ → Type 0
+MarksLand dictionary kernel marks = (p : ℕ) → marked marks p ≡ lands (instructions dictionary kernel) p
+
+-- The kernel is accepted, and the marks are its.
+pub record IsAccepted (dictionary kernel marks : List ℕ) : Type 0 where
+  pub takes : Takes dictionary kernel
+  pub marked : MarksLand dictionary kernel marks
+
 module _ (dictionary kernel : List ℕ) (a : Takes dictionary kernel) where
   abbrev k : List Instr
   k = instructions dictionary kernel
-
-  -- The end is where its bytes end.
-  pub end_is : (p : ℕ) → 8 * p ≡ length kernel → p ≡ end_of k
-  end_is p e = omega (arith, a.ends)
-
-  pub end_not : (p : ℕ) → (8 * p ≡ length kernel → ⊥) → p ≡ end_of k → ⊥
-  end_not p away e = away (omega (arith, a.ends))
 
   -- Where an instruction starts, its bytes stand.
   fetched_here : (p : ℕ) (i : Instr) → fetch k p ≡ some i → Here long_and_short (dictionary_of dictionary) kernel k p

@@ -94,13 +94,11 @@ module _ (k : List Instr) (registers addresses here : List ℕ) (s : Stand) (t :
   pub running_addresses : length addresses ≡ address_bytes
   running_addresses = ap length (sym running_a0) ∙ r.lasts.holding.store.addresses
 
-  pub running_sound : Sound here s
+  pub running_sound : Sound s
   running_sound =
       record {
         flag0 = rw (ap (λ (st : Store). st.flag0) r.shows.store) r.lasts.holding.store.flag0;
         flag1 = rw (ap (λ (st : Store). st.flag1) r.shows.store) r.lasts.holding.store.flag1;
-        awake = r.shows.posted.fits;
-        masks = r.shows.posted.small;
       }
 
   -- The place is one of the kernel's.

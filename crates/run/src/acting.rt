@@ -30,12 +30,12 @@ fn told(p: Plain, word: Settled) -> Act
     match word {
         Settled::Acts(w) => {
             if uses_a0(w) {
-                return Act::Moves(w);
+                Act::Moves(w)
+            } else if dst_is_float(w) {
+                Act::Reckons(p, w)
+            } else {
+                Act::Steps(w)
             }
-            if dst_is_float(w) {
-                return Act::Reckons(p, w);
-            }
-            Act::Steps(w)
         }
         Settled::Broken => Act::Broken,
     }
@@ -49,11 +49,8 @@ pub(crate) fn acting(unusual: bool, w: Word, addresses: &[u8]) -> Act
     if !unusual {
         return Act::Steps(w);
     }
-    let o = operation(w);
-    match o {
+    match operation(w) {
         Operation::Makes(p) => told(p, settle(p, w, addresses)),
-        Operation::Nop => Act::Steps(w),
-        Operation::Jumps(_) => Act::Steps(w),
-        Operation::Unlisted => Act::Steps(w),
+        Operation::Nop | Operation::Jumps(_) | Operation::Unlisted => Act::Steps(w),
     }
 }

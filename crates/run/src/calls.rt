@@ -1,10 +1,12 @@
 // The calls step and run over lent bytes. A refusal changes nothing.
-ghost use Rattle.std.specs.Prelude.{◌≡◌, true, List, ℕ, ◌≤◌, length};
-ghost use Rattle.paper.specs.Limits.{state_length, budget_limit};
+ghost use Rattle.std.specs.Prelude.{◌≡◌, true, List, ℕ, ◌≤◌};
+ghost use Rattle.paper.specs.Limits.{budget_limit};
 ghost use Rattle.paper.specs.Calls.{sized, step_call, run_call};
 ghost use Rattle.words.specs.Answer.{Left};
-ghost use Rattle.run.specs.Answers.{AreSized, Sizes, Lawful, Admits};
+ghost use Rattle.run.specs.Answers.{Admits, call_of, budget_of};
 
+use crate::accepted::Accepted;
+use crate::call::Call;
 use crate::lawful::made_lawful;
 use crate::legal::is_legal;
 use kernel::accept::{accept, is_sized};
@@ -19,26 +21,17 @@ pub enum Admission {
     Barred(u8, u64),
 }
 
-// 1 of all that is lent to a step or a run.
-fn are_sized(dictionary: &[u8], kernel: &[u8], registers: &[u8], state: &[u8]) -> bool
-    ensures { AreSized dictionary.now kernel.now registers.now state.now result }
-{
-    if !is_sized(dictionary, kernel) {
-        return false;
-    }
-    if registers.len() != REGISTER_BYTES {
-        return false;
-    }
-    state.len() == STATE_LENGTH
-}
-
 // The kernel's own refusals, then 15. Of a kernel that is fine, the marks that are lent then mark the places at which its instructions start, and its end.
-fn admit(dictionary: &[u8], kernel: &[u8], state: &[u8], marks: &mut [u8; PLACES]) -> Admission
-    requires { (sized dictionary.now kernel.now ≡ true) × (length state.now ≡ state_length) }
+fn admit(
+    dictionary: &[u8],
+    kernel: &[u8],
+    state: &[u8; STATE_LENGTH],
+    marks: &mut [u8; PLACES],
+) -> Admission
+    requires { sized dictionary.now kernel.now ≡ true }
     ensures { (registers : List ℕ) → Admits dictionary.now kernel.now registers state.now marks.new result }
 {
-    let said = accept(false, dictionary, kernel, marks);
-    if let Said::Bad(number, offset) = said {
+    if let Said::Bad(number, offset) = accept(false, dictionary, kernel, marks) {
         return Admission::Barred(number, offset);
     }
     if !is_legal(marks, state) {
@@ -47,19 +40,45 @@ fn admit(dictionary: &[u8], kernel: &[u8], state: &[u8], marks: &mut [u8; PLACES
     Admission::Fine
 }
 
+// A step or a run, by the kernel's refusals and 15. Its sizes are right, and its budget is in its limit.
+fn called(
+    call: Call,
+    dictionary: &[u8],
+    kernel: &[u8],
+    registers: &mut [u8; REGISTER_BYTES],
+    state: &mut [u8; STATE_LENGTH],
+) -> Answer
+    requires { (sized dictionary.now kernel.now ≡ true) × (budget_of call ≤ budget_limit) }
+    ensures { Left (call_of call dictionary.now kernel.now registers.old state.old) result registers.new state.new }
+{
+    let mut marks = [0; PLACES];
+    match admit(dictionary, kernel, state, &mut marks) {
+        Admission::Barred(number, offset) => Answer::Refused(number, offset),
+        Admission::Fine => {
+            let accepted = Accepted {
+                dictionary,
+                kernel,
+                marks: &marks,
+            };
+            made_lawful(call, accepted, registers, state)
+        }
+    }
+}
+
 // One step from the lent state; 20 at the end, 22 at a broken address.
 pub fn step(dictionary: &[u8], kernel: &[u8], registers: &mut [u8], state: &mut [u8]) -> Answer
     ensures { Left (step_call dictionary.now kernel.now registers.old state.old) result registers.new state.new }
 {
-    if !are_sized(dictionary, kernel, registers, state) {
+    if !is_sized(dictionary, kernel) {
         return Answer::Refused(1, 0);
     }
-    let mut marks = [0u8; PLACES];
-    let o = admit(dictionary, kernel, state, &mut marks);
-    match o {
-        Admission::Barred(number, offset) => Answer::Refused(number, offset),
-        Admission::Fine => made_lawful(true, dictionary, kernel, &marks, 1, registers, state),
-    }
+    let Some(registers) = registers.as_mut_array() else {
+        return Answer::Refused(1, 0);
+    };
+    let Some(state) = state.as_mut_array() else {
+        return Answer::Refused(1, 0);
+    };
+    called(Call::Step, dictionary, kernel, registers, state)
 }
 
 // Steps from the lent state until the end, 20, a broken address, 22, or until the budget is spent, 21. 16 for a budget over the limit.
@@ -72,16 +91,17 @@ pub fn run(
 ) -> Answer
     ensures { Left (run_call dictionary.now kernel.now budget registers.old state.old) result registers.new state.new }
 {
-    if !are_sized(dictionary, kernel, registers, state) {
+    if !is_sized(dictionary, kernel) {
         return Answer::Refused(1, 0);
     }
+    let Some(registers) = registers.as_mut_array() else {
+        return Answer::Refused(1, 0);
+    };
+    let Some(state) = state.as_mut_array() else {
+        return Answer::Refused(1, 0);
+    };
     if BUDGET_LIMIT < budget {
         return Answer::Refused(16, 0);
     }
-    let mut marks = [0u8; PLACES];
-    let o = admit(dictionary, kernel, state, &mut marks);
-    match o {
-        Admission::Barred(number, offset) => Answer::Refused(number, offset),
-        Admission::Fine => made_lawful(false, dictionary, kernel, &marks, budget, registers, state),
-    }
+    called(Call::Run(budget), dictionary, kernel, registers, state)
 }

@@ -9,6 +9,7 @@ ghost use Rattle.run.specs.Outcomes.{Ends};
 use crate::acting::{Act, acting};
 use crate::ahead::row_at;
 use machine::step::{Stand, float_at, move_at, step_at};
+use words::limits::REGISTER_BYTES;
 
 // What a run comes to: 20 at the end, 21 with the budget spent or 22 at a broken address, the steps that were made, and where it stands.
 #[derive(Clone, Copy)]
@@ -24,7 +25,7 @@ pub(crate) fn run_on(
     end: u64,
     budget: u64,
     start: Stand,
-    registers: &mut [u8],
+    registers: &mut [u8; REGISTER_BYTES],
     addresses: &mut [u8],
     here: &mut [u16],
 ) -> Outcome
@@ -33,6 +34,7 @@ pub(crate) fn run_on(
         → Ends k budget t registers.new addresses.new here.new result }
 {
     let mut s = start;
+    // It steps by what stands there, and not by a count.
     let mut steps = 0;
     while s.place != end {
         if steps == budget {
@@ -44,8 +46,7 @@ pub(crate) fn run_on(
         }
         let row = row_at(table, s.place);
         let ways = row.ways;
-        let act = acting(row.unusual, row.word, addresses);
-        match act {
+        match acting(row.unusual, row.word, addresses) {
             Act::Steps(w) => {
                 s = step_at(w, ways, s, registers, here);
                 steps += 1;
@@ -61,7 +62,7 @@ pub(crate) fn run_on(
             Act::Broken => {
                 return Outcome {
                     verdict: 22,
-                    steps: steps,
+                    steps,
                     stand: s,
                 };
             }
@@ -69,7 +70,7 @@ pub(crate) fn run_on(
     }
     Outcome {
         verdict: 20,
-        steps: steps,
+        steps,
         stand: s,
     }
 }

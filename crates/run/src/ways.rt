@@ -6,7 +6,7 @@ ghost use Rattle.kernel.specs.Jumps.{instr_of};
 ghost use Rattle.machine.specs.Branches.{ways_is};
 
 use distances::branch::{Distances, distances_in};
-use distances::distance::{place_of, reach};
+use distances::distance::reach;
 use machine::ways::Ways;
 use words::bytes::Word;
 
@@ -20,26 +20,22 @@ pub(crate) fn ways_of(w: Word, here: u64, size: u64) -> Ways
     let held = distances_in(w);
     match held {
         Distances::Nothing => Ways {
-            next: next,
+            next,
             jump: 0,
             wait: 0,
         },
         Distances::One(d) => {
-            let target = place_of(reach(d, w, here, next));
+            let target = reach(d, w, here, next).unwrap_or(0);
             Ways {
-                next: next,
+                next,
                 jump: target,
                 wait: target,
             }
         }
         Distances::Two(d, e) => {
-            let jump = place_of(reach(d, w, here, next));
-            let wait = place_of(reach(e, w, here, next));
-            Ways {
-                next: next,
-                jump: jump,
-                wait: wait,
-            }
+            let jump = reach(d, w, here, next).unwrap_or(0);
+            let wait = reach(e, w, here, next).unwrap_or(0);
+            Ways { next, jump, wait }
         }
     }
 }

@@ -1,21 +1,20 @@
 -- What the answers of reading a log are in the paper's terms. Assumes nothing.
-use Rattle.std.specs.Prelude.{ℕ, ◌≤◌}
+use Rattle.std.specs.Prelude.{ℕ, ◌≤◌, Option, Some, None, Result, Ok, Err}
 use Rattle.paper.specs.Log as paper
-use Rattle.paper.specs.Log.{upto, torn_off, astray, readable, unreadable}
+use Rattle.paper.specs.Log.{upto, torn_off, astray, reached_to, readable, unreadable}
+use Rattle.text.specs.declared.read.Unread.{Unread}
+use Rattle.text.specs.declared.read.Unread.TheVariants.{Torn, Other}
 use Rattle.run_log.specs.declared.write.Entry.{Entry}
-use Rattle.run_log.specs.declared.read.Reach.{Reach}
-use Rattle.run_log.specs.declared.read.Reach.TheVariants.{Upto, Torn, Astray}
-use Rattle.run_log.specs.declared.read.Reading.{Reading}
-use Rattle.run_log.specs.declared.read.Reading.TheVariants.{Readable, Unreadable}
+use Rattle.run_log.specs.declared.read.Records.{Records}
 
-abbrev pub reach_is : Reach → paper.Reach
-reach_is (Upto at) = upto at
-reach_is Torn = torn_off
-reach_is Astray = astray
+abbrev pub reach_is : Result ℕ Unread → paper.Reach
+reach_is (Ok at) = upto at
+reach_is (Err Torn) = torn_off
+reach_is (Err Other) = astray
 
-abbrev pub reading_is : Reading → paper.Reading
-reading_is (Readable runs bytes) = readable runs bytes
-reading_is Unreadable = unreadable
+abbrev pub reading_is : Option Records → paper.Reading
+reading_is (Some r) = readable r.runs r.bytes
+reading_is None = unreadable
 
 -- What was read lies within so many bytes, and there are at most as many records.
 abbrev pub Within : ℕ → paper.Reading → Type 0

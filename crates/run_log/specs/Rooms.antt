@@ -1,12 +1,15 @@
 -- What code that reads a log rests on: a turn of its loop, and that what is read lies within. Assumes nothing.
-use Rattle.std.specs.Prelude.{◌≡◌, refl, List, [], ◌∷◌, ◌++◌, ℕ, zero, suc, ◌+◌, ◌-◌, ◌≤◌, ◌<◌, length, drop}
+use Rattle.std.specs.Prelude.{◌≡◌, refl, Err, List, [], ◌∷◌, ◌++◌, ℕ, zero, suc, ◌+◌, ◌-◌, ◌≤◌, ◌<◌, length, drop}
 use Rattle.std.proofs.Common.{ap, ◌∙◌, sym, arith}
 use borrow.Author.Tests.{le-leb, lt-leb}
 use Rattle.paper.specs.Text.{decimal, line, Found, whole, torn, other, found, digits_from}
 use Rattle.paper.specs.Log.{Reach, upto, torn_off, astray, reached_to, exactly_at, Item, exactly, at_most, item_at, further, read_items, record_at, onward, read_from, run_name, verdict_name, steps_name, place_name, awake_name, end_name}
 use Rattle.paper.specs.Limits.{budget_limit, last_place}
+use Rattle.text.specs.declared.read.Unread.{Unread}
+use Rattle.text.specs.declared.read.Unread.TheVariants.{Torn, Other}
 use Rattle.text.specs.Written.{length-line}
 use Rattle.text.specs.Reading.{whole_room, past_torn}
+use Rattle.run_log.specs.Meaning.{reach_is}
 
 -- ---- one line
 
@@ -43,6 +46,26 @@ most_past s name at limit h =
     sym (most_reads s name at limit t.number (sym t.digits) t.most ∙ ap (reached_to (at + length (line name (decimal t.number)))) t.tears)
 
 -- ---- a record
+
+-- Its lines, one after another: nothing more is read after one that is not there.
+stops : (s : List ℕ) (is : List Item) (e : Unread) → reach_is (Err e) ≡ read_items s is (reach_is (Err e))
+unfolding read_items
+stops s [] e = refl
+stops s (i ∷ is) Torn = stops s is Torn
+stops s (i ∷ is) Other = stops s is Other
+
+module _ (s : List ℕ) (i : Item) (at : ℕ) where
+  pub stop : (is : List Item) (e : Unread) → reach_is (Err e) ≡ item_at s i at → reach_is (Err e) ≡ read_items s (i ∷ is) (upto at)
+  unfolding read_items
+  stop is e h = stops s is e ∙ ap (read_items s is) h
+
+  pub next : (is : List Item) (r : Reach) (place : ℕ) → upto place ≡ item_at s i at → r ≡ read_items s is (upto place) → r ≡ read_items s (i ∷ is) (upto at)
+  unfolding read_items
+  next is r place h k = k ∙ ap (read_items s is) h
+
+  pub last : (r : Reach) → r ≡ item_at s i at → r ≡ read_items s (i ∷ []) (upto at)
+  unfolding read_items
+  last r h = h
 
 -- What the last line reaches lies within.
 pub last_room : (s name : List ℕ) (v next : ℕ) (r : Reach) → further s (exactly name v) r ≡ upto next → next ≤ length s

@@ -5,7 +5,7 @@ ghost use Rattle.paper.specs.Log.{log_sized, log_read_call, log_runs_call, log_p
 ghost use Rattle.words.specs.Answer.{answer_is, Wrote};
 ghost use Rattle.run_log.specs.Meaning.{entry_is};
 
-use crate::read::{Reading, read};
+use crate::read::read;
 use crate::write::{Entry, add, legal};
 use lanes::mask::count_awake;
 use words::answer::Answer;
@@ -17,7 +17,7 @@ fn sized(log: &[u8], count: u64) -> bool
     ensures { result ≡ log_sized log.now count }
 {
     let length = log.len() as u64;
-    (count <= length) & (length < 4294967296)
+    count <= length && length < 4294967296
 }
 
 // How many bytes the whole records take.
@@ -28,8 +28,8 @@ pub fn whole_bytes(log: &[u8], count: u64) -> Answer
         return Answer::Refused(1, 0);
     }
     match read(&log[..count as usize]) {
-        Reading::Readable(_, bytes) => Answer::Told(0, bytes as u64),
-        Reading::Unreadable => Answer::Refused(32, 0),
+        Some(records) => Answer::Told(0, records.bytes as u64),
+        None => Answer::Refused(32, 0),
     }
 }
 
@@ -41,8 +41,8 @@ pub fn whole_runs(log: &[u8], count: u64) -> Answer
         return Answer::Refused(1, 0);
     }
     match read(&log[..count as usize]) {
-        Reading::Readable(runs, _) => Answer::Told(0, runs),
-        Reading::Unreadable => Answer::Refused(32, 0),
+        Some(records) => Answer::Told(0, records.runs),
+        None => Answer::Refused(32, 0),
     }
 }
 
@@ -54,8 +54,8 @@ pub fn whole<'a>(log: &'a [u8], count: u64) -> &'a [u8]
         return &log[..0];
     }
     match read(&log[..count as usize]) {
-        Reading::Readable(_, bytes) => &log[..bytes],
-        Reading::Unreadable => &log[..0],
+        Some(records) => &log[..records.bytes],
+        None => &log[..0],
     }
 }
 
@@ -70,8 +70,8 @@ pub fn append(log: &mut [u8], count: u64, e: Entry) -> Answer
         return Answer::Refused(32, 0);
     }
     match read(&log[..count as usize]) {
-        Reading::Readable(runs, bytes) => add(log, count, runs, bytes, e),
-        Reading::Unreadable => Answer::Refused(32, 0),
+        Some(records) => add(log, count, records, e),
+        None => Answer::Refused(32, 0),
     }
 }
 
@@ -81,13 +81,12 @@ fn entry_of(answer: u64, state: &[u8]) -> Entry
     ensures { entry_is result ≡ entry_of answer state.now }
 {
     let place = read2(state, 4);
-    let awake = read2(state, 6);
-    let count = count_awake(awake as u16) as u64;
+    let mask = read2(state, 6);
     Entry {
         verdict: answer % 256,
         steps: answer / 4294967296,
-        place: place,
-        awake: count,
+        place,
+        awake: u64::from(count_awake(mask as u16)),
     }
 }
 

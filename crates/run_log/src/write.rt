@@ -5,6 +5,7 @@ ghost use Rattle.paper.specs.Log.{entry_legal, record_text, added_at};
 ghost use Rattle.words.specs.Answer.{Wrote};
 ghost use Rattle.run_log.specs.Meaning.{entry_is};
 
+use crate::read::Records;
 use text::write::{put_line, width};
 use words::answer::Answer;
 use words::limits::{BUDGET_LIMIT, LAST_PLACE};
@@ -22,23 +23,18 @@ pub struct Entry {
 pub fn legal(e: Entry) -> bool
     ensures { result ≡ entry_legal (entry_is e) }
 {
-    let verdict = e.verdict;
-    let steps = e.steps;
-    let place = e.place;
-    let awake = e.awake;
-    ((20 <= verdict) & (verdict <= 22))
-        & ((steps <= BUDGET_LIMIT) & ((place <= LAST_PLACE) & (awake <= 16)))
+    (20 <= e.verdict)
+        & (e.verdict <= 22)
+        & (e.steps <= BUDGET_LIMIT)
+        & (e.place <= LAST_PLACE)
+        & (e.awake <= 16)
 }
 
 // How many bytes a record's text has.
 fn text_length(run: u64, e: Entry) -> usize
     ensures { result ≡ length (record_text run (entry_is e)) }
 {
-    let verdict = e.verdict;
-    let steps = e.steps;
-    let place = e.place;
-    let awake = e.awake;
-    41 + width(run) + width(verdict) + width(steps) + width(place) + width(awake)
+    41 + width(run) + width(e.verdict) + width(e.steps) + width(e.place) + width(e.awake)
 }
 
 // Writes a record at the start of the part of the log that is lent.
@@ -46,27 +42,24 @@ fn write_record(tail: &mut [u8], run: u64, e: Entry)
     requires { length (record_text run (entry_is e)) ≤ length tail.old }
     ensures { tail.new ≡ sets tail.old 0 (record_text run (entry_is e)) }
 {
-    let verdict = e.verdict;
-    let steps = e.steps;
-    let place = e.place;
-    let awake = e.awake;
-    let a = put_line(tail, 0, b"run=", run);
-    let b = put_line(tail, a, b"verdict=", verdict);
-    let c = put_line(tail, b, b"steps=", steps);
-    let d = put_line(tail, c, b"place=", place);
-    let f = put_line(tail, d, b"awake=", awake);
-    put_line(tail, f, b"end=", 1);
+    let verdict = put_line(tail, 0, b"run=", run);
+    let steps = put_line(tail, verdict, b"verdict=", e.verdict);
+    let place = put_line(tail, steps, b"steps=", e.steps);
+    let awake = put_line(tail, place, b"place=", e.place);
+    let end = put_line(tail, awake, b"awake=", e.awake);
+    put_line(tail, end, b"end=", 1);
 }
 
-// Writes a record at a place of the log, where it has room: the writer is lent the part of the log that starts there.
-pub fn add(log: &mut [u8], count: u64, run: u64, at: usize, e: Entry) -> Answer
-    requires { at ≤ length log.old }
-    ensures { Wrote (added_at log.old count at (record_text run (entry_is e))) result log.new }
+// Writes a record after the whole ones of the log, where it has room: the writer is lent the part of the log that starts there.
+pub fn add(log: &mut [u8], count: u64, whole: Records, e: Entry) -> Answer
+    requires { whole.bytes ≤ length log.old }
+    ensures { Wrote (added_at log.old count whole.bytes (record_text whole.runs (entry_is e))) result log.new }
 {
-    let n = text_length(run, e);
+    let at = whole.bytes;
+    let n = text_length(whole.runs, e);
     if log.len() - at < n {
         return Answer::RefusedWith(14, 0, count);
     }
-    write_record(&mut log[at..], run, e);
+    write_record(&mut log[at..], whole.runs, e);
     Answer::Told(0, (at + n) as u64)
 }

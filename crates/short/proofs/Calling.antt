@@ -4,7 +4,8 @@ use mathlib.Core.List.{List}
 use mathlib.Core.Path.{◌≡◌, sym, ap, ◌∙◌}
 use Prim.Native.Nat.{ℕ, ◌≤◌, ◌<◌}
 use borrow.Author.Tests.{lt-ltb, le-ltb, eq-eqb, ne_eqb}
-use lib.ListN.{length}
+use lib.ListN.{length, drop}
+use mathlib.Core.List.{◌++◌}
 use Rattle.paper.specs.Limits.{dictionary_bytes}
 use Rattle.paper.specs.Bits.{bytes_of, number_at, put_at}
 use Rattle.paper.specs.Dictionary.{dictionary_of, in_range}
@@ -13,6 +14,9 @@ use Rattle.paper.specs.Shorten.{shorten}
 use Rattle.paper.specs.Operation.{operation, is_listed, is_branch}
 use Rattle.paper.specs.Calls.{Answer, refusal, verdict, Written, kept, deliver, one_word, shortened, shorten_call, expand_call}
 use Rattle.laws.specs.Bytes.{length-bytes_of}
+use native.Mathlib.Omega.{arith}
+use Rattle.std.proofs.lemmas.List.{append-nil}
+use Rattle.std.proofs.Math.ListN.{drop_of_length-le}
 use Rattle.words.specs.Bytes.{front_put}
 
 -- An answer and an output are those of what they make up.
@@ -25,18 +29,22 @@ pub as_called : (answer : Answer) (output : List ℕ) (v w : Written) → w ≡ 
     → (answer ≡ v.answer) × (output ≡ v.output) → (answer ≡ w.answer) × (output ≡ w.output)
 as_called answer output v w e h = rw e h
 
--- ---- delivering n bytes
+-- ---- delivering bytes
 
-module _ (n v : ℕ) (out : List ℕ) where
+module _ (bytes out : List ℕ) where
   -- The output is too short.
-  pub deliver_refused : length out < n → deliver (bytes_of n v) out ≡ kept (refusal 14 0) out
+  pub deliver_refused : length out < length bytes → deliver bytes out ≡ kept (refusal 14 0) out
   unfolding deliver
-  deliver_refused h = rw (length-bytes_of n v, lt-ltb _ _ h)
+  deliver_refused h = rw (lt-ltb _ _ h)
 
-  -- It is not: then the bytes are stored from its start on.
-  pub deliver_stored : n ≤ length out → deliver (bytes_of n v) out ≡ kept (verdict 0 n) (put_at out 0 n v)
+  -- It is not: then the bytes are its first.
+  pub deliver_stored : length bytes ≤ length out → deliver bytes out ≡ kept (verdict 0 (length bytes)) (bytes ++ drop (length bytes) out)
   unfolding deliver
-  deliver_stored h = rw (length-bytes_of n v, le-ltb _ _ h, front_put n out v h)
+  deliver_stored h = rw (le-ltb _ _ h)
+
+-- A number's bytes in an array of their length.
+pub array_put : (n : ℕ) (l : List ℕ) (v : ℕ) → length l ≡ n → put_at l 0 n v ≡ bytes_of n v
+array_put n l v h = front_put n l v (omega (arith, h)) ∙ ap (λ (rest : List ℕ). bytes_of n v ++ rest) (drop_of_length-le l {i = n} (omega (arith, h))) ∙ append-nil (bytes_of n v)
 
 -- ---- 1, 2 and 4 of one word
 

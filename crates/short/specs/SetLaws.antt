@@ -1,7 +1,7 @@
 -- The first index that a key's sets have in common is the smallest index at which the table's number is the key. Assumes nothing.
 use Rattle.std.proofs.Math.Bool.{Bool}
-use Rattle.std.specs.Prelude.{true, false, ◌&&◌, List, ◌≡◌, refl, length, set}
-use Rattle.std.proofs.Common.{sym, ap₂, ◌∙◌, mod-lt, mod-eq_of_lt, pow-suc, add-one, length-set, pow_pos, get_or-set_same, get_or-set_other, eqb-true, eq-eqb, ne_eqb}
+use Rattle.std.specs.Prelude.{true, false, cond, ◌&&◌, List, Some, None, ◌≡◌, refl, length, replicate, set, ltb}
+use Rattle.std.proofs.Common.{sym, ap₂, ◌∙◌, mod-lt, mod-eq_of_lt, pow-suc, add-one, length-set, pow_pos, get_or-set_same, get_or-set_other, lt-ltb, le-ltb, eqb-true, eq-eqb, ne_eqb}
 use Rattle.std.proofs.Math.Path.{ap}
 use Prim.Native.Nat.{ℕ, zero, suc, ◌+◌, ◌*◌, ◌/◌, ◌%◌, ◌^◌, ◌≤◌, ◌<◌}
 use native.Mathlib.Omega.{arith}
@@ -12,13 +12,15 @@ use Rattle.std.proofs.Math.Dec.{eqb}
 use Rattle.std.proofs.Math.ListN.{get_or}
 use Rattle.std.proofs.Math.Pow.{pow_mono}
 use Rattle.std.proofs.lemmas.Bool.{eqb-false}
+use Rattle.std.proofs.lemmas.List.{get_or-replicate}
+use borrow.Author.Tests.{ltb-true, ltb-false}
 use Rattle.paper.specs.Bits.{bits, bit}
 use Rattle.paper.specs.Enable.{digit, of_bits}
 use Rattle.paper.specs.Dictionary.{Dictionary}
 use Rattle.paper.specs.Shorten.{first_from, index_of}
 use Rattle.laws.specs.Bits.{bits_above}
 use Rattle.laws.specs.Masks.{of_bits_less, bit-of_bits}
-use Rattle.short.specs.Sets.{table_sets, set_count, entry, has_digit, Gathered, Sets, Empty, Below, Gathering, mark, joined, first_common}
+use Rattle.short.specs.Sets.{entry, has_digit, Gathered, mark, joined, first_common, found}
 
 -- ---- sets as numbers
 
@@ -94,7 +96,7 @@ digits_same x y h k = go (eqb x y) refl (eqb (bits x 0 6) (y % 64)) refl (eqb (b
 
 -- ---- the look-up
 
-module _ (D : Dictionary) (base width at : ℕ) (narrow : width ≤ 18) (sets : List ℕ) (gathered : Gathered D base width at sets 32) where
+module _ (D : Dictionary) (base width : ℕ) (narrow : width ≤ 18) (sets : List ℕ) (gathered : Gathered D base width sets 32) where
   entry_small : (i : ℕ) → entry D base width i < 2 ^ 18
   entry_small i = omega (arith, mod-lt (D (base + i)) (pow_pos width), pow_mono {i = width} {j = 18} narrow)
 
@@ -105,16 +107,16 @@ module _ (D : Dictionary) (base width at : ℕ) (narrow : width ≤ 18) (sets : 
   three_common key h i = digits_same (entry D base width i) key (entry_small i) h
 
   -- It answers the smallest index.
-  pub common_index : (key : ℕ) → key < 2 ^ width → first_common sets at key ≡ index_of (λ (i : ℕ). D (base + i)) (2 ^ width) key
+  pub common_index : (key : ℕ) → key < 2 ^ width → first_common sets key ≡ index_of (λ (i : ℕ). D (base + i)) (2 ^ width) key
   unfolding first_common index_of
   common_index key h =
       let f : ℕ → Bool = has_digit D base width 0 (key % 64) in
       let g : ℕ → Bool = has_digit D base width 1 (key / 64 % 64) in
       let t : ℕ → Bool = has_digit D base width 2 (key / 4096 % 64) in
       let small : key < 2 ^ 18 = omega (arith, h, pow_mono {i = width} {j = 18} narrow) in
-      let low : get_or sets (at + key % 64) 0 ≡ of_bits f 32 = ap (λ (k : ℕ). get_or sets k 0) (let z : at + key % 64 ≡ at + (64 * 0 + key % 64) = omega arith in z) ∙ gathered 0 (key % 64) (omega arith) (omega arith) in
-      let middle : get_or sets (at + (64 + key / 64 % 64)) 0 ≡ of_bits g 32 = gathered 1 (key / 64 % 64) (omega arith) (omega arith) in
-      let high : get_or sets (at + (128 + key / 4096 % 64)) 0 ≡ of_bits t 32 = gathered 2 (key / 4096 % 64) (omega arith) (omega arith) in
+      let low : get_or sets (key % 64) 0 ≡ of_bits f 32 = ap (λ (k : ℕ). get_or sets k 0) (let z : key % 64 ≡ 64 * 0 + key % 64 = omega arith in z) ∙ gathered 0 (key % 64) (omega arith) (omega arith) in
+      let middle : get_or sets (64 + key / 64 % 64) 0 ≡ of_bits g 32 = gathered 1 (key / 64 % 64) (omega arith) (omega arith) in
+      let high : get_or sets (128 + key / 4096 % 64) 0 ≡ of_bits t 32 = gathered 2 (key / 4096 % 64) (omega arith) (omega arith) in
       let all : ℕ → Bool = λ i. eqb (entry D base width i) key in
       let same : (λ (i : ℕ). (f i && g i) && t i) ≡ all = λ x i. three_common key small i x in
       let start : count_trailing_zeros 32 (of_bits all 32) ≡ 0 + count_trailing_zeros 32 (of_bits all 32) = omega arith in
@@ -159,30 +161,21 @@ mark-length : (l : List ℕ) (a one : ℕ) → length (mark l a one) ≡ length 
 unfolding mark
 mark-length l a one = length-set l a _
 
-module _ (at : ℕ) (l : List ℕ) (inside : at + table_sets ≤ length l) where
-  -- Sets outside of the table stay.
-  pub joined_outside : (x one k : ℕ) → ((v : ℕ) → v < table_sets → k ≡ at + v → ⊥) → get_or (joined l at x one) k 0 ≡ get_or l k 0
-  unfolding joined
-  joined_outside x one k outside =
-      mark_other (mark (mark l (at + x % 64) one) (at + (64 + x / 64 % 64)) one) (at + (128 + x / 4096 % 64)) one k
-      (outside (128 + x / 4096 % 64) (omega arith))
-      ∙ mark_other (mark l (at + x % 64) one) (at + (64 + x / 64 % 64)) one k (outside (64 + x / 64 % 64) (omega arith))
-      ∙ mark_other l (at + x % 64) one k (outside (x % 64) (omega arith))
+joined_length : (l : List ℕ) (x one : ℕ) → length (joined l x one) ≡ length l
+unfolding joined
+joined_length l x one = mark-length _ _ _ ∙ mark-length _ _ _ ∙ mark-length _ _ _
 
-  pub joined_length : (x one : ℕ) → length (joined l at x one) ≡ length l
-  unfolding joined
-  joined_length x one = mark-length _ _ _ ∙ mark-length _ _ _ ∙ mark-length _ _ _
-
+module _ (l : List ℕ) (inside : 192 ≤ length l) where
   -- Of digit j, where digit d joins: a set has the index just where it is the digit's.
-  digit_more : (m : List ℕ) (j d v n : ℕ) → at + (64 * j + d) < length m → get_or m (at + (64 * j + v)) 0 < 2 ^ n
-      → get_or (mark m (at + (64 * j + d)) (2 ^ n)) (at + (64 * j + v)) 0 ≡ digit (eqb d v) * 2 ^ n + get_or m (at + (64 * j + v)) 0
+  digit_more : (m : List ℕ) (j d v n : ℕ) → 64 * j + d < length m → get_or m (64 * j + v) 0 < 2 ^ n
+      → get_or (mark m (64 * j + d) (2 ^ n)) (64 * j + v) 0 ≡ digit (eqb d v) * 2 ^ n + get_or m (64 * j + v) 0
   digit_more m j d v n h less =
-      mark_more m (at + (64 * j + d)) n (at + (64 * j + v)) h less
-      ∙ ap (λ (t : Bool). digit t * 2 ^ n + get_or m (at + (64 * j + v)) 0) (same_test {a = at + (64 * j + d)} {b = at + (64 * j + v)} {x = d} {y = v} (λ e. omega arith) (λ e. omega arith))
+      mark_more m (64 * j + d) n (64 * j + v) h less
+      ∙ ap (λ (t : Bool). digit t * 2 ^ n + get_or m (64 * j + v) 0) (same_test {a = 64 * j + d} {b = 64 * j + v} {x = d} {y = v} (λ e. omega arith) (λ e. omega arith))
 
   -- Number n joins the sets of the n numbers before it.
-  pub gathered_more : (D : Dictionary) (base width n : ℕ) → Gathered D base width at l n
-      → Gathered D base width at (joined l at (entry D base width n) (2 ^ n)) (n + 1)
+  pub gathered_more : (D : Dictionary) (base width n : ℕ) → Gathered D base width l n
+      → Gathered D base width (joined l (entry D base width n) (2 ^ n)) (n + 1)
   unfolding joined of_bits
   gathered_more D base width n g j v few small = rw (add-one n) (go j few)
     where
@@ -190,86 +183,82 @@ module _ (at : ℕ) (l : List ℕ) (inside : at + table_sets ≤ length l) where
       x = entry D base width n
 
       one : List ℕ
-      one = mark l (at + x % 64) (2 ^ n)
+      one = mark l (x % 64) (2 ^ n)
 
       two : List ℕ
-      two = mark one (at + (64 + x / 64 % 64)) (2 ^ n)
+      two = mark one (64 + x / 64 % 64) (2 ^ n)
 
       three : List ℕ
-      three = mark two (at + (128 + x / 4096 % 64)) (2 ^ n)
+      three = mark two (128 + x / 4096 % 64) (2 ^ n)
 
-      held : (j : ℕ) → j < 3 → get_or l (at + (64 * j + v)) 0 < 2 ^ n
+      held : (j : ℕ) → j < 3 → get_or l (64 * j + v) 0 < 2 ^ n
       held j h = rw (g j v h small) (of_bits_less (has_digit D base width j v) n)
 
       -- Where digit d of number n is told, and the set was l's before.
-      told : (j d b : ℕ) → j < 3 → d ≡ bits x (6 * j) 6 → b ≡ get_or l (at + (64 * j + v)) 0
+      told : (j d b : ℕ) → j < 3 → d ≡ bits x (6 * j) 6 → b ≡ get_or l (64 * j + v) 0
           → digit (eqb d v) * 2 ^ n + b ≡ digit (eqb (bits x (6 * j) 6) v) * 2 ^ n + of_bits (has_digit D base width j v) n
       told j d b h e f = rw (e, f, g j v h small)
 
-      go : (j : ℕ) → j < 3 → get_or three (at + (64 * j + v)) 0 ≡ digit (eqb (bits x (6 * j) 6) v) * 2 ^ n + of_bits (has_digit D base width j v) n
+      go : (j : ℕ) → j < 3 → get_or three (64 * j + v) 0 ≡ digit (eqb (bits x (6 * j) 6) v) * 2 ^ n + of_bits (has_digit D base width j v) n
       go zero h =
-          let first : at + x % 64 ≡ at + (0 + x % 64) = omega arith in
+          let first : x % 64 ≡ 0 + x % 64 = omega arith in
           let low : x % 64 ≡ bits x 0 6 = omega arith in
-          mark_other two (at + (128 + x / 4096 % 64)) (2 ^ n) (at + (0 + v)) (λ e. omega arith)
-          ∙ mark_other one (at + (64 + x / 64 % 64)) (2 ^ n) (at + (0 + v)) (λ e. omega arith)
-          ∙ ap (λ (a : ℕ). get_or (mark l a (2 ^ n)) (at + (0 + v)) 0) first
+          mark_other two (128 + x / 4096 % 64) (2 ^ n) (0 + v) (λ e. omega arith)
+          ∙ mark_other one (64 + x / 64 % 64) (2 ^ n) (0 + v) (λ e. omega arith)
+          ∙ ap (λ (a : ℕ). get_or (mark l a (2 ^ n)) (0 + v) 0) first
           ∙ digit_more l 0 (x % 64) v n (omega arith) (held 0 h)
-          ∙ told 0 (x % 64) (get_or l (at + (0 + v)) 0) h low refl
+          ∙ told 0 (x % 64) (get_or l (0 + v) 0) h low refl
       go (suc zero) h =
-          let stays = mark_other l (at + x % 64) (2 ^ n) (at + (64 + v)) (λ e. omega arith) in
-          mark_other two (at + (128 + x / 4096 % 64)) (2 ^ n) (at + (64 + v)) (λ e. omega arith)
-          ∙ digit_more one 1 (x / 64 % 64) v n (rw (mark-length l (at + x % 64) (2 ^ n)) (omega arith)) (rw stays (held 1 h))
-          ∙ told 1 (x / 64 % 64) (get_or one (at + (64 + v)) 0) h refl stays
+          let stays = mark_other l (x % 64) (2 ^ n) (64 + v) (λ e. omega arith) in
+          mark_other two (128 + x / 4096 % 64) (2 ^ n) (64 + v) (λ e. omega arith)
+          ∙ digit_more one 1 (x / 64 % 64) v n (rw (mark-length l (x % 64) (2 ^ n)) (omega arith)) (rw stays (held 1 h))
+          ∙ told 1 (x / 64 % 64) (get_or one (64 + v) 0) h refl stays
       go (suc (suc zero)) h =
           let stays =
-          mark_other one (at + (64 + x / 64 % 64)) (2 ^ n) (at + (128 + v)) (λ e. omega arith)
-          ∙ mark_other l (at + x % 64) (2 ^ n) (at + (128 + v)) (λ e. omega arith) in
-          digit_more two 2 (x / 4096 % 64) v n (rw (mark-length one (at + (64 + x / 64 % 64)) (2 ^ n), mark-length l (at + x % 64) (2 ^ n)) (omega arith)) (rw stays (held 2 h))
-          ∙ told 2 (x / 4096 % 64) (get_or two (at + (128 + v)) 0) h refl stays
+          mark_other one (64 + x / 64 % 64) (2 ^ n) (128 + v) (λ e. omega arith)
+          ∙ mark_other l (x % 64) (2 ^ n) (128 + v) (λ e. omega arith) in
+          digit_more two 2 (x / 4096 % 64) v n (rw (mark-length one (64 + x / 64 % 64) (2 ^ n), mark-length l (x % 64) (2 ^ n)) (omega arith)) (rw stays (held 2 h))
+          ∙ told 2 (x / 4096 % 64) (get_or two (128 + v) 0) h refl stays
       go (suc (suc (suc j))) h = absurd (omega arith)
 
--- ---- a table, number by number
+-- Before the first number no index is in a set.
+pub none_gathered : (D : Dictionary) (base width : ℕ) → Gathered D base width (replicate 192 0) 0
+unfolding of_bits
+none_gathered D base width j v few small = get_or-replicate 192 (64 * j + v) 0 0 (omega arith)
 
-module _ (D : Dictionary) (base width at : ℕ) (room : at + table_sets ≤ set_count) where
-  pub gathering_start : (l : List ℕ) → length l ≡ set_count → Empty l at → Gathering D base width at l l 0
-  unfolding of_bits
-  gathering_start l all empty =
-      record {
-        all = all;
-        here = λ j v few small. empty (at + (64 * j + v)) (omega arith);
-        below = λ k h. refl;
-        behind = λ k h. empty k (omega arith);
-      }
+-- The next number, x, joins; `one` is the set of its index.
+pub one_more : (D : Dictionary) (base width : ℕ) (before after : List ℕ) (n x one : ℕ) → length after ≡ 192 → after ≡ joined before x one
+    → Gathered D base width before n → x ≡ entry D base width n → one ≡ 2 ^ n → Gathered D base width after (n + 1)
+one_more D base width before after n x one long same g e f =
+    let kept : length (joined before x one) ≡ 192 = rw same at long in
+    rw (same, e, f) (gathered_more before (omega (arith, sym (joined_length before x one) ∙ kept)) D base width n g)
 
-  -- The next number, x, joins; `one` is the set of its index.
-  pub gathering_more : (l₀ l : List ℕ) (n x one : ℕ) → Gathering D base width at l₀ l n → x ≡ entry D base width n → one ≡ 2 ^ n
-      → Gathering D base width at l₀ (joined l at x one) (n + 1)
-  gathering_more l₀ l n x one g e f =
-      let inside : at + table_sets ≤ length l = omega (arith, g.all) in
-      record {
-        all = joined_length at l inside x one ∙ g.all;
-        here = rw (e, f) (gathered_more at l inside D base width n g.here);
-        below = λ k h. joined_outside at l inside x one k (λ v few e. omega arith) ∙ g.below k h;
-        behind = λ k h. joined_outside at l inside x one k (λ v few e. omega arith) ∙ g.behind k h;
-      }
+-- ---- an index, or none
 
--- What was gathered further down stays.
-stays : (D : Dictionary) (base width at next : ℕ) (l m : List ℕ) → at + table_sets ≤ next → Gathered D base width at l 32 → Below next l m
-    → Gathered D base width at m 32
-stays D base width at next l m h g below j v few small = below (at + (64 * j + v)) (omega arith) ∙ g j v few small
+-- One that is there.
+pub found_at : (i : ℕ) → i < 32 → Some i ≡ found i
+unfolding found
+found_at i h = rw (lt-ltb _ _ h)
 
--- The five look-ups, gathered one after the other.
-pub all_gathered : (D : Dictionary) (l₀ l₁ l₂ l₃ l₄ l₅ : List ℕ) → Gathering D 0 17 0 l₀ l₁ 32 → Gathering D 32 18 192 l₁ l₂ 32
-    → Gathering D 64 15 384 l₂ l₃ 32 → Gathering D 64 10 576 l₃ l₄ 32 → Gathering D 96 12 768 l₄ l₅ 32 → Sets D l₅
-all_gathered D l₀ l₁ l₂ l₃ l₄ l₅ a b c d e =
-    let third : Below 576 l₃ l₅ = λ k h. e.below k (omega arith) ∙ d.below k h in
-    let second : Below 384 l₂ l₅ = λ k h. third k (omega arith) ∙ c.below k h in
-    let first : Below 192 l₁ l₅ = λ k h. second k (omega arith) ∙ b.below k h in
-    record {
-      all = e.all;
-      of-control = stays D 0 17 0 192 l₁ l₅ (omega arith) a.here first;
-      of-datatype = stays D 32 18 192 384 l₂ l₅ (omega arith) b.here second;
-      of-subregister = stays D 64 15 384 576 l₃ l₅ (omega arith) c.here third;
-      of-low-ten = stays D 64 10 576 768 l₄ l₅ (omega arith) d.here e.below;
-      of-source = e.here;
-    }
+-- None is.
+pub found_none : (i : ℕ) → 32 ≤ i → None ≡ found i
+unfolding found
+found_none i h = rw (le-ltb _ _ h)
+
+-- What is answered is the index.
+pub is_found : (i r : ℕ) → Some r ≡ found i → (r ≡ i) × (r < 32)
+unfolding found
+is_found i r e = go (ltb i 32) refl e
+  where
+    go : (b : Bool) → ltb i 32 ≡ b → Some r ≡ cond b (Some i) None → (r ≡ i) × (r < 32)
+    go true h e = let same : r ≡ i = cc in (same, rw same (ltb-true _ _ h))
+    go false h e = absurd (cc)
+
+-- Where none is answered there is none.
+pub not_found : (i : ℕ) → None ≡ found i → 32 ≤ i
+unfolding found
+not_found i e = go (ltb i 32) refl e
+  where
+    go : (b : Bool) → ltb i 32 ≡ b → None ≡ cond b (Some i) None → 32 ≤ i
+    go true h e = absurd (cc)
+    go false h e = ltb-false _ _ h

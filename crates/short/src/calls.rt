@@ -1,4 +1,5 @@
 // Shortening and expanding one word, lent as bytes. A refusal leaves the output as it was.
+ghost use Rattle.std.specs.Prelude.{◌≡◌};
 ghost use Rattle.paper.specs.Bits.{bytes_of};
 ghost use Rattle.paper.specs.Calls.{deliver, shortened, shorten_call, expand_call};
 ghost use Rattle.words.specs.Words.{to_word};
@@ -7,42 +8,50 @@ ghost use Rattle.words.specs.Answer.{Wrote};
 
 use crate::dictionary::in_range;
 use crate::expand::expand;
-use crate::shorten::{Shorter, shorten};
+use crate::shorten::shorten;
 use words::answer::Answer;
-use words::bytes::{Word, read8, read16, write8, write16};
+use words::bytes::{Word, read8, read16, write, write16};
 use words::fields::{cmpt_ctrl, is_short, operation, operation_in};
 use words::limits::DICTIONARY_BYTES;
 use words::operation::{is_branch, is_listed};
 
-// The eight bytes of v as the output's first; 14 where it is shorter.
-pub fn deliver8(out: &mut [u8], v: u64) -> Answer
-    ensures { Wrote (deliver (bytes_of 8 v) out.old) result out.new }
+// Bytes as the output's first; 14 where it is shorter.
+pub fn deliver(out: &mut [u8], bytes: &[u8]) -> Answer
+    ensures { Wrote (deliver bytes.now out.old) result out.new }
 {
-    if out.len() < 8 {
+    let length = bytes.len();
+    if out.len() < length {
         return Answer::Refused(14, 0);
     }
-    write8(out, 0, v);
-    Answer::Told(0, 8)
+    out[..length].copy_from_slice(bytes);
+    Answer::Told(0, length as u64)
 }
 
-// The sixteen bytes of w as the output's first; 14 where it is shorter.
-pub fn deliver16(out: &mut [u8], w: Word) -> Answer
-    ensures { Wrote (deliver (bytes_of 16 (to_word w)) out.old) result out.new }
+// The eight bytes of a number.
+fn eight_bytes(v: u64) -> [u8; 8]
+    ensures { result ≡ bytes_of 8 v }
 {
-    if out.len() < 16 {
-        return Answer::Refused(14, 0);
-    }
-    write16(out, 0, w);
-    Answer::Told(0, 16)
+    let mut bytes = [0u8; 8];
+    write::<8>(&mut bytes, 0, v);
+    bytes
+}
+
+// The sixteen bytes of a long word.
+fn sixteen_bytes(w: Word) -> [u8; 16]
+    ensures { result ≡ bytes_of 16 (to_word w) }
+{
+    let mut bytes = [0u8; 16];
+    write16(&mut bytes, 0, w);
+    bytes
 }
 
 // A short word's bytes, or 13 where there is none.
-fn deliver_shorter(out: &mut [u8], a: Shorter) -> Answer
-    ensures { Wrote (shortened (shorter_is a) out.old) result out.new }
+fn deliver_shorter(out: &mut [u8], shorter: Option<u64>) -> Answer
+    ensures { Wrote (shortened (shorter_is shorter) out.old) result out.new }
 {
-    match a {
-        Shorter::Short(s) => deliver8(out, s),
-        Shorter::NoShort => Answer::Refused(13, 0),
+    match shorter {
+        Some(s) => deliver(out, &eight_bytes(s)),
+        None => Answer::Refused(13, 0),
     }
 }
 
@@ -50,9 +59,9 @@ fn deliver_shorter(out: &mut [u8], a: Shorter) -> Answer
 pub fn shorten_word(dictionary: &[u8], word: &[u8], out: &mut [u8]) -> Answer
     ensures { Wrote (shorten_call dictionary.now word.now out.old) result out.new }
 {
-    if dictionary.len() != DICTIONARY_BYTES {
+    let Some(dictionary) = dictionary.as_array::<DICTIONARY_BYTES>() else {
         return Answer::Refused(1, 0);
-    }
+    };
     if word.len() != 16 {
         return Answer::Refused(1, 0);
     }
@@ -66,18 +75,16 @@ pub fn shorten_word(dictionary: &[u8], word: &[u8], out: &mut [u8]) -> Answer
     if cmpt_ctrl(w) == 1 {
         return Answer::Refused(5, 0);
     }
-    let none = [0u32; 0];
-    let a = shorten(dictionary, &none, w);
-    deliver_shorter(out, a)
+    deliver_shorter(out, shorten(dictionary, None, w))
 }
 
 // The long word that the short word stands for, as sixteen bytes.
 pub fn expand_word(dictionary: &[u8], word: &[u8], out: &mut [u8]) -> Answer
     ensures { Wrote (expand_call dictionary.now word.now out.old) result out.new }
 {
-    if dictionary.len() != DICTIONARY_BYTES {
+    let Some(dictionary) = dictionary.as_array::<DICTIONARY_BYTES>() else {
         return Answer::Refused(1, 0);
-    }
+    };
     if word.len() != 8 {
         return Answer::Refused(1, 0);
     }
@@ -88,12 +95,8 @@ pub fn expand_word(dictionary: &[u8], word: &[u8], out: &mut [u8]) -> Answer
     if !is_listed(operation_in(s)) {
         return Answer::Refused(4, 0);
     }
-    if !is_short(s) {
+    if !is_short(s) || is_branch(operation_in(s)) {
         return Answer::Refused(5, 0);
     }
-    if is_branch(operation_in(s)) {
-        return Answer::Refused(5, 0);
-    }
-    let w = expand(dictionary, s);
-    deliver16(out, w)
+    deliver(out, &sixteen_bytes(expand(dictionary, s)))
 }

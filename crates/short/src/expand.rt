@@ -1,6 +1,5 @@
 // The long word that a short word stands for.
-ghost use Rattle.std.specs.Prelude.{◌≡◌, ◌<◌, ◌^◌, length};
-ghost use Rattle.paper.specs.Limits.{dictionary_bytes};
+ghost use Rattle.std.specs.Prelude.{◌≡◌, ◌<◌, ◌^◌};
 ghost use Rattle.paper.specs.Rows.{assemble};
 ghost use Rattle.paper.specs.Dictionary.{dictionary_of};
 ghost use Rattle.paper.specs.Expand.{extended, low_rows, top_rows, high_rows, expand};
@@ -9,6 +8,7 @@ ghost use Rattle.words.specs.Words.{to_word};
 use crate::dictionary::number;
 use words::bytes::Word;
 use words::fields::form_of;
+use words::limits::DICTIONARY_BYTES;
 
 // Bits 63:0: c, t and b are the short word's control, datatype and subregister numbers.
 fn low_bits(s: u64, c: u64, t: u64, b: u64) -> u64
@@ -59,8 +59,7 @@ fn high_bits(immediate: bool, s: u64, b: u64, a: u64, x: u64) -> u64
 }
 
 // The long word that short word s stands for.
-pub fn expand(dictionary: &[u8], s: u64) -> Word
-    requires { length dictionary.now ≡ dictionary_bytes }
+pub fn expand(dictionary: &[u8; DICTIONARY_BYTES], s: u64) -> Word
     ensures { to_word result ≡ expand (dictionary_of dictionary.now) s }
 {
     let c = number(dictionary, (s / 0x100 % 32) as usize);
@@ -70,5 +69,5 @@ pub fn expand(dictionary: &[u8], s: u64) -> Word
     let x = number(dictionary, (96 + s / 0x8_0000_0000 % 32) as usize);
     let lo = low_bits(s, c, t, b);
     let hi = high_bits(form_of(lo), s, b, a, x);
-    Word { lo: lo, hi: hi }
+    Word { lo, hi }
 }

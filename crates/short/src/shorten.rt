@@ -1,55 +1,60 @@
 // The smallest short word that expands to a word.
-ghost use Rattle.std.specs.Prelude.{◌≡◌, ℕ, ◌+◌, ◌<◌, ◌≤◌, ◌^◌, true, false, length};
-ghost use Rattle.paper.specs.Limits.{dictionary_bytes};
+ghost use Rattle.std.specs.Prelude.{◌≡◌, ℕ, ◌+◌, ◌<◌, ◌≤◌, ◌^◌, true, false};
+ghost use Rattle.std.specs.Option.{option_copied};
 ghost use Rattle.paper.specs.Rows.{assemble};
 ghost use Rattle.paper.specs.Dictionary.{dictionary_of};
 ghost use Rattle.paper.specs.Shorten.{control_key, datatype_key, subregister_key, index_of, head_rows, tail_rows, short_word};
 ghost use Rattle.paper.specs.Shorten.{shorten_immediate, shorten_register, shorten_halves, shorten};
 ghost use Rattle.words.specs.Words.{to_word};
-ghost use Rattle.short.specs.Sets.{set_count, table_sets, Finds, Serves};
+ghost use Rattle.short.specs.Sets.{Finds, Serves, found};
 ghost use Rattle.short.specs.Shorter.{shorter_is, allowed};
 
 use crate::dictionary::number;
-use crate::sets::{CONTROL, DATATYPE, LOW_TEN, SOURCE, SUBREGISTER, first_common, power};
+use crate::sets::{
+    CONTROL, DATATYPE, IndexSets, LOW_TEN, SOURCE, SUBREGISTER, first_common, power,
+};
 use words::bytes::Word;
 use words::fields::{form_of, operation_in, part};
+use words::limits::DICTIONARY_BYTES;
 use words::operation::is_branch;
-
-// A short word, or none.
-#[derive(Clone, Copy)]
-pub enum Shorter {
-    Short(u64),
-    NoShort,
-}
 
 // ---- the tables, with the sets of a dictionary or without
 
-// The smallest index into the table from number `base` on, of `width` bits, at which the number is the key, or 32 where none is: number by number.
-fn walked_index(dictionary: &[u8], base: usize, width: u64, key: u64) -> u64
-    requires { (length dictionary.now ≡ dictionary_bytes) × (base ≤ 96) × (width ≤ 18) }
-    ensures { result ≡ index_of (λ (i : ℕ). dictionary_of dictionary.now (base + i)) (2 ^ width) key }
+// The smallest index into the table from number `base` on, of `width` bits, at which the number is the key: number by number.
+fn walked_index(
+    dictionary: &[u8; DICTIONARY_BYTES],
+    base: usize,
+    width: u64,
+    key: u64,
+) -> Option<u64>
+    requires { (base ≤ 96) × (width ≤ 18) }
+    ensures { result ≡ found (index_of (λ (i : ℕ). dictionary_of dictionary.now (base + i)) (2 ^ width) key) }
 {
     let modulus = power(width);
-    let mut i: usize = 0;
-    while i < 32 {
+    for i in 0..32 {
         if number(dictionary, base + i) % modulus == key {
-            return i as u64;
+            return Some(i as u64);
         }
-        i += 1;
     }
-    32
+    None
 }
 
-// The same index: by the table's sets, which begin at `at`, or number by number where no sets are lent.
-fn index_of(dictionary: &[u8], sets: &[u32], at: usize, base: usize, width: u64, key: u64) -> u64
-    requires dictionary_len { (length dictionary.now ≡ dictionary_bytes) × (base ≤ 96) × (width ≤ 18) × (key < 2 ^ width) }
-    requires table_sets_bound { (at + table_sets ≤ set_count) × Finds (dictionary_of dictionary.now) base width at sets.now }
-    ensures { result ≡ index_of (λ (i : ℕ). dictionary_of dictionary.now (base + i)) (2 ^ width) key }
+// The same index: by the table's sets, or number by number where no sets are lent.
+fn index_of(
+    dictionary: &[u8; DICTIONARY_BYTES],
+    sets: Option<&IndexSets>,
+    table: usize,
+    base: usize,
+    width: u64,
+    key: u64,
+) -> Option<u64>
+    requires { (table < 5) × (base ≤ 96) × (width ≤ 18) × (key < 2 ^ width) × Finds (dictionary_of dictionary.now) base width table (option_copied sets) }
+    ensures { result ≡ found (index_of (λ (i : ℕ). dictionary_of dictionary.now (base + i)) (2 ^ width) key) }
 {
-    if sets.len() == 0 {
-        return walked_index(dictionary, base, width, key);
+    match sets {
+        Some(sets) => first_common(&sets[table], key),
+        None => walked_index(dictionary, base, width, key),
     }
-    first_common(sets, at, key)
 }
 
 // The number that a word asks of the control table.
@@ -119,56 +124,47 @@ fn short_word(lo: u64, hi: u64, c: u64, t: u64, b: u64, x: u64, y: u64, r: u64) 
 
 // In immediate form: c, t and x are the control, datatype and first source index.
 fn shorten_immediate(
-    dictionary: &[u8],
-    sets: &[u32],
+    dictionary: &[u8; DICTIONARY_BYTES],
+    sets: Option<&IndexSets>,
     lo: u64,
     hi: u64,
     c: u64,
     t: u64,
     x: u64,
-) -> Shorter
-    requires { (length dictionary.now ≡ dictionary_bytes) × Serves (dictionary_of dictionary.now) sets.now }
+) -> Option<u64>
+    requires { Serves (dictionary_of dictionary.now) (option_copied sets) }
     ensures { shorter_is result ≡ shorten_immediate (dictionary_of dictionary.now) lo hi c t x }
 {
     let top = hi / 0x1_0000_0000;
     if 8192 <= (top + 4096) % 0x1_0000_0000 {
-        return Shorter::NoShort;
+        return None;
     }
     let key = narrow_key(lo, hi);
-    let b = index_of(dictionary, sets, LOW_TEN, 64, 10, key);
-    if 32 <= b {
-        return Shorter::NoShort;
-    }
-    Shorter::Short(short_word(lo, hi, c, t, b, x, top / 256 % 32, top))
+    let b = index_of(dictionary, sets, LOW_TEN, 64, 10, key)?;
+    Some(short_word(lo, hi, c, t, b, x, top / 256 % 32, top))
 }
 
 // With src1 in a register.
 fn shorten_register(
-    dictionary: &[u8],
-    sets: &[u32],
+    dictionary: &[u8; DICTIONARY_BYTES],
+    sets: Option<&IndexSets>,
     lo: u64,
     hi: u64,
     c: u64,
     t: u64,
     x: u64,
-) -> Shorter
-    requires { (length dictionary.now ≡ dictionary_bytes) × Serves (dictionary_of dictionary.now) sets.now }
+) -> Option<u64>
+    requires { Serves (dictionary_of dictionary.now) (option_copied sets) }
     ensures { shorter_is result ≡ shorten_register (dictionary_of dictionary.now) lo hi c t x }
 {
     if part(hi, 57, 7) != 0 {
-        return Shorter::NoShort;
+        return None;
     }
     let key = wide_key(lo, hi);
-    let b = index_of(dictionary, sets, SUBREGISTER, 64, 15, key);
-    if 32 <= b {
-        return Shorter::NoShort;
-    }
+    let b = index_of(dictionary, sets, SUBREGISTER, 64, 15, key)?;
     let source = part(hi, 45, 12);
-    let y = index_of(dictionary, sets, SOURCE, 96, 12, source);
-    if 32 <= y {
-        return Shorter::NoShort;
-    }
-    Shorter::Short(short_word(lo, hi, c, t, b, x, y, hi / 0x20_0000_0000))
+    let y = index_of(dictionary, sets, SOURCE, 96, 12, source)?;
+    Some(short_word(lo, hi, c, t, b, x, y, hi / 0x20_0000_0000))
 }
 
 // ---- any word
@@ -177,50 +173,42 @@ fn shorten_register(
 fn may_shorten(lo: u64, hi: u64) -> bool
     ensures { result ≡ allowed lo hi }
 {
-    if is_branch(operation_in(lo)) {
-        return false;
-    }
-    if part(lo, 7, 1) != 0 {
-        return false;
-    }
-    if part(lo, 29, 1) != 0 {
-        return false;
-    }
-    if part(lo, 47, 1) != 0 {
-        return false;
-    }
-    part(hi, 26, 6) == 0
+    !is_branch(operation_in(lo))
+        & (part(lo, 7, 1) == 0)
+        & (part(lo, 29, 1) == 0)
+        & (part(lo, 47, 1) == 0)
+        & (part(hi, 26, 6) == 0)
 }
 
 // From the low and the high 64 bits of a word.
-fn shorten_halves(dictionary: &[u8], sets: &[u32], lo: u64, hi: u64) -> Shorter
-    requires { (length dictionary.now ≡ dictionary_bytes) × Serves (dictionary_of dictionary.now) sets.now }
+fn shorten_halves(
+    dictionary: &[u8; DICTIONARY_BYTES],
+    sets: Option<&IndexSets>,
+    lo: u64,
+    hi: u64,
+) -> Option<u64>
+    requires { Serves (dictionary_of dictionary.now) (option_copied sets) }
     ensures { shorter_is result ≡ shorten_halves (dictionary_of dictionary.now) lo hi }
 {
     if !may_shorten(lo, hi) {
-        return Shorter::NoShort;
+        return None;
     }
-    let c = index_of(dictionary, sets, CONTROL, 0, 17, control_key(lo));
-    if 32 <= c {
-        return Shorter::NoShort;
-    }
-    let t = index_of(dictionary, sets, DATATYPE, 32, 18, datatype_key(lo));
-    if 32 <= t {
-        return Shorter::NoShort;
-    }
-    let x = index_of(dictionary, sets, SOURCE, 96, 12, part(hi, 13, 12));
-    if 32 <= x {
-        return Shorter::NoShort;
-    }
+    let c = index_of(dictionary, sets, CONTROL, 0, 17, control_key(lo))?;
+    let t = index_of(dictionary, sets, DATATYPE, 32, 18, datatype_key(lo))?;
+    let x = index_of(dictionary, sets, SOURCE, 96, 12, part(hi, 13, 12))?;
     if form_of(lo) {
         return shorten_immediate(dictionary, sets, lo, hi, c, t, x);
     }
     shorten_register(dictionary, sets, lo, hi, c, t, x)
 }
 
-// The smallest short word that expands to w, or none. The sets are the dictionary's, for many words; for one word lend none (an empty slice).
-pub fn shorten(dictionary: &[u8], sets: &[u32], w: Word) -> Shorter
-    requires { (length dictionary.now ≡ dictionary_bytes) × Serves (dictionary_of dictionary.now) sets.now }
+// The smallest short word that expands to w, or none. The sets are the dictionary's, for many words; for one word lend none.
+pub fn shorten(
+    dictionary: &[u8; DICTIONARY_BYTES],
+    sets: Option<&IndexSets>,
+    w: Word,
+) -> Option<u64>
+    requires { Serves (dictionary_of dictionary.now) (option_copied sets) }
     ensures { shorter_is result ≡ shorten (dictionary_of dictionary.now) (to_word w) }
 {
     shorten_halves(dictionary, sets, w.lo, w.hi)

@@ -1,6 +1,6 @@
 -- Stores of whole texts. Assumes nothing.
-use Rattle.std.specs.Prelude.{◌≡◌, List, [], ◌∷◌, ◌++◌, ℕ, suc, ◌+◌, ◌<◌, ◌≤◌, length, set, take, drop, get_or}
-use Rattle.std.proofs.Common.{ap, ◌∙◌, arith, length-append, drop-cons}
+use Rattle.std.specs.Prelude.{◌≡◌, List, [], ◌∷◌, ◌++◌, ℕ, suc, ◌+◌, ◌≤◌, length, set, take, drop}
+use Rattle.std.proofs.Common.{ap, ◌∙◌, sym, arith, length-append, drop-drop, append_assoc}
 use Rattle.std.proofs.lemmas.List.Edits.{sets, sets-eq}
 use Rattle.std.proofs.lemmas.List.{set_comm}
 use Rattle.std.proofs.Math.Seq.{take-append_seam}
@@ -21,16 +21,13 @@ sets_last (x ∷ a) l i d =
     ∙ (ap (λ (k : ℕ). sets (set (set l i x) k d) (suc i) a) (let e : i + suc (length a) ≡ suc i + length a = omega arith in e)
     ∙ sets_last a (set l i x) (suc i) d)
 
--- The next byte of a text that is stored byte by byte.
-pub sets_next : (t l : List ℕ) (at i : ℕ) → i < length t → sets l (at + i) (drop i t) ≡ sets (set l (at + i) (get_or t i 0)) (at + (i + 1)) (drop (i + 1) t)
-sets_next t l at i h =
-    let e : i + 1 ≡ suc i = omega arith in
-    let k : at + suc i ≡ suc (at + i) = omega arith in
-    rw (e, k, drop-cons t i 0 h)
-
 -- What stands first after a text was stored at the start.
 pub sets_start : (t l : List ℕ) → length t ≤ length l → take (length t) (sets l 0 t) ≡ t
 sets_start t l h = ap (take (length t)) (sets-eq t l 0 (omega arith)) ∙ take-append_seam t _
+
+-- A part that was stored at once.
+pub sets_part : (l t : List ℕ) (at : ℕ) → at + length t ≤ length l → take at l ++ (t ++ drop (length t) (drop at l)) ≡ sets l at t
+sets_part l t at h = ap (λ (r : List ℕ). take at l ++ (t ++ r)) (drop-drop (length t) at l) ∙ (sym (append_assoc (take at l) t _) ∙ sym (sets-eq t l at h))
 
 -- ---- lines
 

@@ -3,17 +3,14 @@ ghost use Rattle.std.specs.Prelude.{◌≡◌, ◌+◌, ◌≤◌, ◌<◌, leng
 ghost use Rattle.std.proofs.lemmas.List.Edits.{sets};
 ghost use Rattle.paper.specs.Text.{decimal, line, hex_digit, hexes};
 
-// A text, byte by byte.
+// A text.
 pub fn put_text(out: &mut [u8], at: usize, text: &[u8]) -> usize
     requires { at + length text.now ≤ length out.old }
     ensures { (result ≡ at + length text.now) × (out.new ≡ sets out.old at text.now) }
 {
-    let mut i: usize = 0;
-    while i < text.len() {
-        out[at + i] = text[i];
-        i += 1;
-    }
-    at + text.len()
+    let end = at + text.len();
+    out[at..end].copy_from_slice(text);
+    end
 }
 
 // How many decimal digits a number has.
@@ -23,7 +20,7 @@ pub fn width(n: u64) -> usize
     let mut w: usize = 1;
     let mut rest = n;
     while 10 <= rest {
-        rest = rest / 10;
+        rest /= 10;
         w += 1;
     }
     w
@@ -38,11 +35,11 @@ pub fn put_decimal(out: &mut [u8], at: usize, n: u64) -> usize
     let mut i = end - 1;
     let mut rest = n;
     while 10 <= rest {
-        out[i] = 48 + ((rest % 10) as u8);
+        out[i] = b'0' + (rest % 10) as u8;
         i -= 1;
-        rest = rest / 10;
+        rest /= 10;
     }
-    out[i] = 48 + (rest as u8);
+    out[i] = b'0' + rest as u8;
     end
 }
 
@@ -53,7 +50,7 @@ pub fn put_line(out: &mut [u8], at: usize, name: &[u8], n: u64) -> usize
 {
     let digits = put_text(out, at, name);
     let end = put_decimal(out, digits, n);
-    out[end] = 10;
+    out[end] = b'\n';
     end + 1
 }
 
@@ -62,10 +59,10 @@ fn hex_digit(d: u64) -> u8
     requires { d < 16 }
     ensures { result ≡ hex_digit d }
 {
-    if d < 10 {
-        return 48 + (d as u8);
+    match d {
+        0..=9 => b'0' + d as u8,
+        _ => b'a' + (d - 10) as u8,
     }
-    87 + (d as u8)
 }
 
 // The eight lowest hex digits of a number.
@@ -73,12 +70,10 @@ pub fn put_hex8(out: &mut [u8], at: usize, n: u64) -> usize
     requires { at + 8 ≤ length out.old }
     ensures { (result ≡ at + 8) × (out.new ≡ sets out.old at (hexes 8 n)) }
 {
-    let mut k: usize = 8;
     let mut rest = n;
-    while 0 < k {
-        k -= 1;
-        out[at + k] = hex_digit(rest % 16);
-        rest = rest / 16;
+    for k in 0..8 {
+        out[at + (7 - k)] = hex_digit(rest % 16);
+        rest /= 16;
     }
     at + 8
 }

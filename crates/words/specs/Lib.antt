@@ -4,6 +4,7 @@ pub mod Asked
 pub mod Words
 pub mod Bytes
 pub mod Fields
+pub mod Refusals
 pub mod Answer
 pub mod Regions
 pub mod Usual

@@ -16,20 +16,14 @@ use crate::fields::{
 pub fn dst_is_a0(w: Word) -> bool
     ensures { result ≡ dst_is_a0 (to_word w) }
 {
-    if dst_file(w) == 0 {
-        return dst_register(w) == 16;
-    }
-    false
+    dst_file(w) == 0 && dst_register(w) == 16
 }
 
 // The source is a0.
 pub fn src_is_a0(x: Source, w: Word) -> bool
     ensures { result ≡ src_is_a0 (source_is x) (to_word w) }
 {
-    if src_file(x, w) == 0 {
-        return src_register(x, w) == 16;
-    }
-    false
+    src_file(x, w) == 0 && src_register(x, w) == 16
 }
 
 // The byte at which a register begins in its file: a0 is a file of its own.
@@ -37,10 +31,7 @@ pub(crate) fn register_at(a0: bool, register: u64) -> u64
     requires { register < 256 }
     ensures { (result ≡ register_at a0 register) × (result < 8161) }
 {
-    if a0 {
-        return 0;
-    }
-    register * 32
+    if a0 { 0 } else { register * 32 }
 }
 
 // ---- by address
@@ -56,10 +47,7 @@ pub fn dst_by_address(w: Word) -> bool
 pub fn src_by_address(x: Source, w: Word) -> bool
     ensures { result ≡ src_by_address (source_is x) (to_word w) }
 {
-    if is_immediate(x, w) {
-        return false;
-    }
-    src_addr_mode(x, w) == 1
+    !is_immediate(x, w) && src_addr_mode(x, w) == 1
 }
 
 // The thirteen bits by which the destination's address is named: an element of a0, and AddrImm.

@@ -3,10 +3,10 @@ ghost use Rattle.std.specs.Prelude.{◌≡◌, ◌+◌, ◌≤◌, length};
 ghost use Rattle.paper.specs.Bits.{number_at, put_at};
 ghost use Rattle.words.specs.Words.{to_word};
 
-pub use numbers::{read2, read4, read8, write2, write4, write8};
+pub use numbers::{read2, read4, read8, write};
 
 // A long word: its bits 63:0 and its bits 127:64.
-#[derive(Clone, Copy)]
+#[derive(Clone, Copy, Debug, PartialEq, Eq)]
 pub struct Word {
     pub lo: u64,
     pub hi: u64,
@@ -20,7 +20,7 @@ pub fn read16(bytes: &[u8], from: usize) -> Word
     let middle = from + 8;
     let lo = read8(bytes, from);
     let hi = read8(bytes, middle);
-    Word { lo: lo, hi: hi }
+    Word { lo, hi }
 }
 
 // Stores the sixteen bytes of `w` from `from` on.
@@ -29,6 +29,6 @@ pub fn write16(out: &mut [u8], from: usize, w: Word)
     ensures { out.new ≡ put_at out.old from 16 (to_word w) }
 {
     let middle = from + 8;
-    write8(out, from, w.lo);
-    write8(out, middle, w.hi);
+    write::<8>(out, from, w.lo);
+    write::<8>(out, middle, w.hi);
 }

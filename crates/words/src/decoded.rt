@@ -143,14 +143,14 @@ pub fn decode(w: Word) -> Decoded
     let uip = high_half(w);
     Decoded {
         operation: o,
-        control: control,
-        carried: carried,
-        destination: destination,
-        first: first,
-        second: second,
-        near: near,
-        far: far,
-        jip: jip,
-        uip: uip,
+        control,
+        carried,
+        destination,
+        first,
+        second,
+        near,
+        far,
+        jip,
+        uip,
     }
 }

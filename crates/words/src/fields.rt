@@ -13,7 +13,7 @@ use crate::bytes::Word;
 use crate::operation::{Operation, operation_of};
 
 // The first or the second source.
-#[derive(Clone, Copy)]
+#[derive(Clone, Copy, Debug, PartialEq, Eq)]
 pub enum Source {
     First,
     Second,
@@ -202,10 +202,7 @@ pub fn dst_addr_mode(w: Word) -> u64
 pub fn is_null(w: Word) -> bool
     ensures { result ≡ is_null (to_word w) }
 {
-    if dst_file(w) == 0 {
-        return dst_register(w) == 0;
-    }
-    false
+    dst_file(w) == 0 && dst_register(w) == 0
 }
 
 // The flag register that a word chooses.
@@ -301,13 +298,11 @@ pub fn is_immediate(x: Source, w: Word) -> bool
 }
 
 // Immediate form of a word whose low half is `lo`.
+#[tactic(auto, unfolding(paper::specs::Word::immediate_form))]
 pub fn form_of(lo: u64) -> bool
     ensures { result ≡ immediate_form lo }
 {
-    if part(lo, 37, 2) == 3 {
-        return true;
-    }
-    part(lo, 42, 2) == 3
+    part(lo, 37, 2) == 3 || part(lo, 42, 2) == 3
 }
 
 // Either source is an immediate.

@@ -18,18 +18,12 @@ pub fn dst_is_float(w: Word) -> bool
 pub fn src_is_vector(x: Source, w: Word) -> bool
     ensures { result ≡ src_is_vector (source_is x) (to_word w) }
 {
-    if is_immediate(x, w) {
-        return src_type(x, w) == 5;
-    }
-    false
+    is_immediate(x, w) && src_type(x, w) == 5
 }
 
 // The source is of type f, or has four restricted floats.
 pub fn src_is_float(x: Source, w: Word) -> bool
     ensures { result ≡ src_is_float (to_word w) (source_is x) }
 {
-    if src_type(x, w) == 7 {
-        return true;
-    }
-    src_is_vector(x, w)
+    src_type(x, w) == 7 || src_is_vector(x, w)
 }

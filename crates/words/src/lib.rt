@@ -10,6 +10,7 @@ pub mod floats;
 pub mod limits;
 pub mod operand;
 pub mod operation;
+pub mod refusal;
 pub mod region;
 pub mod traits;
 pub mod types;

@@ -26,10 +26,7 @@ const VECTOR: u64 = 5;
 fn is_vector(floats: bool, kind: u64) -> bool
     ensures { result ≡ (floats && eqb kind type_vf) }
 {
-    if floats {
-        return kind == VECTOR;
-    }
-    false
+    floats && kind == VECTOR
 }
 
 // What a source of a word names; whether it may be four restricted floats is told, and whether it is a0.
@@ -40,12 +37,10 @@ pub fn operand_of(floats: bool, a0: bool, x: Source, w: Word) -> Operand
     if is_immediate(x, w) {
         let kind = src_type(x, w);
         if is_vector(floats, kind) {
-            let four = high(w, 32, 32);
-            return Operand::Vector(four);
+            return Operand::Vector(high(w, 32, 32));
         }
         let bits = 8 * size_of(kind) as u32;
-        let pattern = high(w, 32, bits);
-        return Operand::Fixed(pattern);
+        return Operand::Fixed(high(w, 32, bits));
     }
     Operand::Direct(src_region(a0, x, w))
 }

@@ -4,7 +4,7 @@ ghost use Rattle.paper.specs.Operation.{operation_of, is_branch, is_listed};
 ghost use Rattle.words.specs.Operations.{operation_is};
 
 // Operations that make a result of their sources.
-#[derive(Clone, Copy)]
+#[derive(Clone, Copy, Debug, PartialEq, Eq)]
 pub enum Plain {
     Mov,
     Sel,
@@ -21,7 +21,8 @@ pub enum Plain {
     Avg,
 }
 
-#[derive(Clone, Copy)]
+// Operations that lead elsewhere.
+#[derive(Clone, Copy, Debug, PartialEq, Eq)]
 pub enum Branch {
     Jmpi,
     If,
@@ -32,7 +33,8 @@ pub enum Branch {
     Cont,
 }
 
-#[derive(Clone, Copy)]
+// What an opcode stands for.
+#[derive(Clone, Copy, Debug, PartialEq, Eq)]
 pub enum Operation {
     Makes(Plain),
     Nop,
@@ -41,6 +43,7 @@ pub enum Operation {
 }
 
 // The operation of an opcode.
+#[tactic(auto, unfolding(paper::specs::Operation::operation_of))]
 pub fn operation_of(code: u64) -> Operation
     ensures { operation_is result ≡ operation_of code }
 {
@@ -74,22 +77,12 @@ pub fn operation_of(code: u64) -> Operation
 pub fn is_branch(o: Operation) -> bool
     ensures { result ≡ is_branch (operation_is o) }
 {
-    match o {
-        Operation::Makes(_) => false,
-        Operation::Nop => false,
-        Operation::Jumps(_) => true,
-        Operation::Unlisted => false,
-    }
+    matches!(o, Operation::Jumps(_))
 }
 
 // The operation is one of the paper's.
 pub fn is_listed(o: Operation) -> bool
     ensures { result ≡ is_listed (operation_is o) }
 {
-    match o {
-        Operation::Makes(_) => true,
-        Operation::Nop => true,
-        Operation::Jumps(_) => true,
-        Operation::Unlisted => false,
-    }
+    !matches!(o, Operation::Unlisted)
 }

@@ -51,11 +51,11 @@ pub fn src_region(a0: bool, x: Source, w: Word) -> Region
     let horz = stride_of(src_horz_stride(x, w));
     let size = size_of(src_type(x, w)) as usize;
     Region {
-        origin: origin,
-        vert: vert,
-        code: code,
-        horz: horz,
-        size: size,
+        origin,
+        vert,
+        code,
+        horz,
+        size,
     }
 }
 
@@ -68,11 +68,11 @@ pub fn dst_region(a0: bool, w: Word) -> Region
     let vert = stride_of(dst_stride(w));
     let size = size_of(dst_type(w)) as usize;
     Region {
-        origin: origin,
-        vert: vert,
+        origin,
+        vert,
         code: 0,
         horz: 0,
-        size: size,
+        size,
     }
 }
 

@@ -6,19 +6,12 @@ ghost use Rattle.paper.specs.Value.{width, size_of};
 pub fn size_of(kind: u64) -> u64
     ensures { (result ≡ size_of kind) × (result ≤ 4) }
 {
-    if kind < 2 {
-        return 4;
+    match kind {
+        0..=1 | 7 => 4,
+        2..=3 => 2,
+        4..=5 => 1,
+        _ => 0,
     }
-    if kind < 4 {
-        return 2;
-    }
-    if kind < 6 {
-        return 1;
-    }
-    if kind == 7 {
-        return 4;
-    }
-    0
 }
 
 // The bits of a type of whole numbers. It is asked of these alone, since elements are read by it, and a fourth case made runs slower; a float is read and stored
@@ -27,11 +20,9 @@ pub fn width_of(kind: u64) -> u32
     requires { kind < 6 }
     ensures { (result ≡ width kind) × (result ≤ 32) }
 {
-    if kind < 2 {
-        return 32;
+    match kind {
+        0..=1 => 32,
+        2..=3 => 16,
+        _ => 8,
     }
-    if kind < 4 {
-        return 16;
-    }
-    8
 }

@@ -19,33 +19,17 @@ fn may_address(w: Word) -> bool
 fn may_reckon(w: Word) -> bool
     ensures { result ≡ false → Whole (to_word w) }
 {
-    if (w.lo >> 36) % 2 + (w.lo >> 41) % 2 + (w.lo >> 46) % 2 == 0 {
-        return false;
-    }
-    if dst_is_float(w) {
-        return true;
-    }
-    if src_is_float(Source::First, w) {
-        return true;
-    }
-    src_is_float(Source::Second, w)
+    (w.lo >> 36) % 2 + (w.lo >> 41) % 2 + (w.lo >> 46) % 2 != 0
+        && (dst_is_float(w) || src_is_float(Source::First, w) || src_is_float(Source::Second, w))
 }
 
 // An operand may be by address, or is a0 itself, or a float.
 pub fn is_unusual(w: Word) -> bool
     ensures { result ≡ false → Usual (to_word w) }
 {
-    if may_address(w) {
-        return true;
-    }
-    if dst_is_a0(w) {
-        return true;
-    }
-    if src_is_a0(Source::First, w) {
-        return true;
-    }
-    if src_is_a0(Source::Second, w) {
-        return true;
-    }
-    may_reckon(w)
+    may_address(w)
+        || dst_is_a0(w)
+        || src_is_a0(Source::First, w)
+        || src_is_a0(Source::Second, w)
+        || may_reckon(w)
 }

@@ -1,7 +1,7 @@
--- Two bytes write the first and 256 times the second. Assumes nothing.
-use native.Mathlib.Omega.{arith}
+-- The two bytes as the library puts them together.
+use Rattle.std.proofs.Common.{arith}
 use Rattle.numbers.specs.Bytes.{two_read}
 use Rattle.numbers.proofs.read2.Goals as goal
 
 pub returns : goal.returns
-returns c = let e = two_read c.args.bytes.now c.args.from in (omega arith, omega arith)
+returns c = (omega (arith, two_read c.args.bytes.now c.args.from, c.from.ensures, c.from_le_bytes.ensures), omega (arith, c.from.ensures))

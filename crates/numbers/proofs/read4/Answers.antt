@@ -1,8 +1,7 @@
--- Four bytes write the first two and, above them, the other two. Assumes nothing.
-use native.Mathlib.Omega.{arith}
-use borrow.Author.Rules.{rules}
-use Rattle.numbers.specs.Bytes.{parts_read}
+-- The four bytes as the library puts them together.
+use Rattle.std.proofs.Common.{arith}
+use Rattle.numbers.specs.Bytes.{four_read}
 use Rattle.numbers.proofs.read4.Goals as goal
 
 pub returns : goal.returns
-returns c = let e = parts_read c.args.bytes.now c.args.from 2 2 (search rules) in (omega arith, omega arith)
+returns c = (omega (arith, four_read c.args.bytes.now c.args.from, c.from.ensures, c.from_le_bytes.ensures), omega (arith, c.from.ensures))

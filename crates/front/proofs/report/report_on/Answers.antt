@@ -5,7 +5,7 @@ use Rattle.front.proofs.report.report_on.Goals as goal
 
 pub returns-in-Told : goal.returns-in-Told
 unfolding printed_as
-returns-in-Told c = sym (printed_by _ _ _ (sym c.in-Told.ensures))
+returns-in-Told c = rw c.from.ensures (sym (printed_by _ _ _ (sym c.in-Told.ensures)))
 
 pub returns-in-Refused : goal.returns-in-Refused
 unfolding printed_as

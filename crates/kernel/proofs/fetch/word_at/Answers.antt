@@ -6,19 +6,19 @@ use Rattle.kernel.specs.Standing.{fetches_short, fetches_long, long_room}
 use Rattle.kernel.proofs.fetch.word_at.Goals as goal
 
 pub read8-s-requires : goal.read8-s-requires
-read8-s-requires c = short_room (λ _. 0) _ _ c.requires.1
+read8-s-requires c = short_room (λ _. 0) _ _ c.requires
 
 pub returns-then-is_short : goal.returns-then-is_short
 returns-then-is_short c =
     let e = c.read8-s.ensures in
-    fetches_short _ _ _ _ (sym (c.is_short.ensures ∙ ap is_short e) ∙ c.if-is_short.true) (c.expand-short.ensures ∙ ap (expand _) e)
+    fetches_short _ _ _ _ (sym (c.is_short.ensures ∙ ap is_short e) ∙ c.if-is_short.true) (c.expand.ensures ∙ ap (expand _) e)
 
-pub read16-long-requires : goal.read16-long-requires
-read16-long-requires c =
+pub read16-requires : goal.read16-requires
+read16-requires c =
     let e = c.read8-s.ensures in
-    long_room (λ _. 0) _ _ (sym (c.is_short.ensures ∙ ap is_short e) ∙ c.if-is_short.false) c.requires.1
+    long_room (λ _. 0) _ _ (sym (c.is_short.ensures ∙ ap is_short e) ∙ c.if-is_short.false) c.requires
 
 pub returns : goal.returns
 returns c =
     let e = c.read8-s.ensures in
-    fetches_long _ _ _ _ (sym (c.is_short.ensures ∙ ap is_short e) ∙ c.if-is_short.false) c.read16-long.ensures
+    fetches_long _ _ _ _ (sym (c.is_short.ensures ∙ ap is_short e) ∙ c.if-is_short.false) c.read16.ensures

@@ -12,4 +12,4 @@ pub returns : goal.returns
 returns c =
     let a = c.args in
     c.target_lands.ensures
-    ∙ lands_at_lem (marked a.marks.now) (reach (distance_is a.d) (to_word a.w) a.here (a.here + a.size)) _ c.reach.ensures
+    ∙ lands_at_lem (marked a.marks.now) (reach (distance_is a.d) (to_word a.i.word) a.i.place (a.i.place + a.i.size)) _ c.target.ensures

@@ -31,38 +31,38 @@ returns-then-size-ne1 c =
     let e : encode (form_in D a.size w) w ≡ bytes_of 16 w = form_none D a.size w c.if-size-ne1.true in
     c.write16.ensures ∙ (put_sets 16 a.out.now a.at w ∙ ap (sets a.out.now a.at) (sym e))
 
-pub write8-requires : goal.write8-requires
-write8-requires c =
+pub write-requires : goal.write-requires
+write-requires c =
     let a = c.args in
     let D = dictionary_of a.dictionary.now in
     let w = to_word a.w in
-    let v = c.in-Short.s in
-    let e : encode (form_in D a.size w) w ≡ bytes_of 8 v = form_is D a.size w c.if-size-ne1.false (some v) (ap shorter_is (sym c.in-Short.is) ∙ c.shorten.ensures) in
+    let v = c.in-Some.s in
+    let e : encode (form_in D a.size w) w ≡ bytes_of 8 v = form_is D a.size w c.if-size-ne1.false (some v) (ap shorter_is (sym c.in-Some.is) ∙ c.shorten.ensures) in
     let h : a.at + 8 ≤ length a.out.now = omega (arith, ap length e, length-bytes_of 8 v, c.requires.w_in_bounds) in
     h
 
-pub write16-requires-in-NoShort : goal.write16-requires-in-NoShort
-write16-requires-in-NoShort c =
+pub write16-requires-in-None : goal.write16-requires-in-None
+write16-requires-in-None c =
     let a = c.args in
     let D = dictionary_of a.dictionary.now in
     let w = to_word a.w in
-    let e : encode (form_in D a.size w) w ≡ bytes_of 16 w = form_is D a.size w c.if-size-ne1.false none (ap shorter_is (sym c.in-NoShort.is) ∙ c.shorten.ensures) in
+    let e : encode (form_in D a.size w) w ≡ bytes_of 16 w = form_is D a.size w c.if-size-ne1.false none (ap shorter_is (sym c.in-None.is) ∙ c.shorten.ensures) in
     let h : a.at + 16 ≤ length a.out.now = omega (arith, ap length e, length-bytes_of 16 w, c.requires.w_in_bounds) in
     h
 
-pub returns-in-Short : goal.returns-in-Short
-returns-in-Short c =
+pub returns-in-Some : goal.returns-in-Some
+returns-in-Some c =
     let a = c.args in
     let D = dictionary_of a.dictionary.now in
     let w = to_word a.w in
-    let v = c.in-Short.s in
-    let e : encode (form_in D a.size w) w ≡ bytes_of 8 v = form_is D a.size w c.if-size-ne1.false (some v) (ap shorter_is (sym c.in-Short.is) ∙ c.shorten.ensures) in
-    c.write8.ensures ∙ (put_sets 8 a.out.now a.at v ∙ ap (sets a.out.now a.at) (sym e))
+    let v = c.in-Some.s in
+    let e : encode (form_in D a.size w) w ≡ bytes_of 8 v = form_is D a.size w c.if-size-ne1.false (some v) (ap shorter_is (sym c.in-Some.is) ∙ c.shorten.ensures) in
+    c.write.ensures ∙ (put_sets 8 a.out.now a.at v ∙ ap (sets a.out.now a.at) (sym e))
 
-pub returns-in-NoShort : goal.returns-in-NoShort
-returns-in-NoShort c =
+pub returns-in-None : goal.returns-in-None
+returns-in-None c =
     let a = c.args in
     let D = dictionary_of a.dictionary.now in
     let w = to_word a.w in
-    let e : encode (form_in D a.size w) w ≡ bytes_of 16 w = form_is D a.size w c.if-size-ne1.false none (ap shorter_is (sym c.in-NoShort.is) ∙ c.shorten.ensures) in
-    c.write16-in-NoShort.ensures ∙ (put_sets 16 a.out.now a.at w ∙ ap (sets a.out.now a.at) (sym e))
+    let e : encode (form_in D a.size w) w ≡ bytes_of 16 w = form_is D a.size w c.if-size-ne1.false none (ap shorter_is (sym c.in-None.is) ∙ c.shorten.ensures) in
+    c.write16-in-None.ensures ∙ (put_sets 16 a.out.now a.at w ∙ ap (sets a.out.now a.at) (sym e))

@@ -11,7 +11,7 @@ use Rattle.listing.specs.Laying.{laying_start, laying_next, laying_room, laying_
 use Rattle.listing.proofs.lay.write_kernel.Goals as goal
 
 pub loop-from-init : goal.loop-from-init
-loop-from-init c = (search rules, refl, laying_start _ _ _ c.requires.dictionary_len.1)
+loop-from-init c = (search rules, refl, laying_start _ _ _ c.requires.can_read)
 
 pub candidate-f-requires : goal.candidate-f-requires
 candidate-f-requires c = c.loop-from.invariant.0
@@ -27,7 +27,7 @@ pub put_word-requires : goal.put_word-requires
 put_word-requires c =
     let l = c.loop-from in
     let g = c.candidate-f in
-    let x = laying_next _ _ _ _ _ _ l.invariant.2 c.loop-from-test.true g.result.size (to_word g.result.word) g.ensures in record { dictionary_len = c.requires.dictionary_len.0; w_in_bounds = laying_room _ _ _ _ _ _ l.invariant.2 c.loop-from-test.true g.result.size (to_word g.result.word) g.ensures (omega (arith, l.invariant.1, c.requires.text_in_bounds)) }
+    let x = laying_next _ _ _ _ _ _ l.invariant.2 c.loop-from-test.true g.result.size (to_word g.result.word) g.ensures in record { w_in_bounds = laying_room _ _ _ _ _ _ l.invariant.2 c.loop-from-test.true g.result.size (to_word g.result.word) g.ensures (omega (arith, l.invariant.1, c.requires.text_in_bounds)) }
 
 pub overflow_add-from : goal.overflow_add-from
 overflow_add-from c =

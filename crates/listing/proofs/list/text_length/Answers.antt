@@ -15,9 +15,8 @@ overflow_mul-place c =
 
 pub read_at-f-requires : goal.read_at-f-requires
 read_at-f-requires c =
-    let k = c.requires in
     let i = c.loop-place.invariant.1 in
-    (k.sizes.dictionary-is, next_whole _ _ _ i.rest i.stands c.loop-place-test.true)
+    next_whole _ _ _ i.rest i.stands c.loop-place-test.true
 
 pub overflow_add-n : goal.overflow_add-n
 overflow_add-n c =

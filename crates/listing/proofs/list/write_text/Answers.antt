@@ -16,9 +16,8 @@ overflow_mul-place c =
 
 pub read_at-f-requires : goal.read_at-f-requires
 read_at-f-requires c =
-    let k = c.requires.listable in
     let i = c.loop-place.invariant.2 in
-    (k.sizes.dictionary-is, next_whole _ _ _ i.rest i.stands c.loop-place-test.true)
+    next_whole _ _ _ i.rest i.stands c.loop-place-test.true
 
 pub put_lines-at-requires : goal.put_lines-at-requires
 put_lines-at-requires c =

@@ -9,10 +9,10 @@ returns-in-Nowhere c =
     let a = c.args in
     let w = c.write_read in
     told_kernel (dictionary_of a.dictionary.now) a.text.now a.out.now (lines_in a.dictionary.now a.text.now)
-    (read-landed _ _ _ _ c.requires.1 _ c.first_astray.ensures c.in-Nowhere.is) w.result _ w.ensures
+    (read-landed _ _ _ _ c.requires _ c.first_astray.ensures c.in-Nowhere.is) w.result _ w.ensures
 
 pub returns-in-Branch : goal.returns-in-Branch
 returns-in-Branch c =
     let a = c.args in
     told_faulty (dictionary_of a.dictionary.now) a.text.now a.out.now _
-    (read_astray _ _ _ _ c.requires.1 _ c.first_astray.ensures _ c.in-Branch.is)
+    (read_astray _ _ _ _ c.requires _ c.first_astray.ensures _ c.in-Branch.is)

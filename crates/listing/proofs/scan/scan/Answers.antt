@@ -6,7 +6,6 @@ use lib.ListN.{length-set, length-replicate}
 use borrow.Author.Rules.{rules}
 use Rattle.paper.specs.Limits.{instruction_limit}
 use Rattle.kernel.specs.Marks.{place_count, blank_unmarked}
-use Rattle.listing.specs.Reading.{at_nothing, at_some}
 use Rattle.listing.specs.Scanning.{leads_start, leads_full, leads_none, leads_some, leads_end, instr_bounds}
 use Rattle.listing.proofs.scan.scan.Goals as goal
 
@@ -18,17 +17,16 @@ returns-then-count-eq-INSTRUCTION_LIMIT c = leads_full _ _ _ _ _ _ _ c.loop-from
 
 pub lines_at-requires : goal.lines_at-requires
 lines_at-requires c =
-    let p = c.requires in
-    (p.0, p.1, c.loop-from.invariant.0)
+    (c.requires, c.loop-from.invariant.0)
 
-pub returns-in-Nothing : goal.returns-in-Nothing
-returns-in-Nothing c =
+pub returns-in-None : goal.returns-in-None
+returns-in-None c =
     let l = c.loop-from in
     let h : l.count < instruction_limit = omega (arith, c.if-count-eq-INSTRUCTION_LIMIT.false, l.invariant.1) in
-    leads_none _ _ _ _ _ _ _ l.invariant.4 c.loop-from-test.true h (at_nothing _ _ _ _ c.lines_at.ensures c.in-Nothing.is)
+    leads_none _ _ _ _ _ _ _ l.invariant.4 c.loop-from-test.true h c.in-None.ensures
 
-pub bounds-marks-here : goal.bounds-marks-here
-bounds-marks-here c = let l = c.loop-from in omega (arith, l.invariant.1, l.invariant.2, l.invariant.3)
+pub bounds-marks-place : goal.bounds-marks-place
+bounds-marks-place c = let l = c.loop-from in omega (arith, l.invariant.1, l.invariant.2, l.invariant.3)
 
 pub overflow_add-count : goal.overflow_add-count
 overflow_add-count c = let l = c.loop-from in omega (arith, l.invariant.1)
@@ -37,7 +35,7 @@ pub overflow_add-place : goal.overflow_add-place
 overflow_add-place c =
     let l = c.loop-from in
     let h : l.count < instruction_limit = omega (arith, c.if-count-eq-INSTRUCTION_LIMIT.false, l.invariant.1) in
-    let r = at_some _ _ _ _ c.lines_at.ensures _ _ _ c.in-Instruction.is in
+    let r = c.in-Some.ensures in
     let b = instr_bounds _ _ _ _ _ _ c.loop-from-test.true r.0 r.1 in
     omega (arith, l.invariant.1, l.invariant.2, b.few)
 
@@ -45,7 +43,7 @@ pub loop-from-smaller : goal.loop-from-smaller
 loop-from-smaller c =
     let l = c.loop-from in
     let h : l.count < instruction_limit = omega (arith, c.if-count-eq-INSTRUCTION_LIMIT.false, l.invariant.1) in
-    let r = at_some _ _ _ _ c.lines_at.ensures _ _ _ c.in-Instruction.is in
+    let r = c.in-Some.ensures in
     let b = instr_bounds _ _ _ _ _ _ c.loop-from-test.true r.0 r.1 in
     omega (arith, b.more, c.loop-from-test.true)
 
@@ -53,7 +51,7 @@ pub loop-from-preserved : goal.loop-from-preserved
 loop-from-preserved c =
     let l = c.loop-from in
     let h : l.count < instruction_limit = omega (arith, c.if-count-eq-INSTRUCTION_LIMIT.false, l.invariant.1) in
-    let r = at_some _ _ _ _ c.lines_at.ensures _ _ _ c.in-Instruction.is in
+    let r = c.in-Some.ensures in
     let b = instr_bounds _ _ _ _ _ _ c.loop-from-test.true r.0 r.1 in
     let m : l.place < place_count = omega (arith, l.invariant.1, l.invariant.2) in (
       b.inside,
@@ -63,8 +61,8 @@ loop-from-preserved c =
       leads_some _ _ _ _ _ _ _ l.invariant.4 c.loop-from-test.true h _ _ r.0 r.1 m l.invariant.3,
     )
 
-pub bounds-marks-end : goal.bounds-marks-end
-bounds-marks-end c = let l = c.loop-from in omega (arith, l.invariant.1, l.invariant.2, l.invariant.3)
+pub bounds-marks-place-2 : goal.bounds-marks-place-2
+bounds-marks-place-2 c = let l = c.loop-from in omega (arith, l.invariant.1, l.invariant.2, l.invariant.3)
 
 pub returns : goal.returns
 returns c =

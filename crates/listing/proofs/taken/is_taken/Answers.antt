@@ -4,8 +4,8 @@ use mathlib.Core.Bool.{true, false}
 use Rattle.listing.specs.Reading.{taken_by}
 use Rattle.listing.proofs.taken.is_taken.Goals as goal
 
-pub returns-then-not-word_taken : goal.returns-then-not-word_taken
-returns-then-not-word_taken c = taken_by _ _ _ false _ (sym c.if-not-word_taken.true ∙ c.word_taken.ensures) refl
+pub returns-else-word_taken : goal.returns-else-word_taken
+returns-else-word_taken c = rw c.if-word_taken.false (taken_by _ _ _ false _ (sym c.if-word_taken.false ∙ c.word_taken.ensures) refl)
 
-pub returns : goal.returns
-returns c = taken_by _ _ _ true _ (sym c.if-not-word_taken.false ∙ c.word_taken.ensures) c.form_taken.ensures
+pub returns-then-word_taken : goal.returns-then-word_taken
+returns-then-word_taken c = taken_by _ _ _ true _ (sym c.if-word_taken.true ∙ c.word_taken.ensures) c.form_taken.ensures

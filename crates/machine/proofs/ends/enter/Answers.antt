@@ -11,11 +11,11 @@ unfolding state_of
 post_all-requires c =
     let e = c.read_state-s.ensures in
     let same = ap (λ (t : paper.State). t.channels) (e.0 []) in
-    ((e.1 c.requires.bytes_len.1).channels, c.requires.by_index.0, inside_places c.read_state-s.result.channels _ (rw same c.requires.by_index.1))
+    ((e.1 c.requires.0).channels, c.requires.1, inside_places c.read_state-s.result.channels _ (rw same c.requires.2))
 
 pub returns : goal.returns
 returns c =
     let e = c.read_state-s.ensures in
     let p = c.post_all.ensures in
-    let h = e.1 c.requires.bytes_len.1 in
+    let h = e.1 c.requires.0 in
     record { by_index_2 = enter_shows _ _ _ _ e.0 refl refl refl p.0; flag0_bound = (h.flag0, h.flag1, p.1) }

@@ -7,11 +7,11 @@ use Rattle.machine.proofs.start.started.Goals as goal
 
 pub returns : goal.returns
 returns c =
-    let a = c.args in (
+    let mask = c.args.mask in (
       (λ registers. λ i. record {
-        store = record { registers = registers; flag0 = a.flag0; flag1 = a.flag1; addresses = replicate 16 0 };
-        channels = start_channels_lem a.mask i;
+        store = record { registers = registers; flag0 = c.from.ensures i; flag1 = c.from-2.ensures i; addresses = replicate 16 0 };
+        channels = start_channels_lem mask i;
         place = 0;
       }),
-      record { channels = start_sane a.mask (omega arith); flag0 = omega arith; flag1 = omega arith; place = lit< tt },
+      record { channels = start_sane mask (omega arith); flag0 = omega arith; flag1 = omega arith; place = lit< tt },
     )

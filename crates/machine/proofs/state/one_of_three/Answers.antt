@@ -14,9 +14,9 @@ returns-then-bit c =
     sym (c.bit.ensures ∙ ap (λ (x : ℕ). bit x a.n) c.read2-waiting.ensures.0) ∙ c.if-bit.true in
     rw (w, c.bit-then-bit.ensures, c.read2-awake.ensures.0)
 
-pub returns : goal.returns
+pub returns-else-bit : goal.returns-else-bit
 unfolding one_of_three
-returns c =
+returns-else-bit c =
     let a = c.args in
     let w : waiting_bit a.bytes.now a.n ≡ false =
     sym (c.bit.ensures ∙ ap (λ (x : ℕ). bit x a.n) c.read2-waiting.ensures.0) ∙ c.if-bit.false in

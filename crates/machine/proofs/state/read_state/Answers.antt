@@ -8,7 +8,7 @@ returns c =
     let flag0 = c.read2-flag0.ensures in
     let flag1 = c.read2-flag1.ensures in
     let place = c.read2-place.ensures in
-    let channels = c.read_channels-channels.ensures in (
+    let channels = c.read_channels.ensures in (
       (λ registers. λ i. record {
         store = record { registers = registers; flag0 = flag0.0 i; flag1 = flag1.0 i; addresses = addresses_in c.args.bytes.now };
         channels = channels.0 i;

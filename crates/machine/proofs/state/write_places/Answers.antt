@@ -19,15 +19,12 @@ unfolding places_put
 loop-n-preserved c =
     let a = c.args in
     let l = c.loop-n in
-    let e = c.write2.ensures in
+    let e = c.write.ensures in
     let n : ℕ = l.n in (
       omega arith,
       ap length e ∙ length-put_at 2 _ _ _ ∙ l.invariant.1,
       rw (add-one n) (e ∙ ap (λ (x : List ℕ). put_at x (10 + 2 * n) 2 (get_or a.places.now n 0)) l.invariant.2),
     )
-
-pub shape_of-bytes : goal.shape_of-bytes
-shape_of-bytes c = c.loop-n.invariant.1
 
 pub returns : goal.returns
 returns c =

@@ -1,8 +1,9 @@
 -- The numbers stored one behind the other are the state's bytes. Assumes nothing.
+use native.Mathlib.Omega.{arith}
 use Rattle.machine.specs.States.{state_written}
 use Rattle.machine.proofs.state.write_state.Goals as goal
 
 pub returns : goal.returns
 returns c =
-    λ registers. rw (c.write_places.ensures, c.write2-5.ensures, c.write2-4.ensures, c.write2-3.ensures, c.write2-2.ensures, c.write2.ensures)
-    (state_written registers c.args.s c.requires.1 c.args.bytes.now c.requires.0)
+    λ registers. rw (c.write_places.ensures, c.write-5.ensures, c.from-2.ensures, c.write-4.ensures, c.from.ensures, c.write-3.ensures, c.write-2.ensures, c.write.ensures)
+    (state_written registers c.args.s c.requires c.args.bytes.now (omega arith))

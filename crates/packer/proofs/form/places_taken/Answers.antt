@@ -6,5 +6,5 @@ use Rattle.packer.proofs.form.places_taken.Goals as goal
 pub returns-then-short-eq0 : goal.returns-then-short-eq0
 returns-then-short-eq0 c = (rw (recalled-none _ c.if-short-eq0.true), search rules, search rules)
 
-pub returns : goal.returns
-returns c = (rw (recalled-some _ c.if-short-eq0.false), search rules, search rules)
+pub returns-else-short-eq0 : goal.returns-else-short-eq0
+returns-else-short-eq0 c = (rw (recalled-some _ c.if-short-eq0.false), search rules, search rules)

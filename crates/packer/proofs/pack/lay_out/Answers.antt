@@ -1,20 +1,11 @@
 -- The output is too short, or the result is written. Assumes nothing.
-use mathlib.Core.Path.{◌≡◌}
-use Prim.Native.Nat.{◌-◌}
 use native.Mathlib.Omega.{arith}
-use Rattle.short.specs.Sets.{set_count}
-use Rattle.packer.specs.Keeping.{empty_start}
 use Rattle.packer.specs.Answers.{end_most, laid_short, laid_room, laid_written}
 use Rattle.packer.proofs.pack.lay_out.Goals as goal
 
-pub sets_for-count-requires : goal.sets_for-count-requires
-sets_for-count-requires c = (c.requires.sizes.dictionary-is, omega arith, empty_start set_count)
-
 pub place_all-end-requires : goal.place_all-end-requires
 place_all-end-requires c =
-    let g = c.sets_for-count in
-    let all : g.result - 0 ≡ g.result = omega arith in
-    record { taken = (c.requires, rw all g.ensures.2); shorts_len = (omega arith, omega arith) }
+    record { taken = (c.requires, rw c.as_ref.ensures.value c.sets_for-sets.ensures); shorts_len = (omega arith, omega arith) }
 
 pub overflow_mul-length : goal.overflow_mul-length
 overflow_mul-length c = omega (arith, end_most _ _ _ c.requires _ c.place_all-end.ensures.value)

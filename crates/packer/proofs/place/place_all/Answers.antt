@@ -12,7 +12,7 @@ loop-from-init c =
     ((c.requires.shorts_len.1, c.requires.shorts_len.0), stage_start _ _ _ _ k _, placed_start _ _ _ _ k _ c.args.places.now, number_start _ _ _ _ k, kept_start _ _ _ _ k _ c.args.shorts.now)
 
 pub word_at-f-requires : goal.word_at-f-requires
-word_at-f-requires c = let k = c.requires.taken.0 in (k.sizes.dictionary-is, stage_whole _ _ _ _ k _ _ _ c.loop-from.invariant.1 c.loop-from-test.true)
+word_at-f-requires c = stage_whole _ _ _ _ c.requires.taken.0 _ _ _ c.loop-from.invariant.1 c.loop-from-test.true
 
 pub overflow_cast-places : goal.overflow_cast-places
 overflow_cast-places c =
@@ -23,7 +23,7 @@ pub bounds-places-here : goal.bounds-places-here
 bounds-places-here c = let k = c.requires.taken.0 in omega (arith, c.loop-from-test.true, k.sizes.kernel-most)
 
 pub form-short-requires : goal.form-short-requires
-form-short-requires c = (c.requires.taken.0.sizes.dictionary-is, c.requires.taken.1)
+form-short-requires c = c.requires.taken.1
 
 pub offset_bounds-shorts-n : goal.offset_bounds-shorts-n
 offset_bounds-shorts-n c =

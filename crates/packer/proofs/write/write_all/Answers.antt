@@ -10,7 +10,7 @@ pub loop-from-init : goal.loop-from-init
 loop-from-init c = let k = c.requires.taken in (stage_start _ _ _ _ k _, holds_start _ _ _ _ k _ _, number_start _ _ _ _ k)
 
 pub word_at-f-requires : goal.word_at-f-requires
-word_at-f-requires c = let k = c.requires.taken in (k.sizes.dictionary-is, stage_whole _ _ _ _ k _ _ _ c.loop-from.invariant.0 c.loop-from-test.true)
+word_at-f-requires c = stage_whole _ _ _ _ c.requires.taken _ _ _ c.loop-from.invariant.0 c.loop-from-test.true
 
 pub offset_bounds-shorts-n : goal.offset_bounds-shorts-n
 offset_bounds-shorts-n c =

@@ -11,8 +11,8 @@ write16-requires c =
     let p = ap places_taken (recalled-none _ c.if-short-eq0.true) in
     omega (arith, p, c.requires)
 
-pub write8-requires : goal.write8-requires
-write8-requires c =
+pub write-requires : goal.write-requires
+write-requires c =
     let p = ap places_taken (recalled-some _ c.if-short-eq0.false) in
     omega (arith, p, c.requires)
 
@@ -26,4 +26,4 @@ pub returns-else-short-eq0 : goal.returns-else-short-eq0
 returns-else-short-eq0 c =
     let e = recalled-some _ c.if-short-eq0.false in
     let p = ap places_taken e in
-    rw e (c.write8.ensures ∙ inside_put 8 _ _ _ (omega (arith, p, c.requires)))
+    rw e (c.write.ensures ∙ inside_put 8 _ _ _ (omega (arith, p, c.requires)))

@@ -16,7 +16,7 @@ returns-then-long-at c = reached_over _ _ _ _ _ c.requires.taken.0 c.requires.ta
 
 pub word_at-f-requires : goal.word_at-f-requires
 word_at-f-requires c =
-    (c.requires.taken.1.sizes.dictionary-is, reached_whole _ _ _ _ _ c.requires.taken.0 c.requires.taken.1 _ _ c.loop-from.invariant c.loop-from-test.true)
+    reached_whole _ _ _ _ _ c.requires.taken.0 c.requires.taken.1 _ _ c.loop-from.invariant c.loop-from-test.true
 
 pub overflow_mul-n : goal.overflow_mul-n
 overflow_mul-n c = omega (arith, reached_few _ _ _ _ _ c.requires.taken.0 c.requires.taken.1 _ _ c.loop-from.invariant)

@@ -11,7 +11,7 @@ loop-from-init c = (c.requires.places_len, stage_start _ _ _ _ c.requires.taken 
 
 pub word_at-f-requires : goal.word_at-f-requires
 word_at-f-requires c =
-    let k = c.requires.taken in (k.sizes.dictionary-is, stage_whole _ _ _ _ k _ _ _ c.loop-from.invariant.1 c.loop-from-test.true)
+    stage_whole _ _ _ _ c.requires.taken _ _ _ c.loop-from.invariant.1 c.loop-from-test.true
 
 pub bounds-places-here : goal.bounds-places-here
 bounds-places-here c = let k = c.requires.taken in omega (arith, c.loop-from-test.true, k.sizes.kernel-most)

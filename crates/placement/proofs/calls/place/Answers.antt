@@ -12,6 +12,6 @@ pub returns : goal.returns
 returns c =
     as_called _ _ _ _
     (place_answer _ _ _ _ c.if-bytes-ne-RECORD_BYTES.false c.if-order-ge3.false _
-    c.record_of-k.ensures _ c.answer_spot-r.ensures _
-    c.joined-both.ensures)
-    c.deliver8.ensures
+    c.record_of.ensures _ c.answer_spot-answered.ensures _
+    c.point_bytes.ensures)
+    c.deliver.ensures

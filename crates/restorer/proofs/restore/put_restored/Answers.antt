@@ -1,8 +1,6 @@
 -- By what reading answered, the kernel is written, or the lines of a refusal are.
-use Rattle.std.proofs.Common.{List, ℕ, ap, ap₂, sym, ◌∙◌, refl, subst, length-take-le, arith}
-use Rattle.std.specs.Io.KnownBytes.{Appends}
-use Rattle.front.specs.Streams.{AppendsPart}
-use Rattle.front.proofs.Said.{on_ok, on_err, of_ok, of_err, quiet, unasked}
+use Rattle.std.proofs.Common.{ap, ap₂, sym, ◌∙◌, refl, length-take-le, arith}
+use Rattle.front.proofs.Said.{of_ok, of_err, quiet, unasked, all_written, part_written}
 use Rattle.restorer.specs.Counted.{counted_fits}
 use Rattle.restorer.specs.Restored.{output_by, errors_by, output_of, errors_of}
 use Rattle.restorer.proofs.Said.{asked}
@@ -17,9 +15,7 @@ slice_bounds-write_full-end g c =
 
 pub returns-in-Told-clause-output : goal.returns-in-Told-clause-output
 returns-in-Told-clause-output g c =
-    on_ok _ (subst (λ (w : List ℕ). Appends (g.W.Write.contents c.args.output.now) (g.W.Write.contents c.write_full.new.writer) w)
-    (ap₂ output_by c.in-Told.ensures.0 c.in-Told.ensures.1 ∙ ap output_of (asked c.args.input.now _ _ _ _ c.min.ensures c.split_at.ensures.front c.split_at.ensures.back refl)))
-    c.write_full.ensures.ok
+    all_written _ _ _ _ _ (ap₂ output_by c.in-Told.ensures.0 c.in-Told.ensures.1 ∙ ap output_of (asked c.args.input.now _ _ _ _ c.min.ensures c.split_at.ensures.front c.split_at.ensures.back refl)) c.write_full.ensures.ok
 
 pub returns-in-Told-clause-errors : goal.returns-in-Told-clause-errors
 returns-in-Told-clause-errors g c =
@@ -27,9 +23,7 @@ returns-in-Told-clause-errors g c =
 
 pub returns-in-Told-clause-output_err : goal.returns-in-Told-clause-output_err
 returns-in-Told-clause-output_err g c =
-    on_err _ (subst (λ (w : List ℕ). AppendsPart (g.W.Write.contents c.args.output.now) (g.W.Write.contents c.write_full.new.writer) w)
-    (ap₂ output_by c.in-Told.ensures.0 c.in-Told.ensures.1 ∙ ap output_of (asked c.args.input.now _ _ _ _ c.min.ensures c.split_at.ensures.front c.split_at.ensures.back refl)))
-    c.write_full.ensures.err
+    part_written _ _ _ _ _ (ap₂ output_by c.in-Told.ensures.0 c.in-Told.ensures.1 ∙ ap output_of (asked c.args.input.now _ _ _ _ c.min.ensures c.split_at.ensures.front c.split_at.ensures.back refl)) c.write_full.ensures.err
 
 pub returns-in-Told-clause-errors_err : goal.returns-in-Told-clause-errors_err
 returns-in-Told-clause-errors_err g c =
@@ -41,15 +35,11 @@ returns-in-Refused-clause-output g c =
 
 pub returns-in-Refused-clause-errors : goal.returns-in-Refused-clause-errors
 returns-in-Refused-clause-errors g c =
-    on_ok _ (subst (λ (w : List ℕ). Appends (g.E.Write.contents c.args.errors.now) (g.E.Write.contents c.say.new.errors) w)
-    (ap errors_by c.in-Refused.ensures.0 ∙ ap errors_of (asked c.args.input.now _ _ _ _ c.min.ensures c.split_at.ensures.front c.split_at.ensures.back refl)))
-    c.say.ensures.ok
+    all_written _ _ _ _ _ (ap errors_by c.in-Refused.ensures.0 ∙ ap errors_of (asked c.args.input.now _ _ _ _ c.min.ensures c.split_at.ensures.front c.split_at.ensures.back refl)) c.say.ensures.ok
 
 pub returns-in-Refused-clause-errors_err : goal.returns-in-Refused-clause-errors_err
 returns-in-Refused-clause-errors_err g c =
-    on_err _ (subst (λ (w : List ℕ). AppendsPart (g.E.Write.contents c.args.errors.now) (g.E.Write.contents c.say.new.errors) w)
-    (ap errors_by c.in-Refused.ensures.0 ∙ ap errors_of (asked c.args.input.now _ _ _ _ c.min.ensures c.split_at.ensures.front c.split_at.ensures.back refl)))
-    c.say.ensures.err
+    part_written _ _ _ _ _ (ap errors_by c.in-Refused.ensures.0 ∙ ap errors_of (asked c.args.input.now _ _ _ _ c.min.ensures c.split_at.ensures.front c.split_at.ensures.back refl)) c.say.ensures.err
 
 pub returns-in-Refused-clause-output_err : goal.returns-in-Refused-clause-output_err
 returns-in-Refused-clause-output_err g c =
@@ -61,15 +51,11 @@ returns-in-RefusedWith-clause-output g c =
 
 pub returns-in-RefusedWith-clause-errors : goal.returns-in-RefusedWith-clause-errors
 returns-in-RefusedWith-clause-errors g c =
-    on_ok _ (subst (λ (w : List ℕ). Appends (g.E.Write.contents c.args.errors.now) (g.E.Write.contents c.say-in-RefusedWith.new.errors) w)
-    (ap errors_by c.in-RefusedWith.ensures.0 ∙ ap errors_of (asked c.args.input.now _ _ _ _ c.min.ensures c.split_at.ensures.front c.split_at.ensures.back refl)))
-    c.say-in-RefusedWith.ensures.ok
+    all_written _ _ _ _ _ (ap errors_by c.in-RefusedWith.ensures.0 ∙ ap errors_of (asked c.args.input.now _ _ _ _ c.min.ensures c.split_at.ensures.front c.split_at.ensures.back refl)) c.say-in-RefusedWith.ensures.ok
 
 pub returns-in-RefusedWith-clause-errors_err : goal.returns-in-RefusedWith-clause-errors_err
 returns-in-RefusedWith-clause-errors_err g c =
-    on_err _ (subst (λ (w : List ℕ). AppendsPart (g.E.Write.contents c.args.errors.now) (g.E.Write.contents c.say-in-RefusedWith.new.errors) w)
-    (ap errors_by c.in-RefusedWith.ensures.0 ∙ ap errors_of (asked c.args.input.now _ _ _ _ c.min.ensures c.split_at.ensures.front c.split_at.ensures.back refl)))
-    c.say-in-RefusedWith.ensures.err
+    part_written _ _ _ _ _ (ap errors_by c.in-RefusedWith.ensures.0 ∙ ap errors_of (asked c.args.input.now _ _ _ _ c.min.ensures c.split_at.ensures.front c.split_at.ensures.back refl)) c.say-in-RefusedWith.ensures.err
 
 pub returns-in-RefusedWith-clause-output_err : goal.returns-in-RefusedWith-clause-output_err
 returns-in-RefusedWith-clause-output_err g c =

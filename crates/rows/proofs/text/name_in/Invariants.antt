@@ -1,9 +1,6 @@
--- The loop keeps the number within seven bytes. Its measure: the bytes left. Assumes nothing.
-use Rattle.std.proofs.Common.{◌-◌, ◌^◌, ◌<◌, ◌≤◌, length}
+-- The loop keeps the number within seven bytes. Assumes nothing.
+use Rattle.std.proofs.Common.{◌^◌, ◌<◌}
 use Rattle.rows.proofs.text.name_in.Given as goal
 
-abbrev pub invariant-loop-i : goal.invariant-loop-i
-invariant-loop-i l = (l.i ≤ length l.line) × (l.v < 2 ^ 56)
-
-abbrev pub decreases-loop-i : goal.decreases-loop-i
-decreases-loop-i l = length l.line - l.i
+abbrev pub invariant-loop-b : goal.invariant-loop-b
+invariant-loop-b l = l.v < 2 ^ 56

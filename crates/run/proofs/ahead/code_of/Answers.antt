@@ -5,5 +5,5 @@ use Rattle.run.proofs.ahead.code_of.Goals as goal
 pub returns-then-unusual : goal.returns-then-unusual
 returns-then-unusual c = rw c.if-unusual.true
 
-pub returns : goal.returns
-returns c = rw c.if-unusual.false (omega arith)
+pub returns-else-unusual : goal.returns-else-unusual
+returns-else-unusual c = rw c.if-unusual.false (omega arith)

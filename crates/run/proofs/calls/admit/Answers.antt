@@ -4,12 +4,12 @@ use Rattle.run.specs.Answers.{admits_refused, admits_illegal, admits_fine}
 use Rattle.run.proofs.calls.admit.Goals as goal
 
 pub returns-in-Bad : goal.returns-in-Bad
-returns-in-Bad c = admits_refused _ _ _ c.requires.0 _ _ c.accept-said.ensures _ _ c.in-Bad.is
+returns-in-Bad c = admits_refused _ _ _ c.requires _ _ c.accept.ensures _ _ c.in-Bad.is
 
 pub returns-then-not-is_legal : goal.returns-then-not-is_legal
 returns-then-not-is_legal c =
-    admits_illegal _ _ _ c.requires.0 _ _ c.accept-said.ensures _ c.in_default.is (sym c.is_legal.ensures ∙ c.if-not-is_legal.true)
+    admits_illegal _ _ _ c.requires _ _ c.accept.ensures _ c.in_default.is (sym c.is_legal.ensures ∙ c.if-not-is_legal.true)
 
 pub returns : goal.returns
 returns c =
-    admits_fine _ _ _ c.requires.0 _ _ c.accept-said.ensures _ c.in_default.is (sym c.is_legal.ensures ∙ c.if-not-is_legal.false)
+    admits_fine _ _ _ c.requires _ _ c.accept.ensures _ c.in_default.is (sym c.is_legal.ensures ∙ c.if-not-is_legal.false)

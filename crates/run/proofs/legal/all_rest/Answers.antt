@@ -10,13 +10,13 @@ loop-n-init c = (omega arith, waits_all _ _)
 pub returns-then-not-rests : goal.returns-then-not-rests
 returns-then-not-rests c =
     let l = c.loop-n in
-    let e = rw c.bit.ensures at c.rests.ensures in
+    let e = rw (c.bit-waits.ensures, c.from.ensures) at c.rests.ensures in
     sym (l.invariant.1 ∙ waits_out _ _ _ c.loop-n-test.true (sym e ∙ c.if-not-rests.true))
 
 pub loop-n-preserved : goal.loop-n-preserved
 loop-n-preserved c =
     let l = c.loop-n in
-    let e = rw c.bit.ensures at c.rests.ensures in
+    let e = rw (c.bit-waits.ensures, c.from.ensures) at c.rests.ensures in
     (omega (arith, c.loop-n-test.true), l.invariant.1 ∙ waits_on _ _ _ c.loop-n-test.true (sym e ∙ c.if-not-rests.false))
 
 pub returns : goal.returns

@@ -3,19 +3,13 @@ use mathlib.Core.Path.{refl, sym, ◌∙◌}
 use native.Mathlib.Omega.{arith}
 use Rattle.paper.specs.Machine.{step}
 use Rattle.run.specs.Acting.{acts_by}
-use Rattle.run.specs.Running.{running_registers, running_addresses, running_a0, running_sound, running_place, running_end, running_spent, running_made}
+use Rattle.run.specs.Running.{running_addresses, running_a0, running_sound, running_place, running_end, running_spent, running_made}
 use Rattle.run.specs.Tables.{row_there, row_away, row_steps, row_usual}
 use Rattle.run.specs.Outcomes.{leads_start, leads_on, leads_spent, leads_stopped, leads_end}
 use Rattle.run.proofs.running.run_on.Goals as goal
 
 pub loop-s-init : goal.loop-s-init
 loop-s-init c = (omega arith, λ k t r d. (t, r, leads_start k _ t), refl, λ e. refl)
-
-pub shape_of-registers-then-steps-budget : goal.shape_of-registers-then-steps-budget
-shape_of-registers-then-steps-budget c =
-    let p = c.requires in
-    let i = c.loop-s.invariant.1 p.0 p.1 p.2 p.3 in
-    running_registers p.0 _ _ _ _ i.0 i.1 ∙ sym (running_registers p.0 _ _ _ _ p.1 p.2)
 
 pub shape_of-addresses-then-steps-budget : goal.shape_of-addresses-then-steps-budget
 shape_of-addresses-then-steps-budget c =
@@ -38,8 +32,8 @@ row_at-row-requires c =
     let i = c.loop-s.invariant.1 p.0 p.1 p.2 p.3 in
     row_there p.0 _ _ _ _ p.3 _ _ _ _ i.0 i.1 c.loop-s-test.true
 
-pub acting-act-requires : goal.acting-act-requires
-acting-act-requires c =
+pub acting-requires : goal.acting-requires
+acting-requires c =
     let p = c.requires in
     let i = c.loop-s.invariant.1 p.0 p.1 p.2 p.3 in
     let st = row_steps p.0 _ _ _ _ p.3 _ _ _ _ i.0 i.1 c.loop-s-test.true _ c.loop-s.invariant.3 (omega (arith, c.loop-s.invariant.0, c.if-steps-budget.false)) _ _ c.row_at-row.ensures.0 c.row_at-row.ensures.1 in
@@ -50,8 +44,8 @@ step_at-s-requires c =
     let p = c.requires in
     let i = c.loop-s.invariant.1 p.0 p.1 p.2 p.3 in
     let st = row_steps p.0 _ _ _ _ p.3 _ _ _ _ i.0 i.1 c.loop-s-test.true _ c.loop-s.invariant.3 (omega (arith, c.loop-s.invariant.0, c.if-steps-budget.false)) _ _ c.row_at-row.ensures.0 c.row_at-row.ensures.1 in
-    let acts = acts_by _ _ _ _ c.acting-act.ensures c.in-Steps.is in
-    record { on_registers = (acts.1, running_registers p.0 _ _ _ _ i.0 i.1, st.within); sound = (running_sound p.0 _ _ _ _ i.0 i.1, running_place p.0 _ _ _ _ i.0 i.1) }
+    let acts = acts_by _ _ _ _ c.acting.ensures c.in-Steps.is in
+    record { on_registers = (acts.1, st.within); sound = (running_sound p.0 _ _ _ _ i.0 i.1, running_place p.0 _ _ _ _ i.0 i.1) }
 
 pub overflow_add-steps : goal.overflow_add-steps
 overflow_add-steps c = omega (arith, c.loop-s.invariant.0, c.if-steps-budget.false, c.ranges.budget)
@@ -63,7 +57,7 @@ pub loop-s-preserved-in-Steps : goal.loop-s-preserved-in-Steps
 loop-s-preserved-in-Steps c =
     let l = c.loop-s in
     let more = c.if-steps-budget.false in
-    let acts = acts_by _ _ _ _ c.acting-act.ensures c.in-Steps.is in (
+    let acts = acts_by _ _ _ _ c.acting.ensures c.in-Steps.is in (
       omega (arith, l.invariant.0, more),
       λ k t r d.
           let i = l.invariant.1 k t r d in
@@ -79,8 +73,8 @@ move_at-s-requires c =
     let p = c.requires in
     let i = c.loop-s.invariant.1 p.0 p.1 p.2 p.3 in
     let st = row_steps p.0 _ _ _ _ p.3 _ _ _ _ i.0 i.1 c.loop-s-test.true _ c.loop-s.invariant.3 (omega (arith, c.loop-s.invariant.0, c.if-steps-budget.false)) _ _ c.row_at-row.ensures.0 c.row_at-row.ensures.1 in
-    let acts = acts_by _ _ _ _ c.acting-act.ensures c.in-Moves.is in
-    record { w_value = (acts.1.0, acts.1.1, running_registers p.0 _ _ _ _ i.0 i.1, running_addresses p.0 _ _ _ _ i.0 i.1); sound = (running_sound p.0 _ _ _ _ i.0 i.1, running_place p.0 _ _ _ _ i.0 i.1) }
+    let acts = acts_by _ _ _ _ c.acting.ensures c.in-Moves.is in
+    record { w_value = (acts.1.0, acts.1.1, running_addresses p.0 _ _ _ _ i.0 i.1); sound = (running_sound p.0 _ _ _ _ i.0 i.1, running_place p.0 _ _ _ _ i.0 i.1) }
 
 pub overflow_add-steps-in-Moves : goal.overflow_add-steps-in-Moves
 overflow_add-steps-in-Moves c = omega (arith, c.loop-s.invariant.0, c.if-steps-budget.false, c.ranges.budget)
@@ -92,7 +86,7 @@ pub loop-s-preserved-in-Moves : goal.loop-s-preserved-in-Moves
 loop-s-preserved-in-Moves c =
     let l = c.loop-s in
     let more = c.if-steps-budget.false in
-    let acts = acts_by _ _ _ _ c.acting-act.ensures c.in-Moves.is in (
+    let acts = acts_by _ _ _ _ c.acting.ensures c.in-Moves.is in (
       omega (arith, l.invariant.0, more),
       λ k t r d.
           let i = l.invariant.1 k t r d in
@@ -108,8 +102,8 @@ float_at-s-requires c =
     let p = c.requires in
     let i = c.loop-s.invariant.1 p.0 p.1 p.2 p.3 in
     let st = row_steps p.0 _ _ _ _ p.3 _ _ _ _ i.0 i.1 c.loop-s-test.true _ c.loop-s.invariant.3 (omega (arith, c.loop-s.invariant.0, c.if-steps-budget.false)) _ _ c.row_at-row.ensures.0 c.row_at-row.ensures.1 in
-    let acts = acts_by _ _ _ _ c.acting-act.ensures c.in-Reckons.is in
-    record { w_value = (acts.1.0, acts.1.1, running_registers p.0 _ _ _ _ i.0 i.1); sound = (running_sound p.0 _ _ _ _ i.0 i.1, running_place p.0 _ _ _ _ i.0 i.1) }
+    let acts = acts_by _ _ _ _ c.acting.ensures c.in-Reckons.is in
+    record { w_value = acts.1; sound = (running_sound p.0 _ _ _ _ i.0 i.1, running_place p.0 _ _ _ _ i.0 i.1) }
 
 pub overflow_add-steps-in-Reckons : goal.overflow_add-steps-in-Reckons
 overflow_add-steps-in-Reckons c = omega (arith, c.loop-s.invariant.0, c.if-steps-budget.false, c.ranges.budget)
@@ -121,7 +115,7 @@ pub loop-s-preserved : goal.loop-s-preserved
 loop-s-preserved c =
     let l = c.loop-s in
     let more = c.if-steps-budget.false in
-    let acts = acts_by _ _ _ _ c.acting-act.ensures c.in-Reckons.is in (
+    let acts = acts_by _ _ _ _ c.acting.ensures c.in-Reckons.is in (
       omega (arith, l.invariant.0, more),
       λ k t r d.
           let i = l.invariant.1 k t r d in
@@ -131,12 +125,6 @@ loop-s-preserved c =
       c.float_at-s.ensures.flag0_bound.2 ∙ l.invariant.2,
       λ e. absurd (omega arith),
     )
-
-pub shape_of-registers-in-Broken : goal.shape_of-registers-in-Broken
-shape_of-registers-in-Broken c =
-    let p = c.requires in
-    let i = c.loop-s.invariant.1 p.0 p.1 p.2 p.3 in
-    running_registers p.0 _ _ _ _ i.0 i.1 ∙ sym (running_registers p.0 _ _ _ _ p.1 p.2)
 
 pub shape_of-addresses-in-Broken : goal.shape_of-addresses-in-Broken
 shape_of-addresses-in-Broken c =
@@ -152,14 +140,8 @@ returns-in-Broken c =
     λ k t r d.
     let i = c.loop-s.invariant.1 k t r d in
     let st = row_steps k _ _ _ _ d _ _ _ _ i.0 i.1 c.loop-s-test.true _ c.loop-s.invariant.3 (omega (arith, c.loop-s.invariant.0, c.if-steps-budget.false)) _ _ c.row_at-row.ensures.0 c.row_at-row.ensures.1 in
-    let broken = acts_by _ _ _ _ c.acting-act.ensures c.in-Broken.is in
+    let broken = acts_by _ _ _ _ c.acting.ensures c.in-Broken.is in
     (i.0, i.1, leads_stopped k _ t _ i.0 i.2 (omega (arith, c.loop-s.invariant.0, c.if-steps-budget.false)) 22 (st.astray broken))
-
-pub shape_of-registers : goal.shape_of-registers
-shape_of-registers c =
-    let p = c.requires in
-    let i = c.loop-s.invariant.1 p.0 p.1 p.2 p.3 in
-    running_registers p.0 _ _ _ _ i.0 i.1 ∙ sym (running_registers p.0 _ _ _ _ p.1 p.2)
 
 pub shape_of-addresses : goal.shape_of-addresses
 shape_of-addresses c =

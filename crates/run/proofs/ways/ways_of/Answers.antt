@@ -14,11 +14,11 @@ pub returns-in-One : goal.returns-in-One
 returns-in-One c =
     let a = c.args in
     one_leads a.here a.size (to_word a.w) (distance_is c.in-One.d)
-    (sym c.distances_in-held.ensures ∙ ap distances_is c.in-One.is) _ c.reach.ensures _ c.place_of-target.ensures
+    (sym c.distances_in-held.ensures ∙ ap distances_is c.in-One.is) _ c.reach.ensures _ c.unwrap_or-target.ensures
 
 pub returns-in-Two : goal.returns-in-Two
 returns-in-Two c =
     let a = c.args in
     two_lead a.here a.size (to_word a.w) (distance_is c.in-Two.d) (distance_is c.in-Two.e)
     (sym c.distances_in-held.ensures ∙ ap distances_is c.in-Two.is)
-    _ c.reach-in-Two.ensures _ c.place_of-jump.ensures _ c.reach-in-Two-2.ensures _ c.place_of-wait.ensures
+    _ c.reach-in-Two.ensures _ c.unwrap_or-jump.ensures _ c.reach-in-Two-2.ensures _ c.unwrap_or-wait.ensures

@@ -1,8 +1,6 @@
 -- By the buffer's size and what was read. Assumes nothing.
-use mathlib.Core.Path.{sym, ap, ◌∙◌}
-use lib.Seq.{length-take-le}
-use Rattle.run_log.specs.Meaning.{reading_is}
-use Rattle.run_log.specs.Calls.{within_bytes, part_length, part_most, part_unsized, part_is}
+use mathlib.Core.Path.{sym, ◌∙◌}
+use Rattle.run_log.specs.Calls.{part_length, part_unsized, part_is}
 use Rattle.run_log.proofs.calls.whole.Goals as goal
 
 pub returns-then-not-sized : goal.returns-then-not-sized
@@ -11,16 +9,10 @@ returns-then-not-sized c = part_unsized _ _ (sym c.sized.ensures ∙ c.if-not-si
 pub slice_bounds-read-end : goal.slice_bounds-read-end
 slice_bounds-read-end c = part_length _ _ (sym c.sized.ensures ∙ c.if-not-sized.false)
 
-pub slice_bounds-result-end-in-Readable : goal.slice_bounds-result-end-in-Readable
-slice_bounds-result-end-in-Readable c =
-    let a = c.args in
-    let r = c.read in
-    sym (length-take-le _ a.log.now (within_bytes _ _ _ _ _ (ap reading_is c.in-Readable.is) r.ensures.1 (part_most a.log.now a.count)))
+pub returns-in-Some : goal.returns-in-Some
+returns-in-Some c =
+    part_is _ _ _ (sym c.sized.ensures ∙ c.if-not-sized.false) (sym c.in-Some.ensures.0)
 
-pub returns-in-Readable : goal.returns-in-Readable
-returns-in-Readable c =
-    part_is _ _ _ (sym c.sized.ensures ∙ c.if-not-sized.false) (sym c.read.ensures.0 ∙ ap reading_is c.in-Readable.is)
-
-pub returns-in-Unreadable : goal.returns-in-Unreadable
-returns-in-Unreadable c =
-    part_is _ _ _ (sym c.sized.ensures ∙ c.if-not-sized.false) (sym c.read.ensures.0 ∙ ap reading_is c.in-Unreadable.is)
+pub returns-in-None : goal.returns-in-None
+returns-in-None c =
+    part_is _ _ _ (sym c.sized.ensures ∙ c.if-not-sized.false) (sym c.in-None.ensures.0)

@@ -1,6 +1,5 @@
 -- By the buffer's size and what was read. Assumes nothing.
-use mathlib.Core.Path.{sym, ap, ◌∙◌}
-use Rattle.run_log.specs.Meaning.{reading_is}
+use mathlib.Core.Path.{sym, ◌∙◌}
 use Rattle.run_log.specs.Calls.{part_length, read_unsized, read_is}
 use Rattle.run_log.proofs.calls.whole_bytes.Goals as goal
 
@@ -10,10 +9,10 @@ returns-then-not-sized c = read_unsized _ _ (sym c.sized.ensures ∙ c.if-not-si
 pub slice_bounds-read-end : goal.slice_bounds-read-end
 slice_bounds-read-end c = part_length _ _ (sym c.sized.ensures ∙ c.if-not-sized.false)
 
-pub returns-in-Readable : goal.returns-in-Readable
-returns-in-Readable c =
-    read_is _ _ _ (sym c.sized.ensures ∙ c.if-not-sized.false) (sym c.read.ensures.0 ∙ ap reading_is c.in-Readable.is)
+pub returns-in-Some : goal.returns-in-Some
+returns-in-Some c =
+    read_is _ _ _ (sym c.sized.ensures ∙ c.if-not-sized.false) (sym c.in-Some.ensures.0)
 
-pub returns-in-Unreadable : goal.returns-in-Unreadable
-returns-in-Unreadable c =
-    read_is _ _ _ (sym c.sized.ensures ∙ c.if-not-sized.false) (sym c.read.ensures.0 ∙ ap reading_is c.in-Unreadable.is)
+pub returns-in-None : goal.returns-in-None
+returns-in-None c =
+    read_is _ _ _ (sym c.sized.ensures ∙ c.if-not-sized.false) (sym c.in-None.ensures.0)

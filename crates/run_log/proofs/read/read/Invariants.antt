@@ -1,12 +1,7 @@
 -- A turn reads one record. Assumes nothing.
-use mathlib.Core.Path.{◌≡◌}
-use Prim.Native.Nat.{◌+◌, ◌≤◌}
-use lib.ListN.{length}
+use Rattle.std.proofs.Common.{◌≡◌, ◌-◌, ◌≤◌, length}
 use Rattle.paper.specs.Log.{read_from, reading}
 use Rattle.run_log.proofs.read.read.Given as goal
 
-abbrev pub invariant-loop-left : goal.invariant-loop-left
-invariant-loop-left l = (read_from l.left l.s l.run l.at ≡ reading l.s) × ((l.run + l.left ≡ length l.s) × (l.at ≤ length l.s))
-
-abbrev pub decreases-loop-left : goal.decreases-loop-left
-decreases-loop-left l = l.left
+abbrev pub invariant-loop-runs : goal.invariant-loop-runs
+invariant-loop-runs l = (read_from (length l.s - l.runs) l.s l.runs l.bytes ≡ reading l.s) × (l.bytes ≤ length l.s)

@@ -1,19 +1,17 @@
--- The loop's invariant: the numbers passed fit, or not. The measure is how many are left. Assumes nothing.
-use mathlib.Core.Path.{◌≡◌, refl}
-use native.Mathlib.Omega.{arith}
+-- What `all` answers is what the definition counts. Assumes nothing.
+use mathlib.Core.Path.{refl, ◌∙◌}
+use Prim.Native.Nat.{ℕ, ◌+◌}
+use lib.Dec.{ltb}
 use borrow.Author.Rules.{rules}
-use Rattle.short.specs.Ranges.{table_fits, fits_more}
+use borrow.Author.Tests.{tests}
+use Rattle.std.proofs.lemmas.Iterator.{YieldsList-from_range}
+use Rattle.std.proofs.lemmas.Iterator.Search.{all_from_yields_List}
+use Rattle.paper.specs.Dictionary.{dictionary_of}
+use Rattle.short.specs.Ranges.{all_fits}
 use Rattle.short.proofs.dictionary.table_fits.Goals as goal
-
-pub loop-i-init : goal.loop-i-init
-unfolding table_fits
-loop-i-init c = (omega arith, refl)
-
-pub loop-i-preserved : goal.loop-i-preserved
-loop-i-preserved c = (search rules, rw (c.loop-i.invariant.1, c.number.ensures.0) (fits_more _ _ _ _))
 
 pub returns : goal.returns
 returns c =
-    let l = c.loop-i in
-    let all : l.i ≡ 32 = omega (arith, l.invariant.0, c.loop-i-test.false) in
-    rw all at l.invariant.1
+    all_from_yields_List (λ (i : ℕ). ltb (dictionary_of c.args.dictionary.now (c.args.base + i)) c.args.most) _ _ _ c.all.ensures.ran
+    (YieldsList-from_range 0 32 32 refl refl) (λ x b q k. search (rules, tests))
+    ∙ all_fits _ _ _ 32

@@ -6,5 +6,5 @@ use Rattle.words.proofs.bytes.write16.Goals as goal
 pub returns : goal.returns
 returns c =
     let a = c.args in
-    rw (c.write8-2.ensures, c.write8.ensures)
+    rw (c.write-2.ensures, c.write.ensures)
     (halves_put a.out.now a.from a.w.lo a.w.hi (search rules))

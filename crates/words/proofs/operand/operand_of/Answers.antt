@@ -14,7 +14,7 @@ pub returns-then-is_vector : goal.returns-then-is_vector
 returns-then-is_vector c =
     let kind = (both_true c.args.floats _ (sym c.is_vector.ensures ∙ c.if-is_vector.true)).1 in
     vector_named (source_is c.args.x) (to_word c.args.w) _ (sym c.is_immediate.ensures ∙ c.if-is_immediate.true)
-    (sym c.src_type-kind.ensures.0 ∙ eqb-true _ type_vf kind) c.high-four.ensures
+    (sym c.src_type-kind.ensures.0 ∙ eqb-true _ type_vf kind) c.high.ensures
 
 pub returns-then-is_immediate : goal.returns-then-is_immediate
 returns-then-is_immediate c =
@@ -22,7 +22,7 @@ returns-then-is_immediate c =
     let other = ap (λ (n : ℕ). c.args.floats && eqb n type_vf) (sym c.src_type-kind.ensures.0) ∙ sym c.is_vector.ensures ∙ c.if-is_vector.false in
     fixed_named (source_is c.args.x) (to_word c.args.w) _ _ immediate
     (not_vector (source_is c.args.x) (to_word c.args.w) c.args.floats c.requires.0 immediate other)
-    (ap (λ (n : ℕ). 8 * n) (c.size_of.ensures.0 ∙ ap size_of c.src_type-kind.ensures.0)) c.high-pattern.ensures
+    (ap (λ (n : ℕ). 8 * n) (c.size_of.ensures.0 ∙ ap size_of c.src_type-kind.ensures.0)) c.high-then-is_immediate.ensures
 
 pub src_region-requires : goal.src_region-requires
 src_region-requires c = c.requires.1
