@@ -1,6 +1,5 @@
 // What an instruction that is no branch does to registers and flags, its operands being named directly, none of them a0.
-ghost use Rattle.std.specs.Prelude.{false, List, ◌≡◌, ℕ, ◌<◌, length};
-ghost use Rattle.paper.specs.Limits.{register_bytes};
+ghost use Rattle.std.specs.Prelude.{false, List, ◌≡◌, ℕ, ◌<◌};
 ghost use Rattle.paper.specs.Legal.{uses_a0};
 ghost use Rattle.paper.specs.Effect.{plain_effect};
 ghost use Rattle.words.specs.Words.{to_word};
@@ -14,13 +13,19 @@ use crate::one::execute_one;
 use lanes::flags::Flags;
 use words::bytes::Word;
 use words::fields::exec_size;
+use words::limits::REGISTER_BYTES;
 use words::operation::Plain;
 
 // An instruction that is no branch and has no operand in a0, whatever a0 holds: it stays. One channel has a way of its own.
-// Registers are a slice, as a run lends them, and their length stands in the contracts: to make an array of them would ask for the length at each step.
-pub fn execute(p: Plain, w: Word, awake: u64, flags: Flags, registers: &mut [u8]) -> Flags
+pub fn execute(
+    p: Plain,
+    w: Word,
+    awake: u64,
+    flags: Flags,
+    registers: &mut [u8; REGISTER_BYTES],
+) -> Flags
     requires counting { Counting (plain_is p) (to_word w) × (uses_a0 (plain_is p) (to_word w) ≡ false) }
-    requires registers_len { (length registers.old ≡ register_bytes) × (awake < 65536) × (flags.flag0 < 65536) × (flags.flag1 < 65536) }
+    requires awake_bound { (awake < 65536) × (flags.flag0 < 65536) × (flags.flag1 < 65536) }
     ensures by_index { (addresses : List ℕ) → (registers.new ≡ (plain_effect (plain_is p) (to_word w) (awake_list awake) (store_of registers.old flags addresses)).registers)
         × (addresses ≡ (plain_effect (plain_is p) (to_word w) (awake_list awake) (store_of registers.old flags addresses)).addresses) }
     ensures by_index_2 { (addresses : List ℕ) → (result.flag0 ≡ (plain_effect (plain_is p) (to_word w) (awake_list awake) (store_of registers.old flags addresses)).flag0)

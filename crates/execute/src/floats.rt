@@ -1,6 +1,5 @@
 // What an instruction on floats does to registers and flags: a path of its own, by patterns.
 ghost use Rattle.std.specs.Prelude.{false, pos, List, [], ◌≡◌, ℕ, ◌≤◌, ◌<◌, length, get_or};
-ghost use Rattle.paper.specs.Limits.{register_bytes};
 ghost use Rattle.paper.specs.Word.{dst_type, dst_is_a0};
 ghost use Rattle.paper.specs.Value.{type_f};
 ghost use Rattle.paper.specs.Element.{float_result};
@@ -28,6 +27,7 @@ use operands::floats::floats_of;
 use single::operation::{add_pattern, compare_pattern, mul_pattern};
 use words::bytes::Word;
 use words::fields::{cond_modifier, is_null, qtr_ctrl};
+use words::limits::REGISTER_BYTES;
 use words::operation::Plain;
 use words::region::dst_region;
 use words::traits::{compares, reads_two};
@@ -72,8 +72,14 @@ fn reckon_all(p: Plain, condition: u64, n: usize, first: &mut [u32; 16], second:
 // ---- results
 
 // The second operands, where the operation reads them; else the zeros that were there.
-fn float_second(p: Plain, w: Word, n: usize, registers: &[u8], patterns: &mut [u32; 16])
-    requires { Reckoning (plain_is p) (to_word w) × (n ≡ channels (to_word w)) × (length registers.now ≡ register_bytes) }
+fn float_second(
+    p: Plain,
+    w: Word,
+    n: usize,
+    registers: &[u8; REGISTER_BYTES],
+    patterns: &mut [u32; 16],
+)
+    requires { Reckoning (plain_is p) (to_word w) × (n ≡ channels (to_word w)) }
     ensures { SecondFloats (plain_is p) (to_word w) registers.now n patterns.new }
 {
     if reads_two(p) {
@@ -82,8 +88,8 @@ fn float_second(p: Plain, w: Word, n: usize, registers: &[u8], patterns: &mut [u
 }
 
 // What the channels make: all sources are read first. A float's result is its pattern.
-fn float_results(p: Plain, w: Word, registers: &[u8], made: &mut [u32; 16])
-    requires { Reckoning (plain_is p) (to_word w) × (length registers.now ≡ register_bytes) }
+fn float_results(p: Plain, w: Word, registers: &[u8; REGISTER_BYTES], made: &mut [u32; 16])
+    requires { Reckoning (plain_is p) (to_word w) }
     ensures { (predicate : ℕ) → Makes (plain_is p) (to_word w) predicate registers.now made.new }
 {
     let n = channels(w);
@@ -136,9 +142,15 @@ fn float_flags(p: Plain, w: Word, flags: Flags, enable: u64, results: &[u32; 16]
 // ---- an instruction
 
 // An instruction on floats, which has no operand in a0: a0 stays.
-pub fn reckon(p: Plain, w: Word, awake: u64, flags: Flags, registers: &mut [u8]) -> Flags
+pub fn reckon(
+    p: Plain,
+    w: Word,
+    awake: u64,
+    flags: Flags,
+    registers: &mut [u8; REGISTER_BYTES],
+) -> Flags
     requires reckoning { Reckoning (plain_is p) (to_word w) }
-    requires registers_len { (length registers.old ≡ register_bytes) × (awake < 65536) × (flags.flag0 < 65536) × (flags.flag1 < 65536) }
+    requires awake_bound { (awake < 65536) × (flags.flag0 < 65536) × (flags.flag1 < 65536) }
     ensures by_index { (addresses : List ℕ) → (registers.new ≡ (plain_effect (plain_is p) (to_word w) (awake_list awake) (store_of registers.old flags addresses)).registers)
         × (addresses ≡ (plain_effect (plain_is p) (to_word w) (awake_list awake) (store_of registers.old flags addresses)).addresses) }
     ensures by_index_2 { (addresses : List ℕ) → (result.flag0 ≡ (plain_effect (plain_is p) (to_word w) (awake_list awake) (store_of registers.old flags addresses)).flag0)

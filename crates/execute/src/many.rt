@@ -1,6 +1,5 @@
 // An instruction on any number of channels, its numbers in arrays of sixteen.
-ghost use Rattle.std.specs.Prelude.{false, List, ◌≡◌, ℕ, ◌<◌, length};
-ghost use Rattle.paper.specs.Limits.{register_bytes};
+ghost use Rattle.std.specs.Prelude.{false, List, ◌≡◌, ℕ, ◌<◌};
 ghost use Rattle.paper.specs.Legal.{uses_a0};
 ghost use Rattle.paper.specs.Effect.{plain_effect};
 ghost use Rattle.words.specs.Words.{to_word};
@@ -17,6 +16,7 @@ use lanes::flags::Flags;
 use lanes::mask::quarter_mask;
 use words::bytes::Word;
 use words::fields::qtr_ctrl;
+use words::limits::REGISTER_BYTES;
 use words::operation::Plain;
 
 // An instruction on any number of channels: its sources are read, its results stored where its channels are enabled, its flags answered.
@@ -25,10 +25,10 @@ pub(crate) fn execute_many(
     w: Word,
     awake: u64,
     flags: Flags,
-    registers: &mut [u8],
+    registers: &mut [u8; REGISTER_BYTES],
 ) -> Flags
     requires counting { Counting (plain_is p) (to_word w) × (uses_a0 (plain_is p) (to_word w) ≡ false) }
-    requires registers_len { (length registers.old ≡ register_bytes) × (awake < 65536) × (flags.flag0 < 65536) × (flags.flag1 < 65536) }
+    requires awake_bound { (awake < 65536) × (flags.flag0 < 65536) × (flags.flag1 < 65536) }
     ensures by_index { (addresses : List ℕ) → registers.new ≡ (plain_effect (plain_is p) (to_word w) (awake_list awake) (store_of registers.old flags addresses)).registers }
     ensures by_index_2 { (addresses : List ℕ) → (result.flag0 ≡ (plain_effect (plain_is p) (to_word w) (awake_list awake) (store_of registers.old flags addresses)).flag0)
         × (result.flag1 ≡ (plain_effect (plain_is p) (to_word w) (awake_list awake) (store_of registers.old flags addresses)).flag1) }

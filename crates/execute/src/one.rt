@@ -1,6 +1,5 @@
 // An instruction on one channel, without arrays.
 ghost use Rattle.std.specs.Prelude.{false, List, ◌≡◌, ℕ, ◌<◌, length};
-ghost use Rattle.paper.specs.Limits.{register_bytes};
 ghost use Rattle.paper.specs.Word.{src0, dst_is_a0, src_is_a0};
 ghost use Rattle.paper.specs.Legal.{uses_a0, bytes_in};
 ghost use Rattle.paper.specs.Region.{channels};
@@ -24,6 +23,7 @@ use lanes::scatter::store_channel;
 use operands::one::number_of;
 use words::bytes::Word;
 use words::fields::{cond_modifier, dst_type, is_null, qtr_ctrl, saturate};
+use words::limits::REGISTER_BYTES;
 use words::operation::Plain;
 use words::region::dst_region;
 use words::traits::reads_two;
@@ -73,10 +73,10 @@ pub(crate) fn execute_one(
     w: Word,
     awake: u64,
     flags: Flags,
-    registers: &mut [u8],
+    registers: &mut [u8; REGISTER_BYTES],
 ) -> Flags
     requires counting { Counting (plain_is p) (to_word w) × (uses_a0 (plain_is p) (to_word w) ≡ false) × (channels (to_word w) ≡ 1) }
-    requires registers_len { (length registers.old ≡ register_bytes) × (awake < 65536) × (flags.flag0 < 65536) × (flags.flag1 < 65536) }
+    requires awake_bound { (awake < 65536) × (flags.flag0 < 65536) × (flags.flag1 < 65536) }
     ensures by_index { (addresses : List ℕ) → registers.new ≡ (plain_effect (plain_is p) (to_word w) (awake_list awake) (store_of registers.old flags addresses)).registers }
     ensures by_index_2 { (addresses : List ℕ) → (result.flag0 ≡ (plain_effect (plain_is p) (to_word w) (awake_list awake) (store_of registers.old flags addresses)).flag0)
         × (result.flag1 ≡ (plain_effect (plain_is p) (to_word w) (awake_list awake) (store_of registers.old flags addresses)).flag1) }

@@ -1,6 +1,6 @@
 // mov where an operand is a0.
 ghost use Rattle.std.specs.Prelude.{not, ◌||◌, ◌≡◌, ℕ, ◌<◌, length};
-ghost use Rattle.paper.specs.Limits.{address_bytes, register_bytes};
+ghost use Rattle.paper.specs.Limits.{address_bytes};
 ghost use Rattle.paper.specs.Word.{src0, dst_is_a0, src_is_a0};
 ghost use Rattle.paper.specs.Operation.{mov};
 ghost use Rattle.paper.specs.Effect.{file_in, plain_effect};
@@ -21,6 +21,7 @@ use operands::elements::operand_by_element;
 use words::addresses::{dst_is_a0, src_is_a0};
 use words::bytes::Word;
 use words::fields::{Source, dst_type, qtr_ctrl, saturate};
+use words::limits::REGISTER_BYTES;
 use words::operation::Plain;
 
 // The destination or the first source is a0.
@@ -31,8 +32,14 @@ pub fn uses_a0(w: Word) -> bool
 }
 
 // What the channels of a mov make: a0 is read, or registers.
-fn moved(w: Word, flags: Flags, registers: &[u8], addresses: &[u8], made: &mut [u64; 16])
-    requires { Counting mov (to_word w) × (length registers.now ≡ register_bytes) × (length addresses.now ≡ address_bytes) }
+fn moved(
+    w: Word,
+    flags: Flags,
+    registers: &[u8; REGISTER_BYTES],
+    addresses: &[u8],
+    made: &mut [u64; 16],
+)
+    requires { Counting mov (to_word w) × (length addresses.now ≡ address_bytes) }
     ensures { (predicate : ℕ) → Makes mov (to_word w) predicate (file_in (src_is_a0 src0 (to_word w)) (store_of registers.now flags addresses.now)) made.new }
 {
     let n = channels(w);
@@ -49,11 +56,11 @@ fn moved(w: Word, flags: Flags, registers: &[u8], addresses: &[u8], made: &mut [
 fn write_either(
     w: Word,
     enable: u64,
-    registers: &mut [u8],
+    registers: &mut [u8; REGISTER_BYTES],
     addresses: &mut [u8],
     results: &[u64; 16],
 )
-    requires { Writable (to_word w) × (length registers.old ≡ register_bytes) × (length addresses.old ≡ address_bytes) }
+    requires { Writable (to_word w) × (length addresses.old ≡ address_bytes) }
     ensures { (registers.new ≡ written_into (dst_is_a0 (to_word w)) (to_word w) enable registers.old results.now)
         × (addresses.new ≡ written_into (not (dst_is_a0 (to_word w))) (to_word w) enable addresses.old results.now) }
 {
@@ -65,8 +72,14 @@ fn write_either(
 }
 
 // mov from registers, a0 or an immediate to registers, a0 or null. It changes no flag.
-pub fn transfer(w: Word, awake: u64, flags: Flags, registers: &mut [u8], addresses: &mut [u8])
-    requires { Counting mov (to_word w) × (length registers.old ≡ register_bytes) × (length addresses.old ≡ address_bytes) × (awake < 65536) }
+pub fn transfer(
+    w: Word,
+    awake: u64,
+    flags: Flags,
+    registers: &mut [u8; REGISTER_BYTES],
+    addresses: &mut [u8],
+)
+    requires { Counting mov (to_word w) × (length addresses.old ≡ address_bytes) × (awake < 65536) }
     ensures registers_after { (registers.new ≡ (plain_effect mov (to_word w) (awake_list awake) (store_of registers.old flags addresses.old)).registers)
         × (addresses.new ≡ (plain_effect mov (to_word w) (awake_list awake) (store_of registers.old flags addresses.old)).addresses) }
     ensures flag0_value { (flags.flag0 ≡ (plain_effect mov (to_word w) (awake_list awake) (store_of registers.old flags addresses.old)).flag0)

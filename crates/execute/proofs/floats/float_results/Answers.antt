@@ -10,16 +10,16 @@ use Rattle.execute.specs.Floats.{floats_made}
 use Rattle.execute.proofs.floats.float_results.Goals as goal
 
 pub channels-n-requires : goal.channels-n-requires
-channels-n-requires c = legal-count _ _ c.requires.0.acting
+channels-n-requires c = legal-count _ _ c.requires.acting
 
 pub floats_of-requires : goal.floats_of-requires
 floats_of-requires c =
     let p = plain_is c.args.p in
     let w = to_word c.args.w in
-    let direct = not_source p w (float_registers p w c.requires.0) src0 (first_source p) in
-    (legal-floats p w c.requires.0 src0 (first_source p), c.channels-n.ensures.0, c.requires.1 ∙ ap bytes_in (sym direct), direct)
+    let direct = not_source p w (float_registers p w c.requires) src0 (first_source p) in
+    (legal-floats p w c.requires src0 (first_source p), c.channels-n.ensures.0, c.told-registers ∙ ap bytes_in (sym direct), direct)
 
 pub returns : goal.returns
 returns c =
-    floats_made (plain_is c.args.p) (to_word c.args.w) c.requires.0 c.args.registers.now _ _ _ _ c.floats_of.ensures c.float_second.ensures _ _
+    floats_made (plain_is c.args.p) (to_word c.args.w) c.requires c.args.registers.now _ _ _ _ c.floats_of.ensures c.float_second.ensures _ _
     c.channels-n.ensures.0 c.cond_modifier.ensures.0 c.reckon_all.ensures

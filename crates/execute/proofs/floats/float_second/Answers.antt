@@ -15,7 +15,7 @@ floats_of-requires c =
     let w = to_word c.args.w in
     let two = sym c.reads_two.ensures ∙ c.if-reads_two.true in
     let direct = not_source p w (float_registers p w c.requires.0) src1 (second_source p two) in
-    (legal-floats p w c.requires.0 src1 (second_source p two), c.requires.1, c.requires.2 ∙ ap bytes_in (sym direct), direct)
+    (legal-floats p w c.requires.0 src1 (second_source p two), c.requires.1, c.told-registers ∙ ap bytes_in (sym direct), direct)
 
 pub returns-then-reads_two : goal.returns-then-reads_two
 returns-then-reads_two c = second_told _ _ _ _ _ _ c.floats_of.ensures

@@ -14,7 +14,7 @@ write_floats-requires c =
     let p = plain_is c.args.p in
     let w = to_word c.args.w in
     let direct = not-destination p w (float_registers p w c.requires.reckoning) in
-    (legal_writable p w c.requires.reckoning.acting, c.requires.registers_len.0 ∙ ap bytes_in (sym direct), direct, float_destination p w c.requires.reckoning)
+    (legal_writable p w c.requires.reckoning.acting, c.told-registers ∙ ap bytes_in (sym direct), direct, float_destination p w c.requires.reckoning)
 
 pub returns : goal.returns
 returns c =
@@ -39,5 +39,5 @@ returns c =
         addresses_still p w (awake_list c.args.awake) (store_of registers c.args.flags addresses) (not-destination p w none),
       );
       by_index_2 = direct_flags p w c.args.awake registers c.args.flags _ _ _ _ _ _ legal none made _ c.float_flags.ensures;
-      flag0_bound = direct_less p w c.args.awake registers c.args.flags _ _ _ _ _ _ legal none made _ c.float_flags.ensures c.requires.registers_len.0 c.requires.registers_len.2 c.requires.registers_len.3;
+      flag0_bound = direct_less p w c.args.awake registers c.args.flags _ _ _ _ _ _ legal none made _ c.float_flags.ensures c.told-registers c.requires.awake_bound.1 c.requires.awake_bound.2;
     }

@@ -17,7 +17,7 @@ channels-n-requires c = legal-count _ _ c.requires.0.acting
 pub operand_by_element-requires : goal.operand_by_element-requires
 operand_by_element-requires c =
     let a0 = sym c.src_is_a0.ensures ∙ c.if-src_is_a0.true in
-    (legal_readable mov (to_word c.args.w) c.requires.0 src0 (first_source mov), c.channels-n.ensures.0, c.requires.2 ∙ ap bytes_in (sym a0))
+    (legal_readable mov (to_word c.args.w) c.requires.0 src0 (first_source mov), c.channels-n.ensures.0, c.requires.1 ∙ ap bytes_in (sym a0))
 
 pub clamp_all-requires : goal.clamp_all-requires
 clamp_all-requires c =
@@ -32,7 +32,7 @@ returns-then-src_is_a0 c =
 pub operand_by_element-requires-else-src_is_a0 : goal.operand_by_element-requires-else-src_is_a0
 operand_by_element-requires-else-src_is_a0 c =
     let a0 = sym c.src_is_a0.ensures ∙ c.if-src_is_a0.false in
-    (legal_readable mov (to_word c.args.w) c.requires.0 src0 (first_source mov), c.channels-n.ensures.0, c.requires.1 ∙ ap bytes_in (sym a0))
+    (legal_readable mov (to_word c.args.w) c.requires.0 src0 (first_source mov), c.channels-n.ensures.0, c.told-registers ∙ ap bytes_in (sym a0))
 
 pub clamp_all-requires-else-src_is_a0 : goal.clamp_all-requires-else-src_is_a0
 clamp_all-requires-else-src_is_a0 c =

@@ -12,7 +12,7 @@ use Rattle.execute.proofs.transfer.transfer.Goals as goal
 
 pub write_either-requires : goal.write_either-requires
 write_either-requires c =
-    (legal_writable _ (to_word c.args.w) c.requires.0.acting, c.requires.1, c.requires.2)
+    (legal_writable _ (to_word c.args.w) c.requires.0.acting, c.requires.1)
 
 pub returns : goal.returns
 returns c =
