@@ -1,5 +1,5 @@
 // Text: a file's lines, a line's name, and its numbers in hexadecimal. Every function takes any bytes.
-ghost use Rattle.std.specs.Prelude.{◌≡◌, ◌^◌, ◌<◌, IfSome};
+ghost use Rattle.std.specs.Prelude.{◌≡◌, ◌^◌, ◌<◌, ◌≤◌, IfSome, length};
 ghost use Rattle.rows.specs.Text.{digit_of, number_of};
 
 use arrayvec::ArrayVec;
@@ -41,7 +41,9 @@ fn number_in(text: &[u8]) -> Option<u32>
 }
 
 // The numbers that follow a line's name. None where a field is no number, or more than four follow.
-pub fn numbers_in(line: &[u8]) -> Option<ArrayVec<u32, 4>> {
+pub fn numbers_in(line: &[u8]) -> Option<ArrayVec<u32, 4>>
+    ensures { IfSome result (λ numbers. length numbers.items ≤ 4) }
+{
     let mut numbers = ArrayVec::new();
     for field in line.split_inclusive(|b| *b <= FIELD).skip(1) {
         numbers.try_push(number_in(field)?).ok()?;
@@ -50,14 +52,14 @@ pub fn numbers_in(line: &[u8]) -> Option<ArrayVec<u32, 4>> {
 }
 
 // A line's name.
-pub fn name_of(line: &[u8]) -> &[u8] {
+pub(crate) fn name_of(line: &[u8]) -> &[u8] {
     line.split(|b| *b <= FIELD).next().unwrap_or(&[])
 }
 
 // What stands for a name of more than seven letters.
 const LONGER: u64 = 1;
 
-// The letters of a line's name as one number, the first letter highest.
+// The letters of a line's name as one number, the first letter highest: what is told of a line that is not understood.
 pub fn name_in(line: &[u8]) -> u64
     ensures { result < 2 ^ 56 }
 {

@@ -1,5 +1,5 @@
 -- A turn puts the byte before what was read below it. Assumes nothing.
-use Rattle.std.proofs.Common.{◌≡◌, ◌+◌, ◌-◌, arith}
+use Rattle.std.proofs.Common.{◌≡◌, ℕ, ◌+◌, ◌-◌, get_or, ap, ◌∙◌, arith}
 use Rattle.std.proofs.Math.Nat.{pow-le-pow_right}
 use Rattle.rows.specs.Room.{all_there, read_there, read_none}
 use Rattle.rows.proofs.Numbers.{none_read, read_step, worth_step}
@@ -26,7 +26,7 @@ overflow_add-v g c = omega (arith, pow-le-pow_right {n = 256} (omega arith) {i =
 pub loop-i-preserved : goal.loop-i-preserved
 loop-i-preserved g c =
     let m : g.row.SIZE - 1 - c.loop-i.i ≡ g.row.SIZE - (c.loop-i.i + 1) = omega arith in
-    let e = rw m at c.from.ensures in
+    let e = c.from.ensures ∙ ap (λ (k : ℕ). get_or c.args.bytes.now (c.args.at + k) 0) m in
     (read_step _ _ _ _ _ _ _ (omega arith) e c.loop-i.invariant.0, worth_step _ _ _ c.loop-i.invariant.1 (omega (arith, c.type_inv.bytes (c.args.at + (g.row.SIZE - 1 - c.loop-i.i)))))
 
 pub returns : goal.returns
