@@ -9,10 +9,10 @@ use crate::accepted::Accepted;
 use crate::call::Call;
 use crate::lawful::made_lawful;
 use crate::legal::is_legal;
-use kernel::accept::{accept, is_sized};
+use kernel::accept::{accept, sized};
 use kernel::walk::Said;
 use words::answer::Answer;
-use words::limits::{BUDGET_LIMIT, PLACES, REGISTER_BYTES, STATE_LENGTH};
+use words::limits::{BUDGET_LIMIT, DICTIONARY_BYTES, PLACES, REGISTER_BYTES, STATE_LENGTH};
 
 // What is said of a kernel and a state before a step is made.
 #[derive(Clone, Copy)]
@@ -23,7 +23,7 @@ pub enum Admission {
 
 // The kernel's own refusals, then 15. Of a kernel that is fine, the marks that are lent then mark the places at which its instructions start, and its end.
 fn admit(
-    dictionary: &[u8],
+    dictionary: &[u8; DICTIONARY_BYTES],
     kernel: &[u8],
     state: &[u8; STATE_LENGTH],
     marks: &mut [u8; PLACES],
@@ -43,7 +43,7 @@ fn admit(
 // A step or a run, by the kernel's refusals and 15. Its sizes are right, and its budget is in its limit.
 fn called(
     call: Call,
-    dictionary: &[u8],
+    dictionary: &[u8; DICTIONARY_BYTES],
     kernel: &[u8],
     registers: &mut [u8; REGISTER_BYTES],
     state: &mut [u8; STATE_LENGTH],
@@ -69,9 +69,9 @@ fn called(
 pub fn step(dictionary: &[u8], kernel: &[u8], registers: &mut [u8], state: &mut [u8]) -> Answer
     ensures { Left (step_call dictionary.now kernel.now registers.old state.old) result registers.new state.new }
 {
-    if !is_sized(dictionary, kernel) {
+    let Some(dictionary) = sized(dictionary, kernel) else {
         return Answer::Refused(1, 0);
-    }
+    };
     let Some(registers) = registers.as_mut_array() else {
         return Answer::Refused(1, 0);
     };
@@ -91,9 +91,9 @@ pub fn run(
 ) -> Answer
     ensures { Left (run_call dictionary.now kernel.now budget registers.old state.old) result registers.new state.new }
 {
-    if !is_sized(dictionary, kernel) {
+    let Some(dictionary) = sized(dictionary, kernel) else {
         return Answer::Refused(1, 0);
-    }
+    };
     let Some(registers) = registers.as_mut_array() else {
         return Answer::Refused(1, 0);
     };

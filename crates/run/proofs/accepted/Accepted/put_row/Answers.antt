@@ -15,7 +15,7 @@ pub word_at-f-requires : goal.word_at-f-requires
 word_at-f-requires c =
     let p = c.requires in
     let there = sym (p.0.marked _) ∙ sym c.is_marked.ensures ∙ c.if-is_marked.true in
-    (p.0.takes.sizes.dictionary-is, bytes_there _ _ p.0.takes _ there (λ e. omega (arith, p.1)))
+    bytes_there _ _ p.0.takes _ there (λ e. omega (arith, p.1))
 
 pub bounds-table-i-then-is_marked : goal.bounds-table-i-then-is_marked
 bounds-table-i-then-is_marked c =
