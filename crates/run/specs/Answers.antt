@@ -18,18 +18,18 @@ use Rattle.paper.specs.Calls.{refusal, sized, judged_kernel, accepted, Changed, 
 use Rattle.laws.specs.Same.{state_names}
 use Rattle.laws.specs.Lasting.{lands_before}
 use Rattle.laws.specs.Demands.{Ready, run_ready, step_ready}
-use Rattle.words.specs.declared.answer.Answer.TheVariants.{Told, Refused, RefusedWith}
-use Rattle.words.specs.Answer.{answer_is, Left}
-use Rattle.words.specs.declared.answer.Answer.{Answer}
-use Rattle.kernel.specs.declared.walk.Said.{Said}
-use Rattle.kernel.specs.declared.walk.Said.TheVariants.{Good, Bad}
-use Rattle.kernel.specs.Marks.{marked, Says, says_refused, says_instrs}
+use Rattle.std.specs.Prelude as std
+use Rattle.std.specs.Prelude.{Result, Ok, Err}
+use Rattle.words.specs.declared.refusal.Refusal.TheVariants.{WrongSize, BudgetOver, BadState, BadAddress}
+use Rattle.words.specs.declared.answer.Verdict.{Verdict}
+use Rattle.words.specs.declared.answer.Verdict.TheVariants.{Accepted, Ended, Spent}
+use Rattle.words.specs.declared.answer.Refused.{Refused}
+use Rattle.words.specs.Answer.{Answer, verdict_number, answer_is, Left, accepting, refused_at}
+use Rattle.kernel.specs.Marks.{Said, marked, Says, says_refused, says_instrs}
 use Rattle.kernel.specs.Accepting.{accepted_kernel}
 use Rattle.machine.specs.declared.step.Stand.{Stand}
 use Rattle.machine.specs.Steps.{Shows}
 use Rattle.machine.specs.Ends.{Inside}
-use Rattle.run.specs.declared.calls.Admission.{Admission}
-use Rattle.run.specs.declared.calls.Admission.TheVariants.{Fine, Barred}
 use Rattle.run.specs.Landing.{legal_by, legal_same, waits_lands}
 use Rattle.run.specs.declared.running.Outcome.{Outcome}
 use Rattle.run.specs.Running.{Running, running_end, running_either}
@@ -38,7 +38,7 @@ use Rattle.run.specs.declared.call.Call.TheVariants.{Step, Run}
 use Rattle.run.specs.Kernels.{instructions, MarksLand, Takes, runnable}
 use Rattle.run.specs.Opening.{Blank}
 use Rattle.run.specs.Lent.{lent_in, lent}
-use Rattle.run.specs.Outcomes.{Ends, one_step, no_step}
+use Rattle.run.specs.Outcomes.{verdict_is, Ends, one_step, no_step}
 use Rattle.laws.specs.Truth.{both_true}
 
 -- No run whose budget is spent says 22.
@@ -102,11 +102,11 @@ stood kernel registers bytes before here s blank shows h =
     record { shows = shows; flag0 = h.0; flag1 = h.1; room = omega (arith, blank.room, h.2); few = omega (arith, blank.few, h.2) }
 
 -- What is said of a kernel and a state: the refusal that any call on them answers, or that they are lawful.
-abbrev pub Admits : List ℕ → List ℕ → List ℕ → List ℕ → List ℕ → Admission → Type 0
-Admits dictionary kernel registers bytes marks (Barred number offset) =
+abbrev pub Admits : List ℕ → List ℕ → List ℕ → List ℕ → List ℕ → Result (Unit {0}) Refused → Type 0
+Admits dictionary kernel registers bytes marks (Err f) =
     (go : List Instr → paper.State → Changed)
-    → on_state registers bytes go (judged_kernel long_and_short dictionary kernel) ≡ unchanged (refusal number offset) registers bytes
-Admits dictionary kernel registers bytes marks Fine = Lawful dictionary kernel registers bytes × MarksLand dictionary kernel marks
+    → on_state registers bytes go (judged_kernel long_and_short dictionary kernel) ≡ unchanged (answer_is (Err f)) registers bytes
+Admits dictionary kernel registers bytes marks (Ok fine) = Lawful dictionary kernel registers bytes × MarksLand dictionary kernel marks
 
 module _ (dictionary kernel bytes : List ℕ) (right : sized dictionary kernel ≡ true)
     (marks : List ℕ) (said : Said) (says : Says (accepted long_and_short dictionary kernel) said marks) where
@@ -114,11 +114,12 @@ module _ (dictionary kernel bytes : List ℕ) (right : sized dictionary kernel �
   unfolding accepted
   judged_is = rw right
 
-  pub admits_refused : (number offset : ℕ) → said ≡ Bad number offset → (registers : List ℕ) → Admits dictionary kernel registers bytes marks (Barred number offset)
-  admits_refused number offset e registers go =
-      ap (on_state registers bytes go) (judged_is ∙ says_refused (accepted long_and_short dictionary kernel) said marks says number offset e)
+  pub admits_refused : (f : Refused) → said ≡ Err f → (registers : List ℕ) → Admits dictionary kernel registers bytes marks (Err f)
+  admits_refused f e registers go =
+      let p = says_refused (accepted long_and_short dictionary kernel) said marks says f e in
+      rw p.1 (ap (on_state registers bytes go) (judged_is ∙ p.0))
 
-  module _ (count : ℕ) (told : said ≡ Good count) where
+  module _ (count : ℕ) (told : said ≡ Ok count) where
     is_good : accepted long_and_short dictionary kernel ≡ good (instructions dictionary kernel)
     unfolding instructions
     is_good = (says_instrs (accepted long_and_short dictionary kernel) said marks says count told).0
@@ -130,10 +131,10 @@ module _ (dictionary kernel bytes : List ℕ) (right : sized dictionary kernel �
     legal_is : (registers : List ℕ) → legal_by (marked marks) bytes ≡ state_legal (instructions dictionary kernel) registers bytes
     legal_is registers = legal_same (marked marks) (instructions dictionary kernel) marks_land registers bytes
 
-    pub admits_illegal : legal_by (marked marks) bytes ≡ false → (registers : List ℕ) → Admits dictionary kernel registers bytes marks (Barred 15 0)
+    pub admits_illegal : legal_by (marked marks) bytes ≡ false → (registers : List ℕ) → Admits dictionary kernel registers bytes marks (Err (refused_at BadState 0))
     admits_illegal l registers go = rw (judged_is ∙ is_good, sym (legal_is registers) ∙ l)
 
-    pub admits_fine : legal_by (marked marks) bytes ≡ true → (registers : List ℕ) → Admits dictionary kernel registers bytes marks Fine
+    pub admits_fine : legal_by (marked marks) bytes ≡ true → (registers : List ℕ) → Admits dictionary kernel registers bytes marks (Ok tt)
     admits_fine l registers = (record { accepts = is_good; judged = judged_is ∙ is_good; legal = sym (legal_is registers) ∙ l }, marks_land)
 
 -- ---- one way for both calls
@@ -151,40 +152,40 @@ budget_of (Run budget) = budget
 -- ---- the calls, in the code's order
 
 module _ (dictionary kernel registers bytes : List ℕ) where
-  pub step_size : all_sized dictionary kernel registers bytes ≡ false → Left (step_call dictionary kernel registers bytes) (Refused 1 0) registers bytes
+  pub step_size : all_sized dictionary kernel registers bytes ≡ false → Left (step_call dictionary kernel registers bytes) (Err (refused_at WrongSize 0)) registers bytes
   unfolding step_call
   step_size h = rw h (refl, refl, refl)
 
   pub run_size : (budget : ℕ) → all_sized dictionary kernel registers bytes ≡ false
-      → Left (run_call dictionary kernel budget registers bytes) (Refused 1 0) registers bytes
+      → Left (run_call dictionary kernel budget registers bytes) (Err (refused_at WrongSize 0)) registers bytes
   unfolding run_call
   run_size budget h = rw h (refl, refl, refl)
 
 module _ (dictionary kernel registers bytes : List ℕ) (sizes : Sizes dictionary kernel registers bytes) where
-  pub run_limit : (budget : ℕ) → budget_limit < budget → Left (run_call dictionary kernel budget registers bytes) (Refused 16 0) registers bytes
+  pub run_limit : (budget : ℕ) → budget_limit < budget → Left (run_call dictionary kernel budget registers bytes) (Err (refused_at BudgetOver 0)) registers bytes
   unfolding run_call
   run_limit budget h = rw (sizes.all, lt-ltb _ _ h) (refl, refl, refl)
 
-  module _ (marks : List ℕ) (o : Admission) (admits : Admits dictionary kernel registers bytes marks o) where
-    module _ (number offset : ℕ) (e : o ≡ Barred number offset) where
+  module _ (marks : List ℕ) (o : Result (Unit {0}) Refused) (admits : Admits dictionary kernel registers bytes marks o) where
+    module _ (f : Refused) (e : o ≡ Err f) where
       barred : (go : List Instr → paper.State → Changed)
-          → on_state registers bytes go (judged_kernel long_and_short dictionary kernel) ≡ unchanged (refusal number offset) registers bytes
-      barred = subst (λ (o : Admission). Admits dictionary kernel registers bytes marks o) e admits
+          → on_state registers bytes go (judged_kernel long_and_short dictionary kernel) ≡ unchanged (answer_is (Err f)) registers bytes
+      barred = subst (λ (o : Result (Unit {0}) Refused). Admits dictionary kernel registers bytes marks o) e admits
 
-      step_barred : Left (step_call dictionary kernel registers bytes) (Refused number offset) registers bytes
+      step_barred : Left (step_call dictionary kernel registers bytes) (Err f) registers bytes
       unfolding step_call
       step_barred = rw (sizes.all, barred (λ k s. stepped_as (stops k s) registers bytes s (step k s))) (refl, refl, refl)
 
-      run_barred : (budget : ℕ) → budget ≤ budget_limit → Left (run_call dictionary kernel budget registers bytes) (Refused number offset) registers bytes
+      run_barred : (budget : ℕ) → budget ≤ budget_limit → Left (run_call dictionary kernel budget registers bytes) (Err f) registers bytes
       unfolding run_call
       run_barred budget h = rw (sizes.all, le-ltb _ _ h, barred (λ k s. ran_as (run k budget s))) (refl, refl, refl)
 
-      pub call_barred : (call : Call) → budget_of call ≤ budget_limit → Left (call_of call dictionary kernel registers bytes) (Refused number offset) registers bytes
+      pub call_barred : (call : Call) → budget_of call ≤ budget_limit → Left (call_of call dictionary kernel registers bytes) (Err f) registers bytes
       call_barred Step h = step_barred
       call_barred (Run budget) h = run_barred budget h
 
-    pub lawful : o ≡ Fine → Lawful dictionary kernel registers bytes × MarksLand dictionary kernel marks
-    lawful e = subst (λ (o : Admission). Admits dictionary kernel registers bytes marks o) e admits
+    pub lawful : (fine : Unit {0}) → o ≡ Ok fine → Lawful dictionary kernel registers bytes × MarksLand dictionary kernel marks
+    lawful fine e = subst (λ (o : Result (Unit {0}) Refused). Admits dictionary kernel registers bytes marks o) e admits
 
 -- Of an accepted kernel and a legal state.
 module _ (dictionary kernel registers bytes : List ℕ) (sizes : Sizes dictionary kernel registers bytes) (law : Lawful dictionary kernel registers bytes) where
@@ -240,7 +241,7 @@ module _ (dictionary kernel registers bytes : List ℕ) (sizes : Sizes dictionar
         }
 
     -- A step at the end,
-    pub step_end : s.place ≡ length kernel / 8 → Left (step_call dictionary kernel registers bytes) (Told 20 0) registers bytes
+    pub step_end : s.place ≡ length kernel / 8 → Left (step_call dictionary kernel registers bytes) (Ok (record { verdict = Ended; count = 0 })) registers bytes
     unfolding step_call
     step_end h =
         rw (sizes.all, law.judged, law.legal, running_end k registers (addresses_in bytes) here s (state_of registers bytes) opened (omega (arith, h, taken.ends))) (refl, refl, refl)
@@ -251,29 +252,29 @@ module _ (dictionary kernel registers bytes : List ℕ) (sizes : Sizes dictionar
       stops_away = running_either k registers (addresses_in bytes) here s (state_of registers bytes) opened (λ e. away (omega (arith, e, taken.ends)))
 
       -- a step away from it, which is a run of one, is made if its verdict is not 22,
-      pub step_made : (out.verdict ≡ 22 → ⊥) → (bytes' : List ℕ) → bytes' ≡ state_bytes ends.0
-          → Left (step_call dictionary kernel registers bytes) (Told 0 0) registers' bytes'
+      pub step_made : (verdict_is out.verdict ≡ 22 → ⊥) → (bytes' : List ℕ) → bytes' ≡ state_bytes ends.0
+          → Left (step_call dictionary kernel registers bytes) (accepting 0) registers' bytes'
       step_made fine bytes' wrote = go stops_away
         where
-          go : (stops k (state_of registers bytes) ≡ none) ⊎ (stops k (state_of registers bytes) ≡ some 22) → Left (step_call dictionary kernel registers bytes) (Told 0 0) registers' bytes'
+          go : (stops k (state_of registers bytes) ≡ none) ⊎ (stops k (state_of registers bytes) ≡ some 22) → Left (step_call dictionary kernel registers bytes) (accepting 0) registers' bytes'
           go (inl on) =
-              let same : ends.0 ≡ step k (state_of registers bytes) = one_step k (state_of registers bytes) on out.verdict out.steps ends.0 ends.2 in
+              let same : ends.0 ≡ step k (state_of registers bytes) = one_step k (state_of registers bytes) on (verdict_is out.verdict) out.steps ends.0 ends.2 in
               rw (step_ready dictionary kernel registers bytes k ready on, ← same) (refl, ap (λ (st : Store). st.registers) ends.1.shows.store, wrote)
-          go (inr off) = absurd (fine (no_step k (state_of registers bytes) 22 off out.verdict out.steps ends.0 ends.2).0)
+          go (inr off) = absurd (fine (no_step k (state_of registers bytes) 22 off (verdict_is out.verdict) out.steps ends.0 ends.2).0)
 
       -- and else nothing changes.
-      pub step_astray : out.verdict ≡ 22 → (bytes' : List ℕ) → bytes' ≡ take 42 bytes ++ addresses'
-          → Left (step_call dictionary kernel registers bytes) (RefusedWith 22 (8 * out.stand.place) 0) registers' bytes'
+      pub step_astray : verdict_is out.verdict ≡ 22 → (bytes' : List ℕ) → bytes' ≡ take 42 bytes ++ addresses'
+          → Left (step_call dictionary kernel registers bytes) (Err (record { refusal = BadAddress; offset = 8 * out.stand.place; count = std.Some 0 })) registers' bytes'
       unfolding step_call state_of
       step_astray stopped bytes' wrote = go stops_away
         where
           go : (stops k (state_of registers bytes) ≡ none) ⊎ (stops k (state_of registers bytes) ≡ some 22)
-              → Left (step_call dictionary kernel registers bytes) (RefusedWith 22 (8 * out.stand.place) 0) registers' bytes'
+              → Left (step_call dictionary kernel registers bytes) (Err (record { refusal = BadAddress; offset = 8 * out.stand.place; count = std.Some 0 })) registers' bytes'
           go (inl on) =
               let v = ap (λ (o : paper.Outcome). o.verdict) (ends.2 ∙ run_on (stops k) (step k) 0 (state_of registers bytes) on ∙ ap more (run-zero (stops k) (step k) (step k (state_of registers bytes)))) in
               absurd (never (stops k (step k (state_of registers bytes))) (sym v ∙ stopped))
           go (inr off) =
-              let still = (no_step k (state_of registers bytes) 22 off out.verdict out.steps ends.0 ends.2).1 in
+              let still = (no_step k (state_of registers bytes) 22 off (verdict_is out.verdict) out.steps ends.0 ends.2).1 in
               let same = ends.1.shows.store ∙ ap (λ (t : paper.State). t.store) still in
               let place = ends.1.shows.place ∙ ap (λ (t : paper.State). t.place) still in
               rw (sizes.all, law.judged, law.legal, off, place) (
@@ -285,19 +286,25 @@ module _ (dictionary kernel registers bytes : List ℕ) (sizes : Sizes dictionar
     -- a run.
     pub run_made : (budget : ℕ) → budget ≤ budget_limit → (registers' addresses' here' bytes' : List ℕ) (out : Outcome)
         → (ends : Ends k budget (state_of registers bytes) registers' addresses' here' out) → bytes' ≡ state_bytes ends.0
-        → (answer : Answer) → answer_is answer ≡ stopped_as out.verdict out.stand.place out.steps
+        → (answer : Answer) → answer_is answer ≡ stopped_as (verdict_is out.verdict) out.stand.place out.steps
         → Left (run_call dictionary kernel budget registers bytes) answer registers' bytes'
     run_made budget h registers' addresses' here' bytes' out ends wrote answer is =
         rw (run_ready dictionary kernel registers bytes k ready budget h, ← ends.2)
-        (is ∙ ap (λ (p : ℕ). stopped_as out.verdict p out.steps) ends.1.shows.place, ap (λ (st : Store). st.registers) ends.1.shows.store, wrote)
+        (is ∙ ap (λ (p : ℕ). stopped_as (verdict_is out.verdict) p out.steps) ends.1.shows.place, ap (λ (st : Store). st.registers) ends.1.shows.store, wrote)
+
+-- A run that a verdict ends is not stopped by a broken address.
+pub told_fine : (v : Verdict) → verdict_number v ≡ 22 → ⊥
+told_fine Accepted e = let z : ◌≡◌ {A = ℕ} 0 22 = e in omega arith
+told_fine Ended e = let z : ◌≡◌ {A = ℕ} 20 22 = e in omega arith
+told_fine Spent e = let z : ◌≡◌ {A = ℕ} 21 22 = e in omega arith
 
 -- How a run's outcome is told.
-module _ (number place steps : ℕ) where
-  pub told_astray : number ≡ 22 → answer_is (RefusedWith 22 (8 * place) steps) ≡ stopped_as number place steps
-  told_astray e = rw (eq-eqb _ _ e) refl
+module _ (o : std.Option Verdict) (place steps : ℕ) where
+  pub told_astray : o ≡ std.None → answer_is (Err (record { refusal = BadAddress; offset = 8 * place; count = std.Some steps })) ≡ stopped_as (verdict_is o) place steps
+  told_astray e = rw e
 
-  pub told_verdict : (number ≡ 22 → ⊥) → answer_is (Told number steps) ≡ stopped_as number place steps
-  told_verdict n = rw (ne_eqb _ _ n) refl
+  pub told_verdict : (v : Verdict) → o ≡ std.Some v → answer_is (Ok (record { verdict = v; count = steps })) ≡ stopped_as (verdict_is o) place steps
+  told_verdict v e = rw (e, ne_eqb _ _ (told_fine v))
 
 -- A run begins where a legal state stands, with what is lent of its bytes.
 pub begins : {dictionary kernel marks registers bytes before here : List ℕ} {s : Stand} → Allowed dictionary kernel marks registers bytes → Blank kernel before

@@ -6,6 +6,9 @@ use Rattle.paper.specs.Kernel.{Instr}
 use Rattle.paper.specs.Machine as paper
 use Rattle.paper.specs.Machine.{stops, or_spent, step, run}
 use Rattle.laws.specs.Runs.{still, run-zero, run_stop, run_on}
+use Rattle.std.specs.Prelude as std
+use Rattle.words.specs.declared.answer.Verdict.{Verdict}
+use Rattle.words.specs.Answer.{verdict_number}
 use Rattle.run.specs.declared.running.Outcome.{Outcome}
 use Rattle.run.specs.Running.{Running}
 
@@ -17,10 +20,15 @@ after n o = record { verdict = o.verdict; steps = n + o.steps; state = o.state }
 abbrev pub ended : ℕ → ℕ → paper.State → paper.Outcome
 ended v n s = record { verdict = v; steps = n; state = s }
 
+-- The number of how a run ends, which is 22 at a broken address.
+abbrev pub verdict_is : std.Option Verdict → ℕ
+verdict_is (std.Some v) = verdict_number v
+verdict_is std.None = 22
+
 -- A run's outcome: where it stands is a state of the kernel's, and with it the outcome is the paper's.
 abbrev pub Ends : List Instr → ℕ → paper.State → List ℕ → List ℕ → List ℕ → Outcome → Type 0
 Ends k budget whole registers addresses here r =
-    (u : paper.State) × Running k registers addresses here r.stand u × (ended r.verdict r.steps u ≡ run k budget whole)
+    (u : paper.State) × Running k registers addresses here r.stand u × (ended (verdict_is r.verdict) r.steps u ≡ run k budget whole)
 
 -- The whole run comes to what is left of it from state s, n steps being made.
 abbrev pub Leads : List Instr → ℕ → paper.State → ℕ → paper.State → Type 0

@@ -10,16 +10,9 @@ use crate::call::Call;
 use crate::lawful::made_lawful;
 use crate::legal::is_legal;
 use kernel::accept::{accept, sized};
-use kernel::walk::Said;
-use words::answer::Answer;
+use words::answer::{Answer, Refused};
 use words::limits::{BUDGET_LIMIT, DICTIONARY_BYTES, PLACES, REGISTER_BYTES, STATE_LENGTH};
-
-// What is said of a kernel and a state before a step is made.
-#[derive(Clone, Copy)]
-pub enum Admission {
-    Fine,
-    Barred(u8, u64),
-}
+use words::refusal::Refusal;
 
 // The kernel's own refusals, then 15. Of a kernel that is fine, the marks that are lent then mark the places at which its instructions start, and its end.
 fn admit(
@@ -27,17 +20,15 @@ fn admit(
     kernel: &[u8],
     state: &[u8; STATE_LENGTH],
     marks: &mut [u8; PLACES],
-) -> Admission
+) -> Result<(), Refused>
     requires { sized dictionary.now kernel.now ≡ true }
     ensures { (registers : List ℕ) → Admits dictionary.now kernel.now registers state.now marks.new result }
 {
-    if let Said::Bad(number, offset) = accept(false, dictionary, kernel, marks) {
-        return Admission::Barred(number, offset);
-    }
+    accept(false, dictionary, kernel, marks)?;
     if !is_legal(marks, state) {
-        return Admission::Barred(15, 0);
+        return Err(Refusal::BadState.into());
     }
-    Admission::Fine
+    Ok(())
 }
 
 // A step or a run, by the kernel's refusals and 15. Its sizes are right, and its budget is in its limit.
@@ -52,17 +43,13 @@ fn called(
     ensures { Left (call_of call dictionary.now kernel.now registers.old state.old) result registers.new state.new }
 {
     let mut marks = [0; PLACES];
-    match admit(dictionary, kernel, state, &mut marks) {
-        Admission::Barred(number, offset) => Answer::Refused(number, offset),
-        Admission::Fine => {
-            let accepted = Accepted {
-                dictionary,
-                kernel,
-                marks: &marks,
-            };
-            made_lawful(call, accepted, registers, state)
-        }
-    }
+    admit(dictionary, kernel, state, &mut marks)?;
+    let accepted = Accepted {
+        dictionary,
+        kernel,
+        marks: &marks,
+    };
+    made_lawful(call, accepted, registers, state)
 }
 
 // One step from the lent state; 20 at the end, 22 at a broken address.
@@ -70,13 +57,13 @@ pub fn step(dictionary: &[u8], kernel: &[u8], registers: &mut [u8], state: &mut 
     ensures { Left (step_call dictionary.now kernel.now registers.old state.old) result registers.new state.new }
 {
     let Some(dictionary) = sized(dictionary, kernel) else {
-        return Answer::Refused(1, 0);
+        return Err(Refusal::WrongSize.into());
     };
     let Some(registers) = registers.as_mut_array() else {
-        return Answer::Refused(1, 0);
+        return Err(Refusal::WrongSize.into());
     };
     let Some(state) = state.as_mut_array() else {
-        return Answer::Refused(1, 0);
+        return Err(Refusal::WrongSize.into());
     };
     called(Call::Step, dictionary, kernel, registers, state)
 }
@@ -92,16 +79,16 @@ pub fn run(
     ensures { Left (run_call dictionary.now kernel.now budget registers.old state.old) result registers.new state.new }
 {
     let Some(dictionary) = sized(dictionary, kernel) else {
-        return Answer::Refused(1, 0);
+        return Err(Refusal::WrongSize.into());
     };
     let Some(registers) = registers.as_mut_array() else {
-        return Answer::Refused(1, 0);
+        return Err(Refusal::WrongSize.into());
     };
     let Some(state) = state.as_mut_array() else {
-        return Answer::Refused(1, 0);
+        return Err(Refusal::WrongSize.into());
     };
     if BUDGET_LIMIT < budget {
-        return Answer::Refused(16, 0);
+        return Err(Refusal::BudgetOver.into());
     }
     called(Call::Run(budget), dictionary, kernel, registers, state)
 }

@@ -10,8 +10,9 @@ use crate::accepted::Accepted;
 use crate::call::Call;
 use crate::running::run_on;
 use machine::ends::{enter, leave};
-use words::answer::Answer;
+use words::answer::{Answer, Refused, Told, Verdict};
 use words::limits::{ADDRESSES_AT, PLACES, REGISTER_BYTES, STATE_LENGTH};
+use words::refusal::Refusal;
 
 // As many places as a tiny and a small kernel have at most, its end among them, and the numbers of a table of three for each place.
 const TINY: usize = 64;
@@ -42,7 +43,10 @@ fn step_over(
     let end = accepted.kernel.len() / 8;
     let place = start.place as usize;
     if place == end {
-        return Answer::Told(20, 0);
+        return Ok(Told {
+            verdict: Verdict::Ended,
+            count: 0,
+        });
     }
     accepted.put_row(place, table);
     let out = run_on(
@@ -54,11 +58,20 @@ fn step_over(
         &mut state[ADDRESSES_AT..],
         here,
     );
-    if out.verdict == 22 {
-        return Answer::RefusedWith(22, 8 * out.stand.place, 0);
+    match out.verdict {
+        None => Err(Refused {
+            refusal: Refusal::BadAddress,
+            offset: 8 * out.stand.place,
+            count: Some(0),
+        }),
+        Some(_) => {
+            leave(out.stand, here, state);
+            Ok(Told {
+                verdict: Verdict::Accepted,
+                count: 0,
+            })
+        }
     }
-    leave(out.stand, here, state);
-    Answer::Told(0, 0)
 }
 
 // A run. One that a broken address stops keeps the steps that it made.
@@ -86,10 +99,17 @@ fn run_over(
         here,
     );
     leave(out.stand, here, state);
-    if out.verdict == 22 {
-        return Answer::RefusedWith(22, 8 * out.stand.place, out.steps);
+    match out.verdict {
+        Some(verdict) => Ok(Told {
+            verdict,
+            count: out.steps,
+        }),
+        None => Err(Refused {
+            refusal: Refusal::BadAddress,
+            offset: 8 * out.stand.place,
+            count: Some(out.steps),
+        }),
     }
-    Answer::Told(out.verdict, out.steps)
 }
 
 // A step or a run of a kernel that has, with its end, ROOM places at most, and NUMBERS in the table of them.

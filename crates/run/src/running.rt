@@ -9,12 +9,13 @@ ghost use Rattle.run.specs.Outcomes.{Ends};
 use crate::acting::{Act, acting};
 use crate::ahead::row_at;
 use machine::step::{Stand, float_at, move_at, step_at};
+use words::answer::Verdict;
 use words::limits::REGISTER_BYTES;
 
-// What a run comes to: 20 at the end, 21 with the budget spent or 22 at a broken address, the steps that were made, and where it stands.
+// What a run comes to: how it ends, which is nothing at a broken address; the steps that were made; and where it stands.
 #[derive(Clone, Copy)]
 pub struct Outcome {
-    pub verdict: u8,
+    pub verdict: Option<Verdict>,
     pub steps: u64,
     pub stand: Stand,
 }
@@ -39,7 +40,7 @@ pub(crate) fn run_on(
     while s.place != end {
         if steps == budget {
             return Outcome {
-                verdict: 21,
+                verdict: Some(Verdict::Spent),
                 steps: budget,
                 stand: s,
             };
@@ -61,7 +62,7 @@ pub(crate) fn run_on(
             }
             Act::Broken => {
                 return Outcome {
-                    verdict: 22,
+                    verdict: None,
                     steps,
                     stand: s,
                 };
@@ -69,7 +70,7 @@ pub(crate) fn run_on(
         }
     }
     Outcome {
-        verdict: 20,
+        verdict: Some(Verdict::Ended),
         steps,
         stand: s,
     }

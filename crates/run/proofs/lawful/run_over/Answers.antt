@@ -1,5 +1,4 @@
 -- The state's bytes are where the run stands, before its first step and after its last, and a0's bytes are lent from their end. Assumes nothing.
-use Rattle.words.specs.declared.answer.Answer.TheVariants.{Told, RefusedWith}
 use Rattle.run.specs.Running.{running_place}
 use Rattle.run.specs.Answers.{legal_three, taken, waits_inside, stood, begins, run_made, told_astray, told_verdict}
 use Rattle.run.specs.Lent.{back_shows}
@@ -29,14 +28,14 @@ overflow_mul-result c =
     let f = a.1.few in
     search rules
 
-pub returns-then-out-eq22 : goal.returns-then-out-eq22
-returns-then-out-eq22 c =
+pub returns-in-None : goal.returns-in-None
+returns-in-None c =
     let r = begins c.requires.allowed.0 c.requires.blank.0 (c.enter-start.ensures.by_index_2 _) c.enter-start.ensures.flag0_bound in
     let a = c.run_on-out.ensures _ _ r (c.fill-end.ensures.0 _ _) in
-    run_made _ _ _ _ c.requires.allowed.0.sizes c.requires.allowed.0.lawful _ _ (stood _ _ _ _ _ _ c.requires.blank.0 (c.enter-start.ensures.by_index_2 _) c.enter-start.ensures.flag0_bound) _ c.requires.allowed.1 _ _ _ _ _ a (c.leave.ensures _ _ (back_shows c.args.state.now c.requires.allowed.0.sizes.state-is _ _ _ _ _ _ a.1)) (RefusedWith 22 _ _) (told_astray _ _ _ c.if-out-eq22.true)
+    run_made _ _ _ _ c.requires.allowed.0.sizes c.requires.allowed.0.lawful _ _ (stood _ _ _ _ _ _ c.requires.blank.0 (c.enter-start.ensures.by_index_2 _) c.enter-start.ensures.flag0_bound) _ c.requires.allowed.1 _ _ _ _ _ a (c.leave.ensures _ _ (back_shows c.args.state.now c.requires.allowed.0.sizes.state-is _ _ _ _ _ _ a.1)) _ (told_astray _ _ _ c.in-None.is)
 
-pub returns : goal.returns
-returns c =
+pub returns-in-Some : goal.returns-in-Some
+returns-in-Some c =
     let r = begins c.requires.allowed.0 c.requires.blank.0 (c.enter-start.ensures.by_index_2 _) c.enter-start.ensures.flag0_bound in
     let a = c.run_on-out.ensures _ _ r (c.fill-end.ensures.0 _ _) in
-    run_made _ _ _ _ c.requires.allowed.0.sizes c.requires.allowed.0.lawful _ _ (stood _ _ _ _ _ _ c.requires.blank.0 (c.enter-start.ensures.by_index_2 _) c.enter-start.ensures.flag0_bound) _ c.requires.allowed.1 _ _ _ _ _ a (c.leave.ensures _ _ (back_shows c.args.state.now c.requires.allowed.0.sizes.state-is _ _ _ _ _ _ a.1)) (Told _ _) (told_verdict _ _ _ c.if-out-eq22.false)
+    run_made _ _ _ _ c.requires.allowed.0.sizes c.requires.allowed.0.lawful _ _ (stood _ _ _ _ _ _ c.requires.blank.0 (c.enter-start.ensures.by_index_2 _) c.enter-start.ensures.flag0_bound) _ c.requires.allowed.1 _ _ _ _ _ a (c.leave.ensures _ _ (back_shows c.args.state.now c.requires.allowed.0.sizes.state-is _ _ _ _ _ _ a.1)) _ (told_verdict _ _ _ _ c.in-Some.is)
