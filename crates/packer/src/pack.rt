@@ -1,4 +1,5 @@
 // Packing and unpacking, for all inputs. A refusal leaves the output as it was.
+ghost use Rattle.std.specs.Option.{option_copied};
 ghost use Rattle.paper.specs.Dictionary.{dictionary_of};
 ghost use Rattle.paper.specs.Calls.{deliver, accepted, relaid, pack_call, unpack_call};
 ghost use Rattle.short.specs.Sets.{Serves};
@@ -11,19 +12,26 @@ use crate::place::place_all;
 use crate::write::write_all;
 use kernel::accept::accept;
 use kernel::walk::Said;
-use short::sets::{IndexSets, gather_all};
+use short::sets::{IndexSets, TABLE_SETS, gather_all};
 use words::answer::Answer;
 use words::limits::{DICTIONARY_BYTES, PLACES};
 
 // A kernel of so many bytes or more is worth gathering sets for; in a shorter one numbers are walked.
 const WORTH_SETS: usize = 128;
 
-// The sets to shorten words by, or none where words are few or not shortened.
-fn sets_for(packs: bool, dictionary: &[u8; DICTIONARY_BYTES], kernel: &[u8]) -> Option<IndexSets>
-    ensures { Serves (dictionary_of dictionary.now) result }
+// The sets to shorten words by, or none where words are few or not shortened. They are gathered into lent storage: an answer that holds them would be moved,
+// which takes longer than packing a short kernel.
+fn sets_for<'a>(
+    packs: bool,
+    dictionary: &[u8; DICTIONARY_BYTES],
+    kernel: &[u8],
+    sets: &'a mut IndexSets,
+) -> Option<&'a IndexSets>
+    ensures { Serves (dictionary_of dictionary.now) (option_copied result) }
 {
     if packs && WORTH_SETS <= kernel.len() {
-        return Some(gather_all(dictionary));
+        *sets = gather_all(dictionary);
+        return Some(sets);
     }
     None
 }
@@ -38,17 +46,11 @@ fn lay_out(
     requires { Taken packs dictionary.now kernel.now }
     ensures { Wrote (deliver (result_of packs dictionary.now kernel.now) out.old) result out.new }
 {
-    let sets = sets_for(packs, dictionary, kernel);
+    let mut room = [[0u32; TABLE_SETS]; 5];
+    let sets = sets_for(packs, dictionary, kernel, &mut room);
     let mut shorts = [0u64; SHORTS];
     let mut places = [0u16; PLACES];
-    let end = place_all(
-        packs,
-        dictionary,
-        sets.as_ref(),
-        kernel,
-        &mut shorts,
-        &mut places,
-    );
+    let end = place_all(packs, dictionary, sets, kernel, &mut shorts, &mut places);
     let length = 8 * (end as usize);
     if out.len() < length {
         return Answer::Refused(14, 0);
