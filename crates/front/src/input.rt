@@ -6,7 +6,8 @@ ghost use Rattle.front.specs.Streams.{ConsumesPart};
 use std::io;
 use std::io::Read;
 
-// Reads until the bytes are full or the input ends; how many were read, and no more than these. What was read before an error stands in the bytes.
+// Reads until the bytes are full or the input ends; how many were read, and no more than these. What was read before an error stands in the bytes. (The reader
+// decides how far a turn goes, so no `for` counts it.)
 pub fn read_full<R: Read>(reader: &mut R, bytes: &mut [u8]) -> io::Result<usize>
     ensures within { IfOk result (λ n. n ≤ length bytes.new) }
     ensures first { IfOk result (λ n. IfSome (R.remaining reader.old) (λ xs. take n bytes.new ≡ take (length bytes.new) xs)) }

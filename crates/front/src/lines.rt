@@ -9,7 +9,7 @@ use text::write::put_line;
 // The most bytes that they can have: 30 of names, and of each number twenty digits and a newline.
 pub const LINES_BYTES: usize = 114;
 
-// Writes a report's lines, and answers how many bytes they have.
+// Writes a report's lines, and answers how many bytes they have. (It cannot fail, as a `Display` can: that writes to what may be full, or takes a heap.)
 pub fn put_report(out: &mut [u8], r: Report) -> usize
     requires { most_bytes ≤ length out.old }
     ensures { (result ≡ length (printed_text (report_is r))) × (result ≤ most_bytes) × (out.new ≡ printed_text (report_is r) ++ drop result out.old) }

@@ -6,7 +6,8 @@ ghost use Rattle.front.specs.Streams.{AppendsPart};
 use std::io;
 use std::io::Write;
 
-// Writes all of the bytes. Before an error a beginning of them was written; a writer that takes none is one.
+// Writes all of the bytes. Before an error a beginning of them was written; a writer that takes none is one. (The writer decides how far a turn goes, so no `for`
+// counts it.)
 pub fn write_full<W: Write>(writer: &mut W, bytes: &[u8]) -> io::Result<()>
     ensures ok { OnOk result (Appends (W.contents writer.old) (W.contents writer.new) bytes.now) }
     ensures err { OnErr result (AppendsPart (W.contents writer.old) (W.contents writer.new) bytes.now) }

@@ -11,7 +11,7 @@ use std::io;
 use std::io::{Read, Write};
 use words::limits::{DICTIONARY_BYTES, KERNEL_BYTES};
 
-// As much as is read: a dictionary, and of a kernel one byte more than is allowed.
+// As much as is read: a dictionary, and of a kernel one byte more than is allowed. An array holds it, since the programs have no heap: only reading and writing can fail.
 pub const INPUT_BYTES: usize = DICTIONARY_BYTES + KERNEL_BYTES + 1;
 
 // Writes the four lines on an input, or a beginning of them before an error.

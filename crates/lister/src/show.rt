@@ -5,7 +5,7 @@ ghost use Rattle.lister.specs.Shown.{most_text, shown};
 use front::lines::lines_on;
 use listing::list::list;
 
-// The most bytes that a listing can have: 70 for each of 4,096 instructions.
+// The most bytes that a listing can have: 70 for each of 4,096 instructions. An array holds them, since there is no heap.
 pub const TEXT_BYTES: usize = 286720;
 
 // Writes the listing, or the four lines of a refusal, and answers how many bytes that is; the rest of what is lent stays.

@@ -16,7 +16,7 @@ use words::limits::{DICTIONARY_BYTES, KERNEL_BYTES};
 // One byte more than a listing can have, which is 70 for each of 4,096 instructions.
 const TEXT_BYTES: usize = 286721;
 
-// As much as is read: a dictionary and a listing.
+// As much as is read: a dictionary and a listing. An array holds it, since there is no heap.
 const INPUT_BYTES: usize = DICTIONARY_BYTES + TEXT_BYTES;
 
 // Writes the four lines of a refusal, or a beginning of them before an error.
