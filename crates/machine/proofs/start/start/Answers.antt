@@ -11,13 +11,13 @@ use Rattle.machine.proofs.start.start.Goals as goal
 
 pub returns-in-None : goal.returns-in-None
 unfolding start_call
-returns-in-None c = rw (ne_eqb _ _ c.in-None.ensures.cases) (refl, refl)
+returns-in-None c = rw c.into.ensures (rw (ne_eqb _ _ c.in-None.ensures.cases) (refl, refl))
 
 pub returns-in-Some : goal.returns-in-Some
 unfolding start_call
 returns-in-Some c =
     let cleared = ap addresses_in c.write16.ensures ∙ addresses_cleared c.in-Some.bytes.now (omega arith) in
-    rw (eq-eqb _ _ (c.in-Some.ensures.variant.0 refl)) (
+    rw (c.accepted.ensures, eq-eqb _ _ (c.in-Some.ensures.variant.0 refl)) (
       refl,
       c.write_state.ensures []
           ∙ ap (λ (a : List ℕ). state_bytes (state_is [] a c.started.result)) cleared

@@ -1,4 +1,6 @@
 -- The state's bytes are where the run stands, before its first step and after its last, and a0's bytes are lent from their end. Assumes nothing.
+use Rattle.std.specs.Prelude.{◌*◌, Some, Ok, Err}
+use Rattle.words.specs.declared.refusal.Refusal.TheVariants.{BadAddress}
 use Rattle.run.specs.Running.{running_place}
 use Rattle.run.specs.Answers.{legal_three, taken, waits_inside, stood, begins, run_made, told_astray, told_verdict}
 use Rattle.run.specs.Lent.{back_shows}
@@ -32,10 +34,10 @@ pub returns-in-None : goal.returns-in-None
 returns-in-None c =
     let r = begins c.requires.allowed.0 c.requires.blank.0 (c.enter-start.ensures.by_index_2 _) c.enter-start.ensures.flag0_bound in
     let a = c.run_on-out.ensures _ _ r (c.fill-end.ensures.0 _ _) in
-    run_made _ _ _ _ c.requires.allowed.0.sizes c.requires.allowed.0.lawful _ _ (stood _ _ _ _ _ _ c.requires.blank.0 (c.enter-start.ensures.by_index_2 _) c.enter-start.ensures.flag0_bound) _ c.requires.allowed.1 _ _ _ _ _ a (c.leave.ensures _ _ (back_shows c.args.state.now c.requires.allowed.0.sizes.state-is _ _ _ _ _ _ a.1)) _ (told_astray _ _ _ c.in-None.is)
+    run_made _ _ _ _ c.requires.allowed.0.sizes c.requires.allowed.0.lawful _ _ (stood _ _ _ _ _ _ c.requires.blank.0 (c.enter-start.ensures.by_index_2 _) c.enter-start.ensures.flag0_bound) _ c.requires.allowed.1 _ _ _ _ _ a (c.leave.ensures _ _ (back_shows c.args.state.now c.requires.allowed.0.sizes.state-is _ _ _ _ _ _ a.1)) (Err (record { refusal = BadAddress; offset = 8 * c.run_on-out.result.stand.place; count = Some c.run_on-out.result.steps })) (told_astray _ _ _ c.in-None.is)
 
 pub returns-in-Some : goal.returns-in-Some
 returns-in-Some c =
     let r = begins c.requires.allowed.0 c.requires.blank.0 (c.enter-start.ensures.by_index_2 _) c.enter-start.ensures.flag0_bound in
     let a = c.run_on-out.ensures _ _ r (c.fill-end.ensures.0 _ _) in
-    run_made _ _ _ _ c.requires.allowed.0.sizes c.requires.allowed.0.lawful _ _ (stood _ _ _ _ _ _ c.requires.blank.0 (c.enter-start.ensures.by_index_2 _) c.enter-start.ensures.flag0_bound) _ c.requires.allowed.1 _ _ _ _ _ a (c.leave.ensures _ _ (back_shows c.args.state.now c.requires.allowed.0.sizes.state-is _ _ _ _ _ _ a.1)) _ (told_verdict _ _ _ _ c.in-Some.is)
+    run_made _ _ _ _ c.requires.allowed.0.sizes c.requires.allowed.0.lawful _ _ (stood _ _ _ _ _ _ c.requires.blank.0 (c.enter-start.ensures.by_index_2 _) c.enter-start.ensures.flag0_bound) _ c.requires.allowed.1 _ _ _ _ _ a (c.leave.ensures _ _ (back_shows c.args.state.now c.requires.allowed.0.sizes.state-is _ _ _ _ _ _ a.1)) (Ok (record { verdict = c.in-Some.verdict; count = c.run_on-out.result.steps })) (told_verdict _ _ _ _ c.in-Some.is)
