@@ -5,28 +5,25 @@
 mod call;
 mod obey;
 
-ghost use Rattle.std.specs.Prelude.{◌≡◌, length};
-
 use front::input::read_full;
 use obey::run_rows;
 use std::rt::Files;
 use std::{fs, io};
 
-// Room for a file, of which the last byte must stay free.
-fn pages() -> [u8; 262144]
-    ensures { 262144 ≡ length result }
-{
-    [0; 262144]
-}
+// The files, one after the other.
+const FILES: [&str; 4] = ["sheet.txt", "words.txt", "elements.txt", "floats.txt"];
+
+// Room for a file, of which the last byte must stay free: fixed memory, so that a file which is too long is told by its length alone.
+const PAGE_BYTES: usize = 262144;
 
 // Runs a file's cases. A file that cannot be opened has none; one that may be cut off has no line.
 fn report<R: Files + Print>(rt: &R, file: &str) -> io::Result<()> {
-    let mut text = pages();
+    let mut text = [0u8; PAGE_BYTES];
     let n = match fs::open(rt, file) {
         Ok(mut opened) => read_full(&mut opened, &mut text)?,
         Err(_error) => 0,
     };
-    if n == 262144 {
+    if n == PAGE_BYTES {
         return Ok(());
     }
     let desk = run_rows(rt, file, &text[..n])?;
@@ -35,10 +32,9 @@ fn report<R: Files + Print>(rt: &R, file: &str) -> io::Result<()> {
     println!(rt; "{file}: {right} of {total} cases")
 }
 
-// The files one after the other.
 fn main(rt: HostRuntime) -> io::Result<()> {
-    report(&rt, "sheet.txt")?;
-    report(&rt, "words.txt")?;
-    report(&rt, "elements.txt")?;
-    report(&rt, "floats.txt")
+    for file in FILES {
+        report(&rt, file)?;
+    }
+    Ok(())
 }
