@@ -18,6 +18,7 @@ use words::limits::{DICTIONARY_BYTES, INSTRUCTION_LIMIT};
 pub(crate) const SHORTS: usize = INSTRUCTION_LIMIT as usize;
 
 // The short word that w becomes, or 0 where it stays long.
+// A number and no Option, since 4,096 of them are kept in fixed memory from one pass to the next; no short word is 0.
 pub(crate) fn form(
     packs: bool,
     dictionary: &[u8; DICTIONARY_BYTES],

@@ -60,6 +60,7 @@ pub fn rewrite(places: &[u16; PLACES], i: Instruction, to: u64, next: u64) -> Wo
 }
 
 // The kernel's instructions, in the forms that were kept, as the output's first bytes.
+// `packs` is for the contract, which says by it what was kept; a ghost value in its place could only be chosen from the call's other arguments.
 pub(crate) fn write_all(
     packs: bool,
     dictionary: &[u8; DICTIONARY_BYTES],
