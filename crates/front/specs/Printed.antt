@@ -1,6 +1,6 @@
 -- The four numbers that the checking program prints, and their text (the paper, "The checking program"). Assumes nothing.
 use Rattle.std.proofs.Math.Bool.{and-false}
-use Rattle.std.specs.Prelude.{List, [], ◌∷◌, ◌++◌, ◌≡◌, refl, ℕ, zero, suc, ◌+◌, ◌<◌, ◌≤◌, length, take, drop}
+use Rattle.std.specs.Prelude.{Option, None, Some, List, [], ◌∷◌, ◌++◌, ◌≡◌, refl, ℕ, zero, suc, ◌+◌, ◌<◌, ◌≤◌, length, take, drop}
 use Rattle.std.proofs.Common.{sym, ap, ◌∙◌, arith, ⊎_elim, length-take, take_all}
 use Rattle.std.proofs.lemmas.List.{drop-take}
 use Rattle.std.proofs.lemmas.Bool.{lt-leb}
@@ -9,6 +9,7 @@ use Rattle.paper.specs.Text.{decimal, line}
 use Rattle.text.specs.Decimals.{below}
 use Rattle.paper.specs.Log.{verdict_name}
 use Rattle.paper.specs.Calls.{Answer, verdict, refusal, refusal_with, check_call, accepted}
+use Rattle.words.specs.Answer.{refused_as}
 use Rattle.front.specs.declared.report.Report.{Report}
 
 -- Named as the lines are.
@@ -23,6 +24,13 @@ unfoldable pub printed_as : Answer → ℕ → Printed
 printed_as (verdict number count) length = record { verdict = number; at = 0; instructions = count; bytes = length }
 printed_as (refusal number offset) length = record { verdict = number; at = offset; instructions = 0; bytes = 0 }
 printed_as (refusal_with number offset count) length = record { verdict = number; at = offset; instructions = 0; bytes = 0 }
+
+-- A refusal is printed so, whether or not it counts.
+pub printed_refused : (number offset : ℕ) (count : Option ℕ) (length : ℕ)
+    → printed_as (refused_as number offset count) length ≡ record { verdict = number; at = offset; instructions = 0; bytes = 0 }
+unfolding printed_as
+printed_refused number offset None length = refl
+printed_refused number offset (Some count) length = refl
 
 unfoldable pub printed : List ℕ → List ℕ → Printed
 printed dictionary kernel = printed_as (check_call dictionary kernel) (length kernel)

@@ -14,6 +14,8 @@ use Rattle.paper.specs.Calls.{verdict, refusal, refusal_with, deliver, accepted}
 use Rattle.paper.specs.Listing.{listing, listed_as, list_call}
 use Rattle.answers.specs.Kernels.{Near, near_few, near_inside, accepted_near}
 use Rattle.answers.specs.Listings.{listing_most}
+use Rattle.words.specs.Answer.{refused_as}
+use Rattle.std.specs.Prelude as std
 use Rattle.front.specs.Printed.{check_text, printed_cut, printed_text, take_in}
 
 abbrev pub shown_as : Parsed → List ℕ → List ℕ
@@ -85,6 +87,12 @@ module _ (dictionary kernel out : List ℕ) (room : most_text ≤ length out) wh
           let fits : length (listing k) ≤ length out = omega arith in
           let t : refusal_with number offset count ≡ verdict 0 (length (listing k)) = rw (le-ltb (length out) (length (listing k)) fits) at e in
           let z : ◌≡◌ {A = ℕ} 0 1 = cc in absurd (omega arith)
+
+  -- So its refusal has no count, and the four lines are to be written.
+  pub shown_refused : (number offset : ℕ) (count : std.Option ℕ) → refused_as number offset count ≡ (list_call dictionary kernel out).answer
+      → ((list_call dictionary kernel out).output ≡ out) × (check_text dictionary kernel ≡ shown dictionary kernel)
+  shown_refused number offset std.None e = shown_said number offset e
+  shown_refused number offset (std.Some count) e = never_counted number offset count e
 
 -- ---- a kernel that is too long
 

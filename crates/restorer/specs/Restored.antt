@@ -1,11 +1,12 @@
 -- What the program that reads listings back writes, by what reading answers. Assumes nothing.
-use Rattle.std.specs.Prelude.{List, [], ◌≡◌, ℕ, ◌+◌, length, take, drop, replicate}
+use Rattle.std.specs.Prelude.{Option, None, Some, refl, List, [], ◌≡◌, ℕ, ◌+◌, length, take, drop, replicate}
 use Rattle.std.proofs.Common.{sym, ap, ◌∙◌, arith, ⊎_elim, take_all}
 use Rattle.std.proofs.lemmas.List.{drop-take}
 use Rattle.paper.specs.Limits.{dictionary_bytes, kernel_bytes}
 use Rattle.paper.specs.Calls.{Answer, verdict, refusal, refusal_with, Written}
 use Rattle.paper.specs.Listing.{read_call}
 use Rattle.text.specs.Decimals.{below}
+use Rattle.words.specs.Answer.{refused_as}
 use Rattle.front.specs.Printed.{printed_text, take_in}
 use Rattle.restorer.specs.Cut.{most_text, read_cut}
 
@@ -24,6 +25,12 @@ abbrev pub errors_by : Answer → List ℕ
 errors_by (verdict number count) = []
 errors_by (refusal number offset) = refusal_text number offset
 errors_by (refusal_with number offset count) = refusal_text number offset
+
+-- Of a refusal, whether or not it counts, the lines alone are written.
+pub refused_lines : (number offset : ℕ) (count : Option ℕ) (kernel : List ℕ)
+    → (output_by (refused_as number offset count) kernel ≡ []) × (errors_by (refused_as number offset count) ≡ refusal_text number offset)
+refused_lines number offset None kernel = (refl, refl)
+refused_lines number offset (Some count) kernel = (refl, refl)
 
 abbrev pub output_of : Written → List ℕ
 output_of w = output_by w.answer w.output

@@ -1,16 +1,12 @@
 -- What the check says is put into the four numbers.
 use Rattle.std.proofs.Common.{sym, ◌∙◌}
-use Rattle.front.specs.Printed.{printed_as, printed_by}
+use Rattle.front.specs.Printed.{printed_as, printed_by, printed_refused}
 use Rattle.front.proofs.report.report_on.Goals as goal
 
-pub returns-in-Told : goal.returns-in-Told
+pub returns-in-Ok : goal.returns-in-Ok
 unfolding printed_as
-returns-in-Told c = rw c.from.ensures (sym (printed_by _ _ _ (sym c.in-Told.ensures)))
+returns-in-Ok c = rw (c.from.ensures, c.number.ensures.0) (sym (printed_by _ _ _ (sym c.in-Ok.ensures)))
 
-pub returns-in-Refused : goal.returns-in-Refused
-unfolding printed_as
-returns-in-Refused c = c.refused.ensures ∙ sym (printed_by _ _ _ (sym c.in-Refused.ensures))
-
-pub returns-in-RefusedWith : goal.returns-in-RefusedWith
-unfolding printed_as
-returns-in-RefusedWith c = c.refused-in-RefusedWith.ensures ∙ sym (printed_by _ _ _ (sym c.in-RefusedWith.ensures))
+pub returns-in-Err : goal.returns-in-Err
+returns-in-Err c =
+    rw (c.refused.ensures, c.number-in-Err.ensures.0) (sym (printed_refused _ _ c.in-Err.refusing.count _) ∙ sym (printed_by _ _ _ (sym c.in-Err.ensures)))
