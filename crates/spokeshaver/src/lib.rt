@@ -123,10 +123,10 @@ pub fn spokeshaver_log_append(
     ensures { LogAppendPromise log.old count verdict steps place awake result log.new }
 {
     let entry = Entry {
-        verdict: verdict,
-        steps: steps,
-        place: place,
-        awake: awake,
+        verdict,
+        steps,
+        place,
+        awake,
     };
     number_of(append(log, count, entry))
 }
