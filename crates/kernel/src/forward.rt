@@ -7,6 +7,7 @@ ghost use Rattle.words.specs.Answer.{answer_is};
 ghost use Rattle.kernel.specs.Instructions.{instr_is, instrs_left};
 
 use crate::accept::accept;
+use crate::forms::Forms;
 use crate::instructions::{Instruction, Instructions};
 use words::answer::{Answer, accepted};
 use words::limits::PLACES;
@@ -39,7 +40,7 @@ pub fn forward(dictionary: &[u8], kernel: &[u8]) -> Answer
         return Err(Refusal::WrongSize.into());
     };
     let mut marks = [0u8; PLACES];
-    accept(false, dictionary, kernel, &mut marks)?;
+    accept(Forms::LongAndShort, dictionary, kernel, &mut marks)?;
     let all = Instructions::of(dictionary, kernel);
     accepted(u64::from(all_forward(all)))
 }

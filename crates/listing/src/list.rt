@@ -9,6 +9,7 @@ ghost use Rattle.listing.specs.Passing.{instrs_in, Listable};
 use crate::reader::read_at;
 use crate::write::{lines_length, put_lines};
 use kernel::accept::accept;
+use kernel::forms::Forms;
 use words::answer::{Answer, accepted};
 use words::limits::{DICTIONARY_BYTES, PLACES};
 use words::refusal::Refusal;
@@ -65,6 +66,6 @@ pub fn list(dictionary: &[u8], kernel: &[u8], out: &mut [u8]) -> Answer
         return Err(Refusal::WrongSize.into());
     };
     let mut marks = [0u8; PLACES];
-    accept(false, dictionary, kernel, &mut marks)?;
+    accept(Forms::LongAndShort, dictionary, kernel, &mut marks)?;
     list_accepted(dictionary, kernel, out)
 }
