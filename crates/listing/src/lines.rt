@@ -52,13 +52,10 @@ fn word_in(text: &[u8], from: usize) -> Word
 fn size_in(text: &[u8], at: usize) -> u64
     ensures { (result ≡ cond (eqb (get_or text.now at 0) 115) 1 2) × (result ≤ 2) }
 {
-    if text.len() <= at {
-        return 2;
+    match text.get(at) {
+        Some(b's') => 1,
+        _ => 2,
     }
-    if text[at] == 115 {
-        return 1;
-    }
-    2
 }
 
 // The one instruction at a place whose lines can begin at a byte: its size and its word.

@@ -1,16 +1,11 @@
 -- The candidate's lines are written, and are looked for; then it is seen whether it can be read. Assumes nothing.
-use mathlib.Core.Path.{◌≡◌, sym, ap, ◌∙◌}
-use Prim.Native.Nat.{ℕ, ◌+◌, ◌≤◌}
+use mathlib.Core.Path.{sym}
+use Prim.Native.Nat.{◌+◌, ◌≤◌}
 use native.Mathlib.Omega.{arith}
-use lib.ListN.{length, drop}
-use mathlib.Core.List.{List}
-use lib.ListN.{replicate}
+use lib.ListN.{length}
 use lib.Seq.{length-take-le}
 use Rattle.paper.specs.Dictionary.{dictionary_of}
-use Rattle.paper.specs.Text.{found}
 use Rattle.paper.specs.Listing.{instr_text}
-use Rattle.text.specs.Meaning.{found_is}
-use Rattle.text.specs.Reading.{stored_first}
 use Rattle.words.specs.Words.{to_word}
 use Rattle.kernel.specs.Jumps.{instr_of}
 use Rattle.listing.specs.Reading.{lines_fit, looked, instr_whole, instr_unread, instr_some, instr_refused}
