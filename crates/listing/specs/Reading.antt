@@ -19,15 +19,15 @@ use Rattle.text.specs.declared.read.Unread.TheVariants.{Torn, Other}
 use Rattle.text.specs.Decimals.{decimal_most}
 use Rattle.text.specs.Meaning.{found_is}
 use Rattle.text.specs.Reading.{stored_first}
-use Rattle.words.specs.Words.{to_word}
 use Rattle.kernel.specs.Jumps.{instr_of}
-use Rattle.kernel.specs.declared.fetch.Fetched.{Fetched}
+use Rattle.kernel.specs.declared.instructions.Instruction.{Instruction}
+use Rattle.kernel.specs.Instructions.{instr_is}
 use Rattle.listing.specs.Lines.{length_lined, lines_length, from_lt, form_length, sum_joined}
 
--- What the code finds at a byte, of the instruction that can be read there at a place: its size, its word and the byte after its lines; or none.
-abbrev pub LinesAt : Option Instr → ℕ → ℕ → std.Option (Fetched × ℕ) → Type 0
-LinesAt o place from (Some (f, next)) = (o ≡ some (instr_of place f.size (to_word f.word))) × (next ≡ from + length (instr_text (instr_of place f.size (to_word f.word))))
-LinesAt o place from None = o ≡ none
+-- What the code finds at a byte: the instruction that can be read there and the byte after its lines; or none.
+abbrev pub LinesAt : Option Instr → ℕ → std.Option (Instruction × ℕ) → Type 0
+LinesAt o from (Some (i, next)) = (o ≡ some (instr_is i)) × (next ≡ from + length (instr_text (instr_is i)))
+LinesAt o from None = o ≡ none
 
 -- ---- digits
 

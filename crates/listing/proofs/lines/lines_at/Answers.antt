@@ -55,8 +55,8 @@ returns-in_err-ok c =
     let D = dictionary_of a.dictionary.now in
     let size = g.result.size in
     let w = to_word g.result.word in
-    let f = looked D a.text.now a.place a.from size w g.ensures p.new.out p.result _ c.ranges.place.fits p.ensures.0 p.ensures.1 c.find.ensures in
-    rw c.from_residual.ensures (instr_unread D a.text.now a.place a.from size w g.ensures _ c.in_err-ok.ensures.variant f)
+    let f = looked D a.text.now a.place a.from size w g.ensures.value p.new.out p.result _ c.ranges.place.fits p.ensures.0 p.ensures.1 c.find.ensures in
+    rw c.from_residual.ensures (instr_unread D a.text.now a.place a.from size w g.ensures.value _ c.in_err-ok.ensures.variant f)
 
 pub returns-then-not-is_taken : goal.returns-then-not-is_taken
 returns-then-not-is_taken c =
@@ -66,8 +66,8 @@ returns-then-not-is_taken c =
     let D = dictionary_of a.dictionary.now in
     let size = g.result.size in
     let w = to_word g.result.word in
-    let f = looked D a.text.now a.place a.from size w g.ensures p.new.out p.result _ c.ranges.place.fits p.ensures.0 p.ensures.1 c.find.ensures in
-    instr_refused D a.text.now a.place a.from size w g.ensures (instr_whole D a.text.now a.place a.from size w g.ensures _ c.in_ok-ok.ensures.variant f) (sym (c.if-not-is_taken.ensures a.place))
+    let f = looked D a.text.now a.place a.from size w g.ensures.value p.new.out p.result _ c.ranges.place.fits p.ensures.0 p.ensures.1 c.find.ensures in
+    instr_refused D a.text.now a.place a.from size w g.ensures.value (instr_whole D a.text.now a.place a.from size w g.ensures.value _ c.in_ok-ok.ensures.variant f) (sym (c.if-not-is_taken.ensures a.place))
 
 pub returns : goal.returns
 returns c =
@@ -77,5 +77,5 @@ returns c =
     let D = dictionary_of a.dictionary.now in
     let size = g.result.size in
     let w = to_word g.result.word in
-    let f = looked D a.text.now a.place a.from size w g.ensures p.new.out p.result _ c.ranges.place.fits p.ensures.0 p.ensures.1 c.find.ensures in
-    (instr_some D a.text.now a.place a.from size w g.ensures (instr_whole D a.text.now a.place a.from size w g.ensures _ c.in_ok-ok.ensures.variant f) (sym (c.if-not-is_taken.ensures a.place)), omega (arith, p.ensures.0))
+    let f = looked D a.text.now a.place a.from size w g.ensures.value p.new.out p.result _ c.ranges.place.fits p.ensures.0 p.ensures.1 c.find.ensures in
+    rw g.ensures.stands (instr_some D a.text.now a.place a.from size w g.ensures.value (instr_whole D a.text.now a.place a.from size w g.ensures.value _ c.in_ok-ok.ensures.variant f) (sym (c.if-not-is_taken.ensures a.place)), omega (arith, p.ensures.0))
