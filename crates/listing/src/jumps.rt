@@ -5,7 +5,6 @@ ghost use Rattle.listing.specs.Again.{lines_in, CanRead, MarksAre, astray_is};
 
 use crate::lines::candidate;
 use crate::write::lines_length;
-use kernel::instructions::Instruction;
 use kernel::jumps::jump_lands;
 use words::limits::{DICTIONARY_BYTES, PLACES};
 
@@ -20,19 +19,14 @@ pub(crate) fn first_astray(
 {
     let mut from: usize = 0;
     let mut place: u64 = 0;
+    // A step is as long as an instruction's lines, so no `for` counts it.
     while from < text.len() {
-        let f = candidate(text, place, from);
-        let size = f.size;
-        let i = Instruction {
-            place,
-            size,
-            word: f.word,
-        };
+        let i = candidate(text, place, from);
         if !jump_lands(marks, i) {
             return Some(from as u64);
         }
-        from += lines_length(place, size);
-        place += size;
+        from += lines_length(place, i.size);
+        place += i.size;
     }
     None
 }
