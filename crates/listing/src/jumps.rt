@@ -25,7 +25,7 @@ pub(crate) fn first_astray(
         if !jump_lands(marks, i) {
             return Some(from as u64);
         }
-        from += lines_length(place, i.size);
+        from += lines_length(i);
         place += i.size;
     }
     None

@@ -41,7 +41,7 @@ pub(crate) fn write_kernel(dictionary: &[u8; DICTIONARY_BYTES], text: &[u8], out
     while from < text.len() {
         let i = candidate(text, place, from);
         put_word(dictionary, out, 8 * (place as usize), i.size, i.word);
-        from += lines_length(place, i.size);
+        from += lines_length(i);
         place += i.size;
     }
 }

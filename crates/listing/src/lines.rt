@@ -87,7 +87,7 @@ pub(crate) fn lines_at(
 {
     let instruction = candidate(text, place, from);
     let mut lines = [0u8; LINES_BYTES];
-    let n = put_lines(&mut lines, 0, place, instruction.size, instruction.word);
+    let n = put_lines(&mut lines, 0, instruction);
     find(text, from, &lines[..n]).ok()?;
     if !is_taken(regions, dictionary, instruction.size, instruction.word) {
         return None;

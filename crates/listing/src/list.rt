@@ -21,7 +21,7 @@ fn text_length(dictionary: &[u8; DICTIONARY_BYTES], kernel: &[u8]) -> usize
 {
     let mut n: usize = 0;
     for i in Instructions::of(dictionary, kernel) {
-        n += lines_length(i.place, i.size);
+        n += lines_length(i);
     }
     n
 }
@@ -34,7 +34,7 @@ fn write_text(dictionary: &[u8; DICTIONARY_BYTES], kernel: &[u8], out: &mut [u8]
 {
     let mut at: usize = 0;
     for i in Instructions::of(dictionary, kernel) {
-        at = put_lines(out, at, i.place, i.size, i.word);
+        at = put_lines(out, at, i);
     }
 }
 

@@ -3,9 +3,9 @@ ghost use Rattle.std.specs.Prelude.{◌≡◌, ◌+◌, ◌≤◌, length};
 ghost use Rattle.std.proofs.lemmas.List.Edits.{sets};
 ghost use Rattle.paper.specs.Text.{decimal, hexes, line};
 ghost use Rattle.paper.specs.Listing.{form_name, form_of, instr_text};
-ghost use Rattle.words.specs.Words.{to_word};
-ghost use Rattle.kernel.specs.Jumps.{instr_of};
+ghost use Rattle.kernel.specs.Instructions.{instr_is};
 
+use kernel::instructions::Instruction;
 use text::write::{put_hex8, put_line, put_text, width};
 use words::bytes::Word;
 
@@ -34,15 +34,14 @@ fn put_form(out: &mut [u8], at: usize, size: u64) -> usize
     put_text(out, at, b"form=long\n")
 }
 
-// The lines of the instruction at a place, of so many places, with that word.
-pub(crate) fn put_lines(out: &mut [u8], at: usize, place: u64, size: u64, w: Word) -> usize
-    requires { at + length (instr_text (instr_of place size (to_word w))) ≤ length out.old }
-    ensures { (result ≡ at + length (instr_text (instr_of place size (to_word w)))) × (out.new ≡ sets out.old at (instr_text (instr_of place size (to_word w)))) }
+// An instruction's lines.
+pub(crate) fn put_lines(out: &mut [u8], at: usize, i: Instruction) -> usize
+    requires { at + length (instr_text (instr_is i)) ≤ length out.old }
+    ensures { (result ≡ at + length (instr_text (instr_is i))) × (out.new ≡ sets out.old at (instr_text (instr_is i))) }
 {
-    let lo = w.lo;
-    let hi = w.hi;
-    let a = put_line(out, at, b"place=", place);
-    let b = put_form(out, a, size);
+    let Word { lo, hi } = i.word;
+    let a = put_line(out, at, b"place=", i.place);
+    let b = put_form(out, a, i.size);
     let c = put_hex_line(out, b, b"w0=", lo % DWORD);
     let d = put_hex_line(out, c, b"w1=", lo / DWORD);
     let e = put_hex_line(out, d, b"w2=", hi % DWORD);
@@ -50,11 +49,11 @@ pub(crate) fn put_lines(out: &mut [u8], at: usize, place: u64, size: u64, w: Wor
 }
 
 // How many bytes they have.
-pub(crate) fn lines_length(place: u64, size: u64) -> usize
-    ensures { (result ≡ 61 + length (decimal place) + length (form_of size)) × (result ≤ 86) }
+pub(crate) fn lines_length(i: Instruction) -> usize
+    ensures { (result ≡ 61 + length (decimal i.place) + length (form_of i.size)) × (result ≤ 86) }
 {
-    let digits = width(place);
-    if size == 1 {
+    let digits = width(i.place);
+    if i.size == 1 {
         return 66 + digits;
     }
     65 + digits

@@ -32,7 +32,7 @@ overflow_add-from c =
     let g = c.candidate-i in
     let x = judging_next _ _ _ _ _ l.invariant.1 c.loop-from-test.true g.result.size (to_word g.result.word) g.ensures.value in
     let m : c.lines_length-from.result ≡ length (instr_text (instr_of l.place g.result.size (to_word g.result.word))) =
-    omega (arith, c.lines_length-from.ensures.0, lines_length (instr_of l.place g.result.size (to_word g.result.word))) in
+    omega (arith, rw g.ensures.stands at c.lines_length-from.ensures.0, lines_length (instr_of l.place g.result.size (to_word g.result.word))) in
     omega (arith, x.inside, c.well_formed)
 
 pub overflow_add-place : goal.overflow_add-place
@@ -48,7 +48,7 @@ loop-from-smaller c =
     let g = c.candidate-i in
     let x = judging_next _ _ _ _ _ l.invariant.1 c.loop-from-test.true g.result.size (to_word g.result.word) g.ensures.value in
     let m : c.lines_length-from.result ≡ length (instr_text (instr_of l.place g.result.size (to_word g.result.word))) =
-    omega (arith, c.lines_length-from.ensures.0, lines_length (instr_of l.place g.result.size (to_word g.result.word))) in
+    omega (arith, rw g.ensures.stands at c.lines_length-from.ensures.0, lines_length (instr_of l.place g.result.size (to_word g.result.word))) in
     omega (arith, x.more, c.loop-from-test.true)
 
 pub loop-from-preserved : goal.loop-from-preserved
@@ -57,7 +57,7 @@ loop-from-preserved c =
     let g = c.candidate-i in
     let x = judging_next _ _ _ _ _ l.invariant.1 c.loop-from-test.true g.result.size (to_word g.result.word) g.ensures.value in
     let m : c.lines_length-from.result ≡ length (instr_text (instr_of l.place g.result.size (to_word g.result.word))) =
-    omega (arith, c.lines_length-from.ensures.0, lines_length (instr_of l.place g.result.size (to_word g.result.word))) in (
+    omega (arith, rw g.ensures.stands at c.lines_length-from.ensures.0, lines_length (instr_of l.place g.result.size (to_word g.result.word))) in (
       omega (arith, x.inside),
       judging_lands _ _ _ _ _ l.invariant.1 c.loop-from-test.true g.result.size (to_word g.result.word) g.ensures.value _ c.requires.1
           (rw g.ensures.stands at (sym c.jump_lands.ensures ∙ c.if-not-jump_lands.false)) _ m,

@@ -38,7 +38,7 @@ overflow_add-from c =
     let g = c.candidate-i in
     let x = laying_next _ _ _ _ _ _ l.invariant.2 c.loop-from-test.true g.result.size (to_word g.result.word) g.ensures.value in
     let m : c.lines_length-from.result ≡ length (instr_text (instr_of l.place g.result.size (to_word g.result.word))) =
-    omega (arith, c.lines_length-from.ensures.0, lines_length (instr_of l.place g.result.size (to_word g.result.word))) in
+    omega (arith, rw g.ensures.stands at c.lines_length-from.ensures.0, lines_length (instr_of l.place g.result.size (to_word g.result.word))) in
     omega (arith, x.inside, c.well_formed)
 
 pub overflow_add-place : goal.overflow_add-place
@@ -54,7 +54,7 @@ loop-from-smaller c =
     let g = c.candidate-i in
     let x = laying_next _ _ _ _ _ _ l.invariant.2 c.loop-from-test.true g.result.size (to_word g.result.word) g.ensures.value in
     let m : c.lines_length-from.result ≡ length (instr_text (instr_of l.place g.result.size (to_word g.result.word))) =
-    omega (arith, c.lines_length-from.ensures.0, lines_length (instr_of l.place g.result.size (to_word g.result.word))) in
+    omega (arith, rw g.ensures.stands at c.lines_length-from.ensures.0, lines_length (instr_of l.place g.result.size (to_word g.result.word))) in
     omega (arith, x.more, c.loop-from-test.true)
 
 pub loop-from-preserved : goal.loop-from-preserved
@@ -63,7 +63,7 @@ loop-from-preserved c =
     let g = c.candidate-i in
     let x = laying_next _ _ _ _ _ _ l.invariant.2 c.loop-from-test.true g.result.size (to_word g.result.word) g.ensures.value in
     let m : c.lines_length-from.result ≡ length (instr_text (instr_of l.place g.result.size (to_word g.result.word))) =
-    omega (arith, c.lines_length-from.ensures.0, lines_length (instr_of l.place g.result.size (to_word g.result.word))) in
+    omega (arith, rw g.ensures.stands at c.lines_length-from.ensures.0, lines_length (instr_of l.place g.result.size (to_word g.result.word))) in
     let p = c.put_word in (
       omega (arith, x.inside),
       p.auto.out ∙ l.invariant.1,

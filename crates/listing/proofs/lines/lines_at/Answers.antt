@@ -18,7 +18,7 @@ put_lines-n-requires c =
     let own = instr_of a.place g.result.size (to_word g.result.word) in
     let m : length (instr_text own) ≤ 86 = lines_fit a.place g.result.size (to_word g.result.word) (omega arith) in
     let h : 0 + length (instr_text own) ≤ 86 = omega arith in
-    h
+    rw g.ensures.stands h
 
 pub slice_bounds-lines-end : goal.slice_bounds-lines-end
 slice_bounds-lines-end c =
@@ -27,7 +27,7 @@ slice_bounds-lines-end c =
     let own = instr_of a.place g.result.size (to_word g.result.word) in
     let m : length (instr_text own) ≤ 86 = lines_fit a.place g.result.size (to_word g.result.word) (omega arith) in
     let p = c.put_lines-n in
-    omega (arith, p.ensures.0, p.auto.out)
+    omega (arith, (rw g.ensures.stands at p.ensures.0), p.auto.out)
 
 pub slice_bounds-find-end : goal.slice_bounds-find-end
 slice_bounds-find-end c =
@@ -36,7 +36,7 @@ slice_bounds-find-end c =
     let own = instr_of a.place g.result.size (to_word g.result.word) in
     let m : length (instr_text own) ≤ 86 = lines_fit a.place g.result.size (to_word g.result.word) (omega arith) in
     let p = c.put_lines-n in
-    sym (length-take-le p.result p.new.out (omega (arith, p.ensures.0, p.auto.out)))
+    sym (length-take-le p.result p.new.out (omega (arith, (rw g.ensures.stands at p.ensures.0), p.auto.out)))
 
 pub overflow_add-result : goal.overflow_add-result
 overflow_add-result c =
@@ -45,7 +45,7 @@ overflow_add-result c =
     let own = instr_of a.place g.result.size (to_word g.result.word) in
     let m : length (instr_text own) ≤ 86 = lines_fit a.place g.result.size (to_word g.result.word) (omega arith) in
     let p = c.put_lines-n in
-    omega (arith, p.ensures.0, c.requires, c.well_formed)
+    omega (arith, (rw g.ensures.stands at p.ensures.0), c.requires, c.well_formed)
 
 pub returns-in_err-ok : goal.returns-in_err-ok
 returns-in_err-ok c =
@@ -55,7 +55,7 @@ returns-in_err-ok c =
     let D = dictionary_of a.dictionary.now in
     let size = g.result.size in
     let w = to_word g.result.word in
-    let f = looked D a.text.now a.place a.from size w g.ensures.value p.new.out p.result _ c.ranges.place.fits p.ensures.0 p.ensures.1 c.find.ensures in
+    let f = looked D a.text.now a.place a.from size w g.ensures.value p.new.out p.result _ c.ranges.place.fits (rw g.ensures.stands at p.ensures.0) (rw g.ensures.stands at p.ensures.1) c.find.ensures in
     rw c.from_residual.ensures (instr_unread D a.text.now a.place a.from size w g.ensures.value _ c.in_err-ok.ensures.variant f)
 
 pub returns-then-not-is_taken : goal.returns-then-not-is_taken
@@ -66,7 +66,7 @@ returns-then-not-is_taken c =
     let D = dictionary_of a.dictionary.now in
     let size = g.result.size in
     let w = to_word g.result.word in
-    let f = looked D a.text.now a.place a.from size w g.ensures.value p.new.out p.result _ c.ranges.place.fits p.ensures.0 p.ensures.1 c.find.ensures in
+    let f = looked D a.text.now a.place a.from size w g.ensures.value p.new.out p.result _ c.ranges.place.fits (rw g.ensures.stands at p.ensures.0) (rw g.ensures.stands at p.ensures.1) c.find.ensures in
     instr_refused D a.text.now a.place a.from size w g.ensures.value (instr_whole D a.text.now a.place a.from size w g.ensures.value _ c.in_ok-ok.ensures.variant f) (sym (c.if-not-is_taken.ensures a.place))
 
 pub returns : goal.returns
@@ -77,5 +77,5 @@ returns c =
     let D = dictionary_of a.dictionary.now in
     let size = g.result.size in
     let w = to_word g.result.word in
-    let f = looked D a.text.now a.place a.from size w g.ensures.value p.new.out p.result _ c.ranges.place.fits p.ensures.0 p.ensures.1 c.find.ensures in
-    rw g.ensures.stands (instr_some D a.text.now a.place a.from size w g.ensures.value (instr_whole D a.text.now a.place a.from size w g.ensures.value _ c.in_ok-ok.ensures.variant f) (sym (c.if-not-is_taken.ensures a.place)), omega (arith, p.ensures.0))
+    let f = looked D a.text.now a.place a.from size w g.ensures.value p.new.out p.result _ c.ranges.place.fits (rw g.ensures.stands at p.ensures.0) (rw g.ensures.stands at p.ensures.1) c.find.ensures in
+    rw g.ensures.stands (instr_some D a.text.now a.place a.from size w g.ensures.value (instr_whole D a.text.now a.place a.from size w g.ensures.value _ c.in_ok-ok.ensures.variant f) (sym (c.if-not-is_taken.ensures a.place)), omega (arith, (rw g.ensures.stands at p.ensures.0)))
