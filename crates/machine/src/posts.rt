@@ -1,4 +1,5 @@
 // Channels by place: a mask of the awake ones, and for each place of the kernel a mask of those that wait there. Bit n of a mask is channel n's.
+// The two stand apart in each signature and are no struct: they are handed on in the loop of a run, where a struct would go through memory, as a region does (`operands::gather`).
 ghost use Rattle.std.specs.Prelude.{◌≡◌, cond, not, ◌<◌, eqb, length, get_or, set};
 ghost use Rattle.machine.specs.Together.{both_mask, either_mask, without_mask};
 

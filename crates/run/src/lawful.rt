@@ -25,7 +25,7 @@ const SMALL_NUMBERS: usize = 3 * SMALL;
 
 const NUMBERS: usize = 3 * PLACES;
 
-// A table of three numbers for each place is lent, and the masks by place are lent blank.
+// A table of three numbers for each place is lent, and the masks by place are lent blank. The two are handed on apart, as `machine::posts` has its masks, and for its reason.
 
 // One step: a run of one, for which the table has the row of its place. 20 at the end and 22 at a broken address, where nothing changes.
 fn step_over(
@@ -112,7 +112,7 @@ fn run_over(
     }
 }
 
-// A step or a run of a kernel that has, with its end, ROOM places at most, and NUMBERS in the table of them.
+// A step or a run of a kernel that has, with its end, ROOM places at most, and NUMBERS in the table of them, which stands beside ROOM since no length is computed from a const parameter.
 fn made_in<const ROOM: usize, const NUMBERS: usize>(
     call: Call,
     accepted: Accepted,
