@@ -57,8 +57,8 @@ later_small nop w = omega arith
 later_small (branch b) w = least_cond (not (branch_served b w)) 7 0 (omega arith) (omega arith)
 later_small unlisted w = omega arith
 
--- 6 to 11, or 0, of a whole word.
-refusal_small : (w : ℕ) → refusal_of w ≤ 11
+-- 6 to 11, or 0, of a whole word: no number of the judge's is past 11.
+pub refusal_small : (w : ℕ) → refusal_of w ≤ 11
 unfolding refusal_of
 refusal_small w = least_cond (reserved_set w) 6 (later (operation w) w) (omega arith) (later_small (operation w) w)
 

@@ -2,16 +2,16 @@
 use Rattle.std.specs.Prelude.{Bool, true, false, not, cond, ◌&&◌, ◌||◌, ◌≡◌, refl, ℕ, eqb, ltb, leb}
 use Rattle.std.proofs.Common.{true≢false, sym, ap, ap₂, ◌∙◌}
 use Rattle.paper.specs.Bits.{bit}
-use Rattle.paper.specs.Word.{Source, src0, src1, exec_size, dst_type, dst_subregister, dst_stride, src_field, src_type, src_subregister}
+use Rattle.paper.specs.Word.{Source, src0, src1, exec_size, saturate, dst_type, dst_subregister, dst_stride, src_field, src_type, src_subregister}
 use Rattle.paper.specs.Value.{type_f, type_vf}
 use Rattle.paper.specs.Word.{grf, src_file, src_addr_mode, is_null, dst_is_a0, src_is_a0, is_immediate, dst_by_address, src_by_address}
-use Rattle.paper.specs.Operation.{Plain, Operation, operation, is_mov, traits, sources}
+use Rattle.paper.specs.Operation.{Plain, Branch, Operation, plain, branch, operation, is_mov, traits, sources}
 use Rattle.paper.specs.Region.{src_is_vector, channels, src_region, dst_size, dst_origin, dst_element}
 use Rattle.paper.specs.Legal.{any_of, control_served, dst_served, src_served, uses_a0, moves_words, dst_is_float, src_is_float, uses_floats, floats_served, plain_served}
 use Rattle.paper.specs.Legal.{unequal_halves, bad_modifier, own_rule_broken, mixed, vector_too_short, operand_rule_broken}
 use Rattle.paper.specs.Legal.{some_operand, src_shape_broken, shape_broken, unaligned, alignment_broken}
 use Rattle.paper.specs.Legal.{bytes_in, too_far, region_too_far, last_channel, reach_broken}
-use Rattle.paper.specs.Legal.{reserved_set, later, refusal_of}
+use Rattle.paper.specs.Legal.{reserved_set, branch_served, or_else, later, refusal_of}
 use Rattle.laws.specs.Regions.{dst_region, destination_element}
 use Rattle.laws.specs.Sources.{reads_two, two_counted}
 use Rattle.words.specs.Usual.{Whole, Usual}
@@ -41,6 +41,11 @@ uses_floats_lem p w = ap (λ (b : Bool). dst_is_float w || b) (any_source_lem p 
 -- No operand is a float, or floats are served.
 abbrev pub floats_allowed : Plain → ℕ → Bool
 floats_allowed p w = not (uses_floats p w) || floats_served p w
+
+-- Where some operand is a float, the operation must be one of floats, and nothing may saturate.
+pub floats_allowed_lem : (p : Plain) (w : ℕ) → uses_floats p w ≡ true → floats_allowed p w ≡ ((traits p).floats && eqb (saturate w) 0)
+unfolding floats_served
+floats_allowed_lem p w e = rw e
 
 -- 7 of the operands of an operation, and of a0 and of floats among them.
 unfoldable pub operands_served : Plain → ℕ → Bool
@@ -204,6 +209,40 @@ asked_source unusual w x h =
     (eqb (src_file x w) grf || (src_is_a0 x w && eqb (src_addr_mode x w) 0)) h
 
 -- ---- the six in order, by which rule is the first that is broken
+
+-- 10 and 11, by which of them is the first.
+abbrev pub places_of : Plain → ℕ → ℕ
+places_of p w = or_else (alignment_broken p w) 10 (or_else (reach_broken p w) 11 0)
+
+module _ (p : Plain) (w : ℕ) where
+  -- What breaks 7 is refused for it.
+  pub later_field : plain_served p w ≡ false → later (plain p) w ≡ 7
+  unfolding later
+  later_field a = rw a
+
+  module _ (a : plain_served p w ≡ true) where
+    -- What breaks 8 and not 7 is refused for 8,
+    pub later_operand : operand_rule_broken p w ≡ true → later (plain p) w ≡ 8
+    unfolding later
+    later_operand b = rw (a, b)
+
+    module _ (b : operand_rule_broken p w ≡ false) where
+      -- what breaks 9 and none before it for 9,
+      pub later_shape : shape_broken p w ≡ true → later (plain p) w ≡ 9
+      unfolding later
+      later_shape d = rw (a, b, d)
+
+      module _ (d : shape_broken p w ≡ false) where
+        -- and what breaks none of these by 10 and 11.
+        pub later_places : later (plain p) w ≡ places_of p w
+        unfolding later
+        later_places = rw (a, b, d)
+
+-- A branch is refused for 7 or not at all.
+pub later-branch : (b : Branch) (w : ℕ) (t : Bool) → branch_served b w ≡ t → later (branch b) w ≡ cond t 0 7
+unfolding later
+later-branch b w true e = rw e
+later-branch b w false e = rw e
 
 pub refusal_reserved : (w : ℕ) → reserved_set w ≡ true → refusal_of w ≡ 6
 unfolding refusal_of

@@ -23,6 +23,7 @@ use Rattle.kernel.specs.Reading.{filled, instrs_from, stands_filled, stands_read
 use Rattle.kernel.specs.Marks.{Said, marked, Says, says_bad, says_refused, Accepts, says_accepted}
 use Rattle.kernel.specs.Jumps.{instr_of, first_out, astray_is, out_astray}
 use Rattle.laws.specs.Truth.{both_true}
+use Rattle.kernel.specs.Standing.{Standing}
 
 -- ---- 1
 
@@ -203,3 +204,12 @@ module _ (forms : Forms) (dictionary kernel : List ℕ) (k : List Instr) (h : Ac
       go : (o : Option Instr) → fetch k p ≡ o → Here forms (dictionary_of dictionary) kernel k p
       go none n = absurd (away (ap (λ (q : ℕ). 8 * q) (eqb-true p (end_of k) (rw n at e)) ∙ h.ends))
       go (some i) n = here_fetched i n
+
+-- ---- what is known of a kernel that is accepted, by some instructions that stand in it
+
+-- After a parse that accepts, some instructions stand in the whole of the bytes.
+pub parse_standing : (forms : Forms) (dictionary kernel marks : List ℕ) (r : Said) → Says (parse forms (dictionary_of dictionary) kernel) r marks
+    → (count : ℕ) → r ≡ Ok count → Standing (dictionary_of dictionary) kernel
+parse_standing forms dictionary kernel marks r s count e =
+    let a = says_accepted (parse forms (dictionary_of dictionary) kernel) r marks s count e in
+    record { forms = forms; instrs = a.instrs; stands = parse-stands forms dictionary kernel a.instrs a.judged }

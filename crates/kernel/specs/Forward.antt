@@ -13,6 +13,7 @@ use Rattle.kernel.specs.Reading.{filled, instrs_from, stands_filled, stands_read
 use Rattle.kernel.specs.Marks.{Said, Says, says_refused, Accepts, says_accepted}
 use Rattle.kernel.specs.Jumps.{land_by}
 use Rattle.kernel.specs.Accepting.{AcceptedKernel, accepted_kernel}
+use Rattle.kernel.specs.Standing.{Standing}
 
 -- Targets lie after p where they land by the test of what lies after p.
 pub after_lands : (p : ℕ) (zs : List ℤ) → land_by (ltb p) zs ≡ lie_after p zs
@@ -45,3 +46,7 @@ module _ (dictionary kernel marks : List ℕ) (judged : Said) (says : Says (acce
     forward_told b r tells e =
         let k = accepts.instrs in
         ap (λ (x : Bool). verdict 0 (digit x)) (sym e ∙ tells ∙ ap forward (stands_read (dictionary_of dictionary) kernel long_and_short k forward_kernel.stands)) ∙ sym (ap forward_as accepts.judged)
+
+    -- Some instructions stand in the whole of its bytes.
+    pub forward_standing : Standing (dictionary_of dictionary) kernel
+    forward_standing = record { forms = long_and_short; instrs = accepts.instrs; stands = forward_kernel.stands }

@@ -167,3 +167,9 @@ module _ (forms : Forms) (D : Dictionary) (kernel : List ℕ) where
             (omega (arith, s.0), h, ap (judge_at forms D kernel) (sym from_is) ∙ s.2)
         | there h ↦ stands-fetch (from + 8 * j.size) (omega arith) k s.3 p i (sym (fetch-there j k p h) ∙ e)
       ]
+
+-- Some instructions stand in the whole of the bytes.
+pub record Standing (D : Dictionary) (kernel : List ℕ) : Type 0 where
+  pub forms : Forms
+  pub instrs : List Instr
+  pub stands : Stands forms D kernel 0 instrs

@@ -87,6 +87,10 @@ module _ (w : ℕ) where
   unfolding word_taken
   taken_judged e l b h = rw (e, l) h
 
+-- A long instruction needs no short form.
+pub form_long : (o : Option ℕ) (size : ℕ) → (size ≡ 1 → ⊥) → true ≡ cond (eqb size 1) (present o) true
+form_long o size h = rw (ne_eqb size 1 h)
+
 pub form_short : (o p : Option ℕ) (size : ℕ) → size ≡ 1 → p ≡ o → present p ≡ cond (eqb size 1) (present o) true
 form_short o p size h e = rw (eq-eqb size 1 h, e)
 

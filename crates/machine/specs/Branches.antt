@@ -170,9 +170,14 @@ module _ (ways : Ways) (up : ℕ) (here : List ℕ) where
     unfolding act_by
     acts_break parks = parks (bit predicate) (λ n q. refl)
 
-    pub acts_cont : ParksBy predicate ways up here r after → ActsBy cont predicate ways up here r after
+    pub acts_cont_parked : ParksBy predicate ways up here r after → ActsBy cont predicate ways up here r after
     unfolding act_by
-    acts_cont parks = parks (bit predicate) (λ n q. refl)
+    acts_cont_parked parks = parks (bit predicate) (λ n q. refl)
+
+  -- cont acts as break does.
+  pub acts_cont : (predicate : ℕ) (r : Forked) (after : List ℕ) → ActsBy break predicate ways up here r after → ActsBy cont predicate ways up here r after
+  unfolding act_by
+  acts_cont predicate r after a = a
 
   -- None waits, and the kernel goes on.
   pub acts_endif : (predicate : ℕ) (r : Forked) → r.awake ≡ up

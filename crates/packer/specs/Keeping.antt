@@ -33,13 +33,15 @@ AllKept form k shorts = Kept form k shorts (length k)
 -- ---- a short word is not 0, so 0 can stand for none
 
 module _ (packs : Bool) (on : packs ≡ true) (D : Dictionary) (w : ℕ) where
-  form_short : (s : ℕ) → w < 2 ^ 128 → some s ≡ shorten D w → recalled s ≡ form_of packs D w
+  -- A short form is kept as its word,
+  pub form_short : (s : ℕ) → w < 2 ^ 128 → some s ≡ shorten D w → recalled s ≡ form_of packs D w
   form_short s h e =
       let marked : is_short s ≡ true = (shorten-some D w s h (sym e)).is.marked in
       let some_bit : s ≡ 0 → ⊥ = λ z. (let clear : ◌≡◌ {A = ℕ} 0 1 = ap digit (sym (ap is_short z) ∙ marked) in omega arith) in
       rw on (recalled-some s some_bit ∙ e)
 
-  form_none : none ≡ shorten D w → recalled 0 ≡ form_of packs D w
+  -- and none as 0.
+  pub form_none : none ≡ shorten D w → recalled 0 ≡ form_of packs D w
   form_none e = rw on e
 
   -- What the code answers, or 0 in its place.

@@ -46,10 +46,12 @@ module _ (bytes : List ℕ) (at size : ℕ) (t : Bool) (test : t ≡ room bytes 
   unfolding number_in
   read_none e = rw (sym test ∙ e)
 
-  pub put_there : t ≡ true → (v : ℕ) (after : List ℕ) → after ≡ put_at bytes at size v → after ≡ put_in bytes at size v
+  -- It is put where there is room,
+  pub put_there : t ≡ true → (v : ℕ) (after : List ℕ) → after ≡ put_at bytes at size v → (after ≡ put_in bytes at size v) × (true ≡ room bytes at size)
   unfolding put_in
-  put_there e v after h = rw (sym test ∙ e) h
+  put_there e v after h = (rw (sym test ∙ e) h, sym e ∙ test)
 
-  pub put_none : t ≡ false → (v : ℕ) → bytes ≡ put_in bytes at size v
+  -- and nothing changes where there is none.
+  pub put_none : t ≡ false → (v : ℕ) → (bytes ≡ put_in bytes at size v) × (false ≡ room bytes at size)
   unfolding put_in
-  put_none e v = rw (sym test ∙ e)
+  put_none e v = (rw (sym test ∙ e), sym e ∙ test)

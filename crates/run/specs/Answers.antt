@@ -1,11 +1,11 @@
 -- The calls' cases in the code's order. Assumes nothing.
-use Rattle.std.specs.Prelude.{Bool, true, false, cond, ◌⊎◌, ◌≡◌, ℕ, ◌*◌, ◌/◌, ◌<◌, ◌≤◌, eqb, length}
+use Rattle.std.specs.Prelude.{Bool, true, false, cond, ◌&&◌, ◌⊎◌, ◌≡◌, ℕ, ◌*◌, ◌/◌, ◌<◌, ◌≤◌, eqb, length}
 use Rattle.std.proofs.Common.{inl, inr, sym, ◌∙◌, subst, arith, length-drop}
 use mathlib.Core.List.{List, ◌++◌}
 use Rattle.std.proofs.Math.Option.{Option, none, some}
 use Rattle.std.proofs.Math.Path.{refl, ap}
 use Rattle.std.proofs.Math.ListN.{take, take-append-drop}
-use borrow.Author.Tests.{eq-eqb, ne_eqb, lt-ltb, le-ltb}
+use borrow.Author.Tests.{eqb-true, eq-eqb, ne_eqb, lt-ltb, le-ltb}
 use Rattle.paper.specs.Limits.{address_bytes, register_bytes, state_length, budget_limit}
 use Rattle.paper.specs.Kernel.{Instr, long_and_short, good}
 use Rattle.paper.specs.Jump.{lands}
@@ -60,6 +60,13 @@ pub record Sizes (dictionary kernel registers bytes : List ℕ) : Type 0 where
   pub state-is : length bytes ≡ state_length
 
 module _ (dictionary kernel registers bytes : List ℕ) where
+  -- What the paper's test of all the sizes tells.
+  pub sizes_of : all_sized dictionary kernel registers bytes ≡ true → Sizes dictionary kernel registers bytes
+  sizes_of e =
+      let p = both_true (sized dictionary kernel) (eqb (length registers) register_bytes && eqb (length bytes) state_length) e in
+      let q = both_true (eqb (length registers) register_bytes) (eqb (length bytes) state_length) p.1 in
+      record { all = e; right = p.0; registers-are = eqb-true _ _ q.0; state-is = eqb-true _ _ q.1 }
+
   pub sizes_right : sized dictionary kernel ≡ true → length registers ≡ register_bytes → length bytes ≡ state_length → Sizes dictionary kernel registers bytes
   sizes_right h e f = record { all = rw (h, eq-eqb _ _ e, eq-eqb _ _ f); right = h; registers-are = e; state-is = f }
 
@@ -172,11 +179,12 @@ module _ (dictionary kernel registers bytes : List ℕ) (sizes : Sizes dictionar
           → on_state registers bytes go (judged_kernel long_and_short dictionary kernel) ≡ unchanged (answer_is (Err f)) registers bytes
       barred = subst (λ (o : Result (Unit {0}) Refused). Admits dictionary kernel registers bytes marks o) e admits
 
-      step_barred : Left (step_call dictionary kernel registers bytes) (Err f) registers bytes
+      -- A step of what is refused, and a run of it, answer that refusal and change nothing.
+      pub step_barred : Left (step_call dictionary kernel registers bytes) (Err f) registers bytes
       unfolding step_call
       step_barred = rw (sizes.all, barred (λ k s. stepped_as (stops k s) registers bytes s (step k s))) (refl, refl, refl)
 
-      run_barred : (budget : ℕ) → budget ≤ budget_limit → Left (run_call dictionary kernel budget registers bytes) (Err f) registers bytes
+      pub run_barred : (budget : ℕ) → budget ≤ budget_limit → Left (run_call dictionary kernel budget registers bytes) (Err f) registers bytes
       unfolding run_call
       run_barred budget h = rw (sizes.all, le-ltb _ _ h, barred (λ k s. ran_as (run k budget s))) (refl, refl, refl)
 

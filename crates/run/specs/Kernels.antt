@@ -6,7 +6,7 @@ use Rattle.std.proofs.Math.Option.{Option, none, some, none-ne-some, some-inject
 use Rattle.std.proofs.Math.Path.{refl}
 use Rattle.paper.specs.Dictionary.{dictionary_of}
 use Rattle.paper.specs.Kernel.{Instr, long_and_short}
-use Rattle.paper.specs.Jump.{fetch, lands}
+use Rattle.paper.specs.Jump.{fetch, end_of, lands}
 use Rattle.paper.specs.Machine.{ways_of}
 use Rattle.paper.specs.Calls.{accepted}
 use Rattle.kernel.specs.Marks.{instrs_of, marked}
@@ -36,6 +36,14 @@ pub record IsAccepted (dictionary kernel marks : List ℕ) : Type 0 where
 module _ (dictionary kernel : List ℕ) (a : Takes dictionary kernel) where
   abbrev k : List Instr
   k = instructions dictionary kernel
+
+  -- The end is where its bytes end.
+  pub end_is : (p : ℕ) → 8 * p ≡ length kernel → p ≡ end_of k
+  end_is p e = omega (arith, a.ends)
+
+  -- Another place is not.
+  pub end_not : (p : ℕ) → (8 * p ≡ length kernel → ⊥) → p ≡ end_of k → ⊥
+  end_not p away e = away (omega (arith, a.ends))
 
   -- Where an instruction starts, its bytes stand.
   fetched_here : (p : ℕ) (i : Instr) → fetch k p ≡ some i → Here long_and_short (dictionary_of dictionary) kernel k p

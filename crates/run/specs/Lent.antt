@@ -1,13 +1,13 @@
 -- a0's bytes are the last of a state's: how they are lent to a run, and how they come back. Assumes nothing.
 use Rattle.std.specs.Prelude.{List, ◌++◌, ◌≡◌, ℕ, ◌≤◌, length, take, drop}
-use Rattle.std.proofs.Common.{append-nil, sym, ap, ◌∙◌, subst, arith, length-drop, drop_of_length-le, take_all, drop_at, length-take-le}
+use Rattle.std.proofs.Common.{append-nil, sym, ap, ◌∙◌, subst, arith, length-append, length-drop, drop_of_length-le, take_all, drop_at, length-take-le}
 use Rattle.paper.specs.Kernel.{Instr}
 use Rattle.paper.specs.Limits.{state_length}
 use Rattle.paper.specs.Machine.{State}
 use Rattle.paper.specs.State.{addresses_in}
 use Rattle.machine.specs.declared.step.Stand.{Stand}
 use Rattle.machine.specs.Steps.{Shows}
-use Rattle.run.specs.Running.{Running}
+use Rattle.run.specs.Running.{Running, running_addresses}
 
 -- The part of a state from place 42 on,
 abbrev pub lent_in : List ℕ → List ℕ
@@ -34,8 +34,16 @@ module _ (bytes : List ℕ) (whole : length bytes ≡ state_length) where
     pub lent : Running k registers (addresses_in bytes) here s t → Running k registers (lent_in bytes) here s t
     lent = subst (λ (l : List ℕ). Running k registers l here s t) (sym lent_all)
 
-    -- What comes back is a state's bytes, and a0's are its last.
-    pub back_shows : (addresses : List ℕ) → Running k registers addresses here s t → Shows registers (addresses_in (back_in bytes addresses)) here s t
-    back_shows addresses r =
-        let front : length (take 42 bytes) ≡ 42 = length-take-le 42 bytes (omega (arith, whole)) in
-        subst (λ (l : List ℕ). Shows registers l here s t) (sym (ap (drop 42) (back_is addresses) ∙ drop_at (take 42 bytes) addresses 42 front)) r.shows
+    module _ (addresses : List ℕ) (r : Running k registers addresses here s t) where
+      front : length (take 42 bytes) ≡ 42
+      front = length-take-le 42 bytes (omega (arith, whole))
+
+      -- What comes back is a state's bytes, and a0's are its last.
+      pub back_length : length (back_in bytes addresses) ≡ state_length
+      back_length =
+          let n = length-append (take 42 bytes) addresses in
+          ap length (back_is addresses) ∙ omega (arith, n, front, running_addresses k registers addresses here s t r)
+
+      pub back_shows : Shows registers (addresses_in (back_in bytes addresses)) here s t
+      back_shows =
+          subst (λ (l : List ℕ). Shows registers l here s t) (sym (ap (drop 42) (back_is addresses) ∙ drop_at (take 42 bytes) addresses 42 front)) r.shows

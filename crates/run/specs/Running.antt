@@ -1,5 +1,5 @@
 -- A run in the midst of a kernel's instructions: what each step needs, what it makes, and that it leaves such a run. Assumes nothing.
-use Rattle.std.specs.Prelude.{Bool, true, false, cond, List, [], ◌∷◌, map, ◌⊎◌, ◌≡◌, refl, ℕ, ◌<◌, ◌≤◌, ℤ, length}
+use Rattle.std.specs.Prelude.{Bool, true, false, cond, List, [], ◌∷◌, map, ◌⊎◌, ◌≡◌, refl, ℕ, ◌<◌, ◌≤◌, ℤ, length, get_or}
 use Rattle.std.proofs.Common.{inl, inr, ◌∙◌, subst, arith, eqb-true}
 use Rattle.std.proofs.Math.Option.{Option, none, some}
 use Rattle.std.proofs.Math.Path.{sym, ap}
@@ -93,6 +93,15 @@ module _ (k : List Instr) (registers addresses here : List ℕ) (s : Stand) (t :
 
   pub running_addresses : length addresses ≡ address_bytes
   running_addresses = ap length (sym running_a0) ∙ r.lasts.holding.store.addresses
+
+  -- Its flags, and the masks of its channels, are of 16 bits.
+  pub running_sound : (s.flags.flag0 < 65536) × (s.flags.flag1 < 65536) × (s.awake < 65536) × ((p : ℕ) → get_or here p 0 < 65536)
+  running_sound = (
+    rw (ap (λ (st : Store). st.flag0) r.shows.store) r.lasts.holding.store.flag0,
+    rw (ap (λ (st : Store). st.flag1) r.shows.store) r.lasts.holding.store.flag1,
+    r.shows.posted.fits,
+    r.shows.posted.small,
+  )
 
   -- The place is one of the kernel's.
   pub running_lands : lands k s.place ≡ true

@@ -1,14 +1,19 @@
 -- What the calls answer, by the buffer's size, the entry, and what was read. Assumes nothing.
 use Rattle.std.specs.Prelude.{◌≡◌, refl, Bool, true, false, ◌&&◌, List, [], ℕ, ◌/◌, ◌%◌, ◌^◌, ◌≤◌, ◌<◌, leb, length, take}
-use Rattle.std.proofs.Common.{sym, arith, length-take, length-take-le}
+use Rattle.std.proofs.Common.{sym, subst, arith, length-take, length-take-le}
 use borrow.Author.Tests.{leb-true, ltb-true, eq-eqb, ne_eqb}
 use Rattle.paper.specs.Bits.{bit}
 use Rattle.paper.specs.Limits.{state_length}
 use Rattle.paper.specs.Enable.{how_many}
 use Rattle.paper.specs.State.{half}
 use Rattle.paper.specs.Calls.{Answer, refusal, Written}
-use Rattle.paper.specs.Log.{Entry, entry_legal, Reading, unreadable, reading, log_sized, bytes_read, runs_read, log_read_call, log_runs_call, part_read, log_part, appended_to, appended, log_append_call, awake_count, entry_of, log_run_call}
+use Rattle.paper.specs.Log.{Entry, entry_legal, Reading, readable, unreadable, reading, log_sized, bytes_read, runs_read, log_read_call, log_runs_call, part_read, log_part, appended_to, appended, log_append_call, awake_count, entry_of, log_run_call}
 use Rattle.laws.specs.Truth.{both_true}
+use Rattle.run_log.specs.Meaning.{Within}
+
+-- What was read lies within.
+pub within_bytes : (n m runs bytes : ℕ) (q : Reading) → q ≡ readable runs bytes → Within n q → n ≤ m → bytes ≤ m
+within_bytes n m runs bytes q e w h = let k = subst (Within n) e w in omega (arith, k.1)
 
 -- The answer is a, and the buffer then holds l.
 abbrev Gives : Written → Answer → List ℕ → Type 0

@@ -13,6 +13,11 @@ table_fits D base most zero = true
 table_fits D base most (suc n) = table_fits D base most n && ltb (D (base + n)) most
 
 -- One number more.
+pub fits_more : (D : Dictionary) (base most n : ℕ) → (table_fits D base most n && ltb (D (base + n)) most) ≡ table_fits D base most (n + 1)
+unfolding table_fits
+fits_more D base most n = rw (add-one n)
+
+-- One more of any test.
 all_more : (f : ℕ → Bool) (n : ℕ) → list_all f (range_with_len 0 (n + 1)) ≡ (list_all f (range_with_len 0 n) && f n)
 all_more f n =
     sym (list_all-map (λ x. x) f (range_with_len 0 (n + 1)))

@@ -161,7 +161,8 @@ mark-length : (l : List ℕ) (a one : ℕ) → length (mark l a one) ≡ length 
 unfolding mark
 mark-length l a one = length-set l a _
 
-joined_length : (l : List ℕ) (x one : ℕ) → length (joined l x one) ≡ length l
+-- Joining sets makes them no more.
+pub joined_length : (l : List ℕ) (x one : ℕ) → length (joined l x one) ≡ length l
 unfolding joined
 joined_length l x one = mark-length _ _ _ ∙ mark-length _ _ _ ∙ mark-length _ _ _
 

@@ -2,7 +2,7 @@
 use mathlib.Core.Path.{refl}
 use mathlib.Core.Logic.{inl, inr}
 use native.Mathlib.Omega.{arith}
-use Rattle.machine.specs.Branches.{ways_is, acts_jmpi, acts_if, acts_else, acts_endif, acts_break, acts_cont}
+use Rattle.machine.specs.Branches.{ways_is, acts_jmpi, acts_if, acts_else, acts_endif, acts_break, acts_cont_parked}
 use Rattle.machine.proofs.branch.act.Goals as goal
 
 pub returns-in-Jmpi : goal.returns-in-Jmpi
@@ -27,5 +27,5 @@ returns-in-Break c =
     let e = c.park-in-Break.ensures in
     elim c.in-Break.is [
       | inl b ↦ rw b (acts_break (ways_is c.args.ways) c.args.up c.args.here.now c.args.predicate _ _ e.0, e.1)
-      | inr b ↦ rw b (acts_cont (ways_is c.args.ways) c.args.up c.args.here.now c.args.predicate _ _ e.0, e.1)
+      | inr b ↦ rw b (acts_cont_parked (ways_is c.args.ways) c.args.up c.args.here.now c.args.predicate _ _ e.0, e.1)
     ]
