@@ -30,6 +30,7 @@ fn put_word(dictionary: &[u8; DICTIONARY_BYTES], out: &mut [u8], at: usize, size
 }
 
 // The kernel's bytes, in the output's first.
+// (The loop goes on by the length of an instruction's lines; `jumps::first_astray` says why it is no `for`.)
 pub(crate) fn write_kernel(dictionary: &[u8; DICTIONARY_BYTES], text: &[u8], out: &mut [u8])
     requires can_read { CanRead dictionary.now text.now }
     requires text_in_bounds { length (kernel_of (dictionary_of dictionary.now) (lines_in dictionary.now text.now)) ≤ length out.old }
