@@ -2,12 +2,10 @@
 use mathlib.Core.Bool.{Bool, true, false, not, cond, ◌||◌, or-true}
 use mathlib.Core.Path.{◌≡◌, refl, sym, ap, ◌∙◌, subst}
 use mathlib.Core.List.{List, []}
-use Prim.Native.Nat.{ℕ, ◌*◌, ◌<◌}
+use Prim.Native.Nat.{ℕ, ◌*◌}
 use native.Mathlib.Omega.{arith}
 use lib.Dec.{eqb}
-use lib.ListN.{length, replicate}
 use Rattle.paper.specs.Bits.{bit}
-use Rattle.paper.specs.Limits.{register_bytes, address_bytes}
 use Rattle.paper.specs.Word.{src0, we_ctrl, qtr_ctrl, flag_choice, is_null, dst_is_a0, src_is_a0}
 use Rattle.paper.specs.Operation.{Plain}
 use Rattle.paper.specs.Region.{channels}
@@ -17,7 +15,6 @@ use Rattle.paper.specs.Operation.{traits}
 use Rattle.paper.specs.Effect.{file_in, written_to, registers_after, compared_flag, plain_effect}
 use Rattle.paper.specs.Legal.{uses_a0}
 use Rattle.laws.specs.Sources.{first_source}
-use Rattle.laws.specs.Lasting.{Fit, plain_fits}
 use Rattle.laws.specs.Scatter.{addresses_kept}
 use Rattle.lanes.specs.Masks.{enable_mask, quarter_mask, raised_mask, awake_list}
 use Rattle.lanes.specs.MaskLaws.{predicate_of, enable_of}
@@ -86,7 +83,7 @@ module _ (p : Plain) (w awake : ℕ) (registers : List ℕ) (f : Flags) (address
     flag_made_lem : flag_made p w (chosen_flag w before) enable results ≡ cond (traits p).compares (compared_flag w (awake_list awake) before) (chosen_flag w before)
     flag_made_lem = rw enabled (flag_effect p w awake before results acting resulting)
 
-    -- Flags that are so made are the paper's,
+    -- Flags that are so made are the paper's.
     pub flag0_made : r.flag0 ≡ (plain_effect p w (awake_list awake) before).flag0
     unfolding plain_effect
     flag0_made = e.flag0 ∙ ap (λ (flag : ℕ). cond (eqb (flag_choice w) 0) flag f.flag0) flag_made_lem
@@ -94,13 +91,6 @@ module _ (p : Plain) (w awake : ℕ) (registers : List ℕ) (f : Flags) (address
     pub flag1_made : r.flag1 ≡ (plain_effect p w (awake_list awake) before).flag1
     unfolding plain_effect
     flag1_made = e.flag1 ∙ ap (λ (flag : ℕ). cond (eqb (flag_choice w) 0) f.flag1 flag) flag_made_lem
-
-    -- and have 16 bits if those before had.
-    pub flags_less : length registers ≡ register_bytes → length addresses ≡ address_bytes → f.flag0 < 65536 → f.flag1 < 65536 → (r.flag0 < 65536) × (r.flag1 < 65536)
-    flags_less bytes sixteen h k =
-        let fit : Fit register_bytes (plain_effect p w (awake_list awake) before) =
-        plain_fits p w register_bytes (awake_list awake) before (record { bytes = bytes; flag0 = h; flag1 = k; addresses = sixteen }) in
-        (rw flag0_made fit.flag0, rw flag1_made fit.flag1)
 
 -- Where no operand is a0, registers alone are read and written, whatever a0 holds.
 module _ (p : Plain) (w awake : ℕ) (registers : List ℕ) (f : Flags) (quarter predicate enable holding working : ℕ) (results : List ℕ)
@@ -124,11 +114,6 @@ module _ (p : Plain) (w awake : ℕ) (registers : List ℕ) (f : Flags) (quarter
       flag0_made p w awake registers f addresses quarter predicate enable holding working results acting (read_registers addresses) r e,
       flag1_made p w awake registers f addresses quarter predicate enable holding working results acting (read_registers addresses) r e,
     )
-
-    pub direct_less : length registers ≡ register_bytes → f.flag0 < 65536 → f.flag1 < 65536 → (r.flag0 < 65536) × (r.flag1 < 65536)
-    direct_less bytes h k =
-        let zeros : List ℕ = replicate address_bytes 0 in
-        flags_less p w awake registers f zeros quarter predicate enable holding working results acting (read_registers zeros) r e bytes refl h k
 
 -- Where the destination is not a0, a0 stays, and where it is, the registers do.
 pub addresses_still : (p : Plain) (w : ℕ) (awake : List Bool) (st : Store) → dst_is_a0 w ≡ false → st.addresses ≡ (plain_effect p w awake st).addresses

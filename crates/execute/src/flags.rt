@@ -12,15 +12,15 @@ use words::fields::flag_choice;
 pub fn chosen(w: Word, f: Flags) -> u64
     ensures { result ≡ chosen_flag (to_word w) (store_of [] f []) }
 {
-    if flag_choice(w) == 0 {
+    u64::from(if flag_choice(w) == 0 {
         f.flag0
     } else {
         f.flag1
-    }
+    })
 }
 
-// The flags with another number in the one that a word chooses.
-pub fn with_chosen(w: Word, f: Flags, flag: u64) -> Flags
+// The flags with another in place of the one that a word chooses.
+pub fn with_chosen(w: Word, f: Flags, flag: u16) -> Flags
     ensures { FlagsOf result (to_word w) (store_of [] f []) flag }
 {
     if flag_choice(w) == 0 {

@@ -150,13 +150,11 @@ pub fn reckon(
     flags: Flags,
     registers: &mut [u8; REGISTER_BYTES],
 ) -> Flags
-    requires reckoning { Reckoning (plain_is p) (to_word w) }
-    requires awake_bound { (awake < 65536) × (flags.flag0 < 65536) × (flags.flag1 < 65536) }
+    requires { Reckoning (plain_is p) (to_word w) }
     ensures by_index { (addresses : List ℕ) → (registers.new ≡ (plain_effect (plain_is p) (to_word w) (awake_list awake) (store_of registers.old flags addresses)).registers)
         × (addresses ≡ (plain_effect (plain_is p) (to_word w) (awake_list awake) (store_of registers.old flags addresses)).addresses) }
     ensures by_index_2 { (addresses : List ℕ) → (result.flag0 ≡ (plain_effect (plain_is p) (to_word w) (awake_list awake) (store_of registers.old flags addresses)).flag0)
         × (result.flag1 ≡ (plain_effect (plain_is p) (to_word w) (awake_list awake) (store_of registers.old flags addresses)).flag1) }
-    ensures flag0_bound { (result.flag0 < 65536) × (result.flag1 < 65536) }
 {
     let quarter = qtr_ctrl(w);
     let predicate = predicate_of(w, flags);

@@ -75,12 +75,10 @@ pub(crate) fn execute_one(
     flags: Flags,
     registers: &mut [u8; REGISTER_BYTES],
 ) -> Flags
-    requires counting { Counting (plain_is p) (to_word w) × (uses_a0 (plain_is p) (to_word w) ≡ false) × (channels (to_word w) ≡ 1) }
-    requires awake_bound { (awake < 65536) × (flags.flag0 < 65536) × (flags.flag1 < 65536) }
+    requires { Counting (plain_is p) (to_word w) × (uses_a0 (plain_is p) (to_word w) ≡ false) × (channels (to_word w) ≡ 1) }
     ensures by_index { (addresses : List ℕ) → registers.new ≡ (plain_effect (plain_is p) (to_word w) (awake_list awake) (store_of registers.old flags addresses)).registers }
     ensures by_index_2 { (addresses : List ℕ) → (result.flag0 ≡ (plain_effect (plain_is p) (to_word w) (awake_list awake) (store_of registers.old flags addresses)).flag0)
         × (result.flag1 ≡ (plain_effect (plain_is p) (to_word w) (awake_list awake) (store_of registers.old flags addresses)).flag1) }
-    ensures flag0_bound { (result.flag0 < 65536) × (result.flag1 < 65536) }
 {
     let quarter = qtr_ctrl(w);
     let predicate = predicate_of(w, flags);

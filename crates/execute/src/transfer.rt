@@ -79,7 +79,7 @@ pub fn transfer(
     registers: &mut [u8; REGISTER_BYTES],
     addresses: &mut [u8],
 )
-    requires { Counting mov (to_word w) × (length addresses.old ≡ address_bytes) × (awake < 65536) }
+    requires { Counting mov (to_word w) × (length addresses.old ≡ address_bytes) }
     ensures registers_after { (registers.new ≡ (plain_effect mov (to_word w) (awake_list awake) (store_of registers.old flags addresses.old)).registers)
         × (addresses.new ≡ (plain_effect mov (to_word w) (awake_list awake) (store_of registers.old flags addresses.old)).addresses) }
     ensures flag0_value { (flags.flag0 ≡ (plain_effect mov (to_word w) (awake_list awake) (store_of registers.old flags addresses.old)).flag0)

@@ -1,40 +1,24 @@
 -- Jumps that go forward, as the code finds it. Assumes nothing.
-use Rattle.std.specs.Prelude.{Ok, Err, Bool, true, ◌&&◌, List, [], ◌∷◌, ◌≡◌, refl, ℕ, ◌+◌, ltb, ℤ, pos, negsuc}
+use Rattle.std.specs.Prelude.{Ok, Err, Bool, true, ◌&&◌, List, [], ◌∷◌, ◌≡◌, refl, ℕ, ltb, ℤ, pos, negsuc}
 use Rattle.std.proofs.Math.Path.{sym, ap}
 use Rattle.std.proofs.Common.{◌∙◌}
 use Rattle.paper.specs.Dictionary.{dictionary_of}
 use Rattle.paper.specs.Enable.{digit}
 use Rattle.paper.specs.Kernel.{long_and_short}
-use Rattle.paper.specs.Operation.{operation}
-use Rattle.paper.specs.Jump.{Distance, distances, reach, targets_of}
 use Rattle.paper.specs.Forward.{lie_after, forward}
-use Rattle.paper.specs.Calls.{verdict, refusal, accepted, forward_as, forward_call}
+use Rattle.paper.specs.Calls.{verdict, accepted, forward_as, forward_call}
 use Rattle.words.specs.declared.answer.Refused.{Refused}
 use Rattle.words.specs.Answer.{answer_is}
 use Rattle.kernel.specs.Reading.{filled, instrs_from, stands_filled, stands_read}
 use Rattle.kernel.specs.Marks.{Said, Says, says_refused, Accepts, says_accepted}
-use Rattle.kernel.specs.Jumps.{lands_at, land_by, instr_of, none-lands, one_lands, two_land}
+use Rattle.kernel.specs.Jumps.{land_by}
 use Rattle.kernel.specs.Accepting.{AcceptedKernel, accepted_kernel}
 
 -- Targets lie after p where they land by the test of what lies after p.
-after_lands : (p : ℕ) (zs : List ℤ) → land_by (ltb p) zs ≡ lie_after p zs
+pub after_lands : (p : ℕ) (zs : List ℤ) → land_by (ltb p) zs ≡ lie_after p zs
 after_lands p [] = refl
 after_lands p (pos q ∷ zs) = ap (λ (b : Bool). ltb p q && b) (after_lands p zs)
 after_lands p (negsuc q ∷ zs) = refl
-
-module _ (here size w : ℕ) where
-  -- A word without a distance goes forward.
-  pub none_forward : distances (operation w) ≡ [] → true ≡ lie_after here (targets_of (instr_of here size w))
-  none_forward e = none-lands (ltb here) here size w e ∙ after_lands here (targets_of (instr_of here size w))
-
-  -- One with one distance does where that leads after it,
-  pub one_forward : (f : Distance) → distances (operation w) ≡ f ∷ [] → lands_at (ltb here) (reach f w here (here + size)) ≡ lie_after here (targets_of (instr_of here size w))
-  one_forward f e = one_lands (ltb here) here size w f e ∙ after_lands here (targets_of (instr_of here size w))
-
-  -- and one with two where both do.
-  pub two_forward : (f g : Distance) → distances (operation w) ≡ f ∷ g ∷ []
-      → (lands_at (ltb here) (reach f w here (here + size)) && lands_at (ltb here) (reach g w here (here + size))) ≡ lie_after here (targets_of (instr_of here size w))
-  two_forward f g e = two_land (ltb here) here size w f g e ∙ after_lands here (targets_of (instr_of here size w))
 
 module _ (dictionary kernel marks : List ℕ) (judged : Said) (says : Says (accepted long_and_short dictionary kernel) judged marks) where
   -- What check refuses is refused so.

@@ -1,16 +1,18 @@
 -- What the code's judgement of one instruction is in the paper's terms, and the judgement's cases. Assumes nothing.
-use Rattle.std.specs.Prelude.{Result, Ok, Err, Bool, true, false, List, ◌≡◌, ℕ, ◌-◌, ◌<◌, ◌≤◌, length}
+use Rattle.std.specs.Prelude.{Result, Ok, Err, true, false, List, ◌≡◌, ℕ, ◌-◌, ◌<◌, ◌≤◌, length}
 use borrow.Author.Tests.{lt-ltb, le-ltb}
 use Rattle.paper.specs.Bits.{number_at}
 use Rattle.paper.specs.Dictionary.{Dictionary}
 use Rattle.paper.specs.Expand.{is_short, expand}
 use Rattle.paper.specs.Operation.{operation, is_listed, is_branch}
-use Rattle.paper.specs.Kernel.{Forms, long_and_short, long_only, takes_short, refused, passed, judge_word, judge_short, judge_long, judge_at}
+use Rattle.paper.specs.Kernel.{long_and_short, long_only, takes_short, refused, passed, judge_word, judge_short, judge_long, judge_at}
 use Rattle.paper.specs.Kernel as paper
 use Rattle.words.specs.Words.{to_word}
 use Rattle.words.specs.declared.refusal.Refusal.{Refusal}
 use Rattle.words.specs.Refusals.{number}
 use Rattle.kernel.specs.declared.fetch.Fetched.{Fetched}
+use Rattle.kernel.specs.declared.forms.Forms.{Forms}
+use Rattle.kernel.specs.declared.forms.Forms.TheVariants.{LongOnly, LongAndShort}
 
 -- An instruction as it is fetched, or why it is refused.
 abbrev pub judged_is : Result Fetched Refusal → paper.Judged
@@ -18,13 +20,13 @@ judged_is (Err r) = refused (number r)
 judged_is (Ok f) = passed f.size (to_word f.word)
 
 -- Which words are taken: long ones only, or both.
-abbrev pub forms_is : Bool → Forms
-forms_is true = long_only
-forms_is false = long_and_short
+abbrev pub forms_is : Forms → paper.Forms
+forms_is LongOnly = long_only
+forms_is LongAndShort = long_and_short
 
 -- ---- the judgement, case by case
 
-module _ (forms : Forms) (D : Dictionary) (s : ℕ) where
+module _ (forms : paper.Forms) (D : Dictionary) (s : ℕ) where
   pub short_unlisted : is_listed (operation s) ≡ false → judge_short forms D s ≡ refused 4
   unfolding judge_short
   short_unlisted h = rw h
@@ -51,7 +53,7 @@ pub long_listed : (w : ℕ) → is_listed (operation w) ≡ true → judge_long 
 unfolding judge_long
 long_listed w h = rw h
 
-module _ (forms : Forms) (D : Dictionary) (kernel : List ℕ) (from : ℕ) where
+module _ (forms : paper.Forms) (D : Dictionary) (kernel : List ℕ) (from : ℕ) where
   pub at_none : length kernel - from < 8 → judge_at forms D kernel from ≡ refused 3
   unfolding judge_at
   at_none h = rw (lt-ltb _ _ h)

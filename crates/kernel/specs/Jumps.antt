@@ -1,36 +1,24 @@
 -- Rule 12 against a test of places, where the paper tests the instructions themselves. Assumes nothing.
 use Rattle.std.specs.Prelude as std
-use Rattle.std.specs.Prelude.{Bool, true, false, cond, ◌&&◌, List, [], ◌∷◌, ◌≡◌, refl, ℕ, ◌+◌, ◌*◌, ℤ, pos, negsuc}
-use Rattle.std.proofs.Math.Bool.{and-true}
+use Rattle.std.specs.Prelude.{Bool, true, false, cond, ◌&&◌, List, [], ◌∷◌, ◌≡◌, refl, ℕ, ◌+◌, ◌*◌, ◌^◌, ◌<◌, ℤ, pos, negsuc}
 use Rattle.std.proofs.Math.Option.{Option, none, some}
-use Rattle.std.proofs.Common.{sym, ap, ap₂, ◌∙◌}
+use Rattle.std.proofs.Common.{ap₂}
 use Rattle.paper.specs.Kernel.{Instr}
-use Rattle.paper.specs.Operation.{operation}
-use Rattle.paper.specs.Jump.{Distance, distances, reach, reached, targets_of, lands, jump_lands, targets_land, first_astray}
+use Rattle.paper.specs.Jump.{targets_of, lands, jump_lands, targets_land, first_astray}
 use Rattle.distances.specs.Reach.{said_of}
-use Rattle.distances.specs.Distances.{told}
 
 -- A place of which the test `land` holds; none lies below 0.
 abbrev pub lands_at : (ℕ → Bool) → ℤ → Bool
 lands_at land = said_of land false
 
--- The same of a target as the code tells it.
-abbrev pub lands_in : (ℕ → Bool) → std.Option ℕ → Bool
-lands_in land (std.Some p) = land p
-lands_in land std.None = false
-
-pub lands-told : (land : ℕ → Bool) (z : ℤ) → lands_in land (told z) ≡ lands_at land z
-lands-told land (pos p) = refl
-lands-told land (negsuc p) = refl
-
--- It is the same of a whole number that the code tells.
-pub lands_at_lem : (land : ℕ → Bool) (z : ℤ) (t : std.Option ℕ) → t ≡ told z → lands_in land t ≡ lands_at land z
-lands_at_lem land z t e = ap (lands_in land) e ∙ lands-told land z
-
 -- Each target lands there.
 abbrev pub land_by : (ℕ → Bool) → List ℤ → Bool
 land_by land [] = true
 land_by land (z ∷ zs) = lands_at land z && land_by land zs
+
+-- What a test can answer of a place is what `land` says of it.
+abbrev pub Tells : (ℕ → Bool → Type 0) → (ℕ → Bool) → Type 0
+Tells answers land = (p : ℕ) (b : Bool) → p < 2 ^ 64 → answers p b → b ≡ land p
 
 -- The byte offset of the first instruction of which one does not.
 unfoldable pub first_out : (ℕ → Bool) → List Instr → Option ℕ
@@ -60,25 +48,3 @@ pub out_astray : (land : ℕ → Bool) (k : List Instr) → ((p : ℕ) → land 
 unfolding first_out first_astray
 out_astray land k same [] = refl
 out_astray land k same (i ∷ rest) = rw (all_same land k same (targets_of i), out_astray land k same rest)
-
--- ---- the code's test
-
-module _ (land : ℕ → Bool) (here size w : ℕ) where
-  -- A word without a distance lands.
-  pub none-lands : distances (operation w) ≡ [] → true ≡ land_by land (targets_of (instr_of here size w))
-  none-lands e = sym (ap (λ (fs : List Distance). land_by land (reached fs (instr_of here size w))) e)
-
-  -- Where one distance leads.
-  abbrev at : Distance → ℤ
-  at f = reach f w here (here + size)
-
-  -- One with one distance lands where that leads,
-  pub one_lands : (f : Distance) → distances (operation w) ≡ f ∷ [] → lands_at land (at f) ≡ land_by land (targets_of (instr_of here size w))
-  one_lands f e = sym (and-true (lands_at land (at f))) ∙ sym (ap (λ (fs : List Distance). land_by land (reached fs (instr_of here size w))) e)
-
-  -- and one with two where both lead.
-  pub two_land : (f g : Distance) → distances (operation w) ≡ f ∷ g ∷ []
-      → (lands_at land (at f) && lands_at land (at g)) ≡ land_by land (targets_of (instr_of here size w))
-  two_land f g e =
-      ap (λ (b : Bool). lands_at land (at f) && b) (sym (and-true (lands_at land (at g))))
-      ∙ sym (ap (λ (fs : List Distance). land_by land (reached fs (instr_of here size w))) e)

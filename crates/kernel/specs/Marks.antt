@@ -6,7 +6,7 @@ use Rattle.std.proofs.lemmas.Bool.{eqb-false}
 use Rattle.paper.specs.Limits.{last_place}
 use Rattle.paper.specs.Kernel.{Instr, Parsed, bad, good}
 use Rattle.paper.specs.Jump.{lands}
-use Rattle.paper.specs.Calls.{Answer, verdict, refusal, checked_as}
+use Rattle.paper.specs.Calls.{Answer, verdict, checked_as}
 use Rattle.words.specs.declared.refusal.Refusal.{Refusal}
 use Rattle.words.specs.declared.answer.Refused.{Refused}
 use Rattle.words.specs.Refusals.{number}

@@ -6,6 +6,7 @@ ghost use Rattle.kernel.specs.Judging.{forms_is};
 ghost use Rattle.kernel.specs.Marks.{Says};
 ghost use Rattle.kernel.specs.Accepting.{RightSizes};
 
+use crate::forms::Forms;
 use crate::instructions::Instructions;
 use crate::jumps::first_astray;
 use crate::walk::walk;
@@ -28,12 +29,12 @@ pub fn sized<'a>(dictionary: &'a [u8], kernel: &[u8]) -> Option<&'a [u8; DICTION
 // What is said of a kernel as a whole: how many instructions it has, or its refusal. In the marks that are lent, whatever they hold, an accepted kernel's
 // places are then marked, its end among them, and no other; what a refused kernel leaves in them is working storage.
 pub fn accept(
-    long: bool,
+    forms: Forms,
     dictionary: &[u8],
     kernel: &[u8],
     marks: &mut [u8; PLACES],
 ) -> Result<u64, Refused>
-    ensures { Says (accepted (forms_is long) dictionary.now kernel.now) result marks.new }
+    ensures { Says (accepted (forms_is forms) dictionary.now kernel.now) result marks.new }
 {
     let Some(dictionary) = sized(dictionary, kernel) else {
         return Err(Refusal::WrongSize.into());
@@ -42,7 +43,7 @@ pub fn accept(
         return Err(Refusal::WideDictionary.into());
     }
     let regions = Regions::new();
-    let count = walk(&regions, long, dictionary, kernel, marks)?;
+    let count = walk(&regions, forms, dictionary, kernel, marks)?;
     match first_astray(Instructions::of(dictionary, kernel), marks) {
         None => Ok(count),
         Some(offset) => Err(Refusal::StrayJump.at(offset)),

@@ -4,6 +4,7 @@ ghost use Rattle.paper.specs.Calls.{check_call};
 ghost use Rattle.words.specs.Answer.{answer_is};
 
 use crate::accept::accept;
+use crate::forms::Forms;
 use words::answer::{Answer, accepted};
 use words::limits::PLACES;
 
@@ -12,5 +13,5 @@ pub fn check(dictionary: &[u8], kernel: &[u8]) -> Answer
     ensures { answer_is result ≡ check_call dictionary.now kernel.now }
 {
     let mut marks = [0u8; PLACES];
-    accepted(accept(false, dictionary, kernel, &mut marks)?)
+    accepted(accept(Forms::LongAndShort, dictionary, kernel, &mut marks)?)
 }

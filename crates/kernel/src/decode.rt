@@ -7,6 +7,7 @@ ghost use Rattle.kernel.specs.Answers.{decoded_is};
 
 use crate::accept::sized;
 use crate::fetch::Fetched;
+use crate::forms::Forms;
 use crate::instruction::judge_at;
 use short::dictionary::in_range;
 use table::regions::Regions;
@@ -41,7 +42,7 @@ pub fn decode(dictionary: &[u8], kernel: &[u8], place: u64) -> Result<Fetched, R
     }
     let from = 8 * (place as usize);
     let regions = Regions::new();
-    match judge_at(&regions, false, dictionary, kernel, from) {
+    match judge_at(&regions, Forms::LongAndShort, dictionary, kernel, from) {
         Err(refusal) => Err(refusal.at(from as u64)),
         Ok(f) => Ok(f),
     }

@@ -1,48 +1,23 @@
 // Do all jumps of a kernel go forward: every target lies after its branch.
-ghost use Rattle.std.specs.Prelude.{◌≡◌, ◌+◌, ltb};
-ghost use Rattle.paper.specs.Jump.{reach, targets_of};
+ghost use Rattle.std.specs.Prelude.{◌≡◌};
+ghost use Rattle.paper.specs.Jump.{targets_of};
 ghost use Rattle.paper.specs.Forward.{lie_after, forward};
 ghost use Rattle.paper.specs.Calls.{forward_call};
-ghost use Rattle.words.specs.Words.{to_word};
 ghost use Rattle.words.specs.Answer.{answer_is};
-ghost use Rattle.distances.specs.Distances.{distance_is};
 ghost use Rattle.kernel.specs.Instructions.{instr_is, instrs_left};
-ghost use Rattle.kernel.specs.Jumps.{lands_at, lands_in};
 
 use crate::accept::accept;
+use crate::forms::Forms;
 use crate::instructions::{Instruction, Instructions};
-use distances::branch::{Distances, distances_in};
-use distances::distance::Distance;
 use words::answer::{Answer, accepted};
 use words::limits::PLACES;
 use words::refusal::Refusal;
-
-// The place to which a jump leads lies after place `here`. What lies below place 0 does not.
-fn lies_after(here: u64, target: Option<u64>) -> bool
-    ensures { result ≡ lands_in (ltb here) target }
-{
-    match target {
-        Some(place) => here < place,
-        None => false,
-    }
-}
-
-// The instruction's distance d leads to a place after its own.
-fn distance_forward(d: Distance, i: Instruction) -> bool
-    ensures { result ≡ lands_at (ltb i.place) (reach (distance_is d) (to_word i.word) i.place (i.place + i.size)) }
-{
-    lies_after(i.place, i.target(d))
-}
 
 // Each distance of the instruction leads to a place after its own.
 fn leads_forward(i: Instruction) -> bool
     ensures { result ≡ lie_after i.place (targets_of (instr_is i)) }
 {
-    match distances_in(i.word) {
-        Distances::Nothing => true,
-        Distances::One(d) => distance_forward(d, i),
-        Distances::Two(d, e) => distance_forward(d, i) & distance_forward(e, i),
-    }
+    i.each_lands(|place| i.place < place)
 }
 
 // Every distance of every instruction leads to a place after the instruction's own.
@@ -65,7 +40,7 @@ pub fn forward(dictionary: &[u8], kernel: &[u8]) -> Answer
         return Err(Refusal::WrongSize.into());
     };
     let mut marks = [0u8; PLACES];
-    accept(false, dictionary, kernel, &mut marks)?;
+    accept(Forms::LongAndShort, dictionary, kernel, &mut marks)?;
     let all = Instructions::of(dictionary, kernel);
     accepted(u64::from(all_forward(all)))
 }

@@ -6,6 +6,7 @@ ghost use Rattle.words.specs.Words.{to_word};
 ghost use Rattle.kernel.specs.Judging.{judged_is, forms_is};
 
 use crate::fetch::Fetched;
+use crate::forms::Forms;
 use judge::refusal::judge;
 use short::expand::expand;
 use table::regions::Regions;
@@ -15,7 +16,7 @@ use words::limits::DICTIONARY_BYTES;
 use words::operation::{is_branch, is_listed};
 use words::refusal::Refusal;
 
-// Where a parameter `long` is true, only long words are taken. A parameter `regions` is the table of what source fields allow.
+// A parameter `forms` says which words are taken. A parameter `regions` is the table of what source fields allow.
 
 // 6 to 11 of an expanded word.
 fn judge_word(regions: &Regions, size: u64, w: Word) -> Result<Fetched, Refusal>
@@ -28,11 +29,11 @@ fn judge_word(regions: &Regions, size: u64, w: Word) -> Result<Fetched, Refusal>
 // 4, 5, then 6 to 11, of a short word.
 fn judge_short(
     regions: &Regions,
-    long: bool,
+    forms: Forms,
     dictionary: &[u8; DICTIONARY_BYTES],
     s: u64,
 ) -> Result<Fetched, Refusal>
-    ensures { judged_is result ≡ judge_short (forms_is long) (dictionary_of dictionary.now) s }
+    ensures { judged_is result ≡ judge_short (forms_is forms) (dictionary_of dictionary.now) s }
 {
     if !is_listed(operation_in(s)) {
         return Err(Refusal::Unlisted);
@@ -40,11 +41,10 @@ fn judge_short(
     if is_branch(operation_in(s)) {
         return Err(Refusal::WrongForm);
     }
-    if long {
-        return Err(Refusal::WrongForm);
+    match forms {
+        Forms::LongOnly => Err(Refusal::WrongForm),
+        Forms::LongAndShort => judge_word(regions, 1, expand(dictionary, s)),
     }
-    let w = expand(dictionary, s);
-    judge_word(regions, 1, w)
 }
 
 // 4, then 6 to 11, of a long word.
@@ -60,13 +60,13 @@ fn judge_long(regions: &Regions, w: Word) -> Result<Fetched, Refusal>
 // 3 to 11 of the instruction that starts at byte `from`.
 pub(crate) fn judge_at(
     regions: &Regions,
-    long: bool,
+    forms: Forms,
     dictionary: &[u8; DICTIONARY_BYTES],
     kernel: &[u8],
     from: usize,
 ) -> Result<Fetched, Refusal>
     requires { from ≤ length kernel.now }
-    ensures { judged_is result ≡ judge_at (forms_is long) (dictionary_of dictionary.now) kernel.now from }
+    ensures { judged_is result ≡ judge_at (forms_is forms) (dictionary_of dictionary.now) kernel.now from }
 {
     let left = kernel.len() - from;
     if left < 8 {
@@ -74,7 +74,7 @@ pub(crate) fn judge_at(
     }
     let s = read8(kernel, from);
     if is_short(s) {
-        return judge_short(regions, long, dictionary, s);
+        return judge_short(regions, forms, dictionary, s);
     }
     if left < 16 {
         return Err(Refusal::CutShort);

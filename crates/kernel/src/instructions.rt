@@ -5,6 +5,7 @@ ghost use Rattle.kernel.specs.Marks.{place_count};
 ghost use Rattle.kernel.specs.Reading.{filled};
 
 use crate::fetch::word_at;
+use distances::branch::{Distances, distances_in};
 use distances::distance::{Distance, reach};
 use words::bytes::Word;
 use words::limits::DICTIONARY_BYTES;
@@ -20,16 +21,41 @@ pub struct Instruction {
 }
 
 impl Instruction {
-    ghost use Rattle.std.specs.Prelude.{◌+◌};
-    ghost use Rattle.paper.specs.Jump.{reach};
+    ghost use Rattle.std.specs.Prelude.{◌+◌, Bool, ℕ};
+    ghost use Rattle.paper.specs.Jump.{reach, targets_of};
     ghost use Rattle.words.specs.Words.{to_word};
     ghost use Rattle.distances.specs.Distances.{distance_is, told};
+    ghost use Rattle.kernel.specs.Instructions.{instr_is};
+    ghost use Rattle.kernel.specs.Jumps.{lands_at, land_by, Tells};
 
     // The place to which the distance d in its word leads, if not below place 0.
     pub fn target(self, d: Distance) -> Option<u64>
         ensures { result ≡ told (reach (distance_is d) (to_word self.word) self.place (self.place + self.size)) }
     {
         reach(d, self.word, self.place, self.place + self.size)
+    }
+
+    // The distance d leads to a place of which the test holds. It holds of none that lies below place 0.
+    fn target_lands<F: Fn(u64) -> bool>(self, d: Distance, lands: &F) -> bool
+        requires { F.IsAlwaysCallable lands.now }
+        ensures { (land : ℕ → Bool) → Tells (F.post lands.now) land → result ≡ lands_at land (reach (distance_is d) (to_word self.word) self.place (self.place + self.size)) }
+    {
+        match self.target(d) {
+            Some(place) => lands(place),
+            None => false,
+        }
+    }
+
+    // Each distance in its word leads to a place of which the test holds.
+    pub fn each_lands<F: Fn(u64) -> bool>(self, lands: F) -> bool
+        requires { F.IsAlwaysCallable lands }
+        ensures { (land : ℕ → Bool) → Tells (F.post lands) land → result ≡ land_by land (targets_of (instr_is self)) }
+    {
+        match distances_in(self.word) {
+            Distances::Nothing => true,
+            Distances::One(d) => self.target_lands(d, &lands),
+            Distances::Two(d, e) => self.target_lands(d, &lands) & self.target_lands(e, &lands),
+        }
     }
 }
 

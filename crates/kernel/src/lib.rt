@@ -6,6 +6,7 @@ pub mod accept;
 pub mod check;
 pub mod decode;
 pub mod fetch;
+pub mod forms;
 pub mod forward;
 pub mod instruction;
 pub mod instructions;

@@ -6,6 +6,7 @@ ghost use Rattle.paper.specs.Kernel.{parse};
 ghost use Rattle.kernel.specs.Judging.{forms_is};
 ghost use Rattle.kernel.specs.Marks.{Says};
 
+use crate::forms::Forms;
 use crate::instruction::judge_at;
 use table::regions::Regions;
 use words::answer::Refused;
@@ -19,13 +20,13 @@ use words::refusal::Refusal;
 // The table of what source fields allow is lent, for the judge to look in.
 pub(crate) fn walk(
     regions: &Regions,
-    long: bool,
+    forms: Forms,
     dictionary: &[u8; DICTIONARY_BYTES],
     kernel: &[u8],
     marks: &mut [u8; PLACES],
 ) -> Result<u64, Refused>
     requires { length kernel.now ≤ kernel_bytes }
-    ensures { Says (parse (forms_is long) (dictionary_of dictionary.now) kernel.now) result marks.new }
+    ensures { Says (parse (forms_is forms) (dictionary_of dictionary.now) kernel.now) result marks.new }
 {
     *marks = [0u8; PLACES];
     let mut from: usize = 0;
@@ -34,7 +35,7 @@ pub(crate) fn walk(
         if count == INSTRUCTION_LIMIT {
             return Err(Refusal::TooMany.at(from as u64));
         }
-        match judge_at(regions, long, dictionary, kernel, from) {
+        match judge_at(regions, forms, dictionary, kernel, from) {
             Err(refusal) => return Err(refusal.at(from as u64)),
             Ok(f) => {
                 marks[from / 8] = 1;

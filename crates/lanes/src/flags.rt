@@ -8,17 +8,17 @@ use crate::mask::ALL;
 // f0.0 and f0.1.
 #[derive(Clone, Copy)]
 pub struct Flags {
-    pub flag0: u64,
-    pub flag1: u64,
+    pub flag0: u16,
+    pub flag1: u16,
 }
 
 // A flag after cmp on n channels from `first` on: the bits of the enabled ones are their results; all other bits stay.
 // Enabled channels and results are masks by channel number.
-pub fn flag_after(old: u64, first: u64, n: u64, enable: u64, res: u64) -> u64
+pub fn flag_after(old: u64, first: u64, n: u64, enable: u64, res: u64) -> u16
     requires { first + n ≤ 16 }
-    ensures { (result ≡ flag_after old first n (bit enable) (bit res)) × (result < 65536) }
+    ensures { result ≡ flag_after old first n (bit enable) (bit res) }
 {
     let field = ((1 << n) - 1) << first;
     let written = enable & field;
-    (old & (ALL - written)) | (res & written)
+    ((old & (ALL - written)) | (res & written)) as u16
 }

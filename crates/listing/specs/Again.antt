@@ -106,6 +106,12 @@ module _ (D : Dictionary) (s : List ℕ) (p from : ℕ) where
       next_is i k c size w
       (e ∙ (ap (λ (x : ℕ). candidate s x from) (sym c.laid.0) ∙ candidate_is s (listing k) from i c.able.0 c.text))
 
+module _ (D : Dictionary) (s : List ℕ) (p from : ℕ) where
+  -- Its place is one that there can be.
+  pub coming_near : (rest : List Instr) → Coming D s p from rest → from < length s → p < place_count
+  unfolding candidate
+  coming_near rest c h = (next_coming D s p from rest c h (candidate s p from).size (candidate s p from).word refl).here
+
 -- ---- jumps
 
 -- The instructions k have the answer of those that are still to come.

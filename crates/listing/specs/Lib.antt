@@ -4,7 +4,6 @@ pub mod Kernels
 pub mod Back
 pub mod Faults
 pub mod Passing
-pub mod Places
 pub mod Writing
 pub mod Reading
 pub mod Scanning

@@ -11,7 +11,7 @@ use Rattle.paper.specs.Text.{decimal}
 use Rattle.paper.specs.Calls.{accepted}
 use Rattle.paper.specs.Listing.{form_of, instr_text, listing}
 use Rattle.text.specs.Written.{sets-append}
-use Rattle.kernel.specs.Standing.{Whole, Fetches, Stands, stands_next, stands_end}
+use Rattle.kernel.specs.Standing.{Fetches, Stands, stands_next, stands_end}
 use Rattle.kernel.specs.Marks.{instrs_of}
 use Rattle.kernel.specs.Jumps.{instr_of}
 use Rattle.kernel.specs.Accepting.{AcceptedKernel}
@@ -35,9 +35,6 @@ pub record Standing (D : Dictionary) (kernel : List ℕ) (from size w : ℕ) (re
   pub room : from + 8 * size ≤ length kernel
 
 module _ (D : Dictionary) (kernel : List ℕ) (from : ℕ) (rest : List Instr) (s : Stands long_and_short D kernel from rest) (inside : from < length kernel) where
-  pub next_whole : Whole kernel from
-  next_whole = let n = stands_next long_and_short D kernel from rest s inside in omega (arith, n.fit.room, n.fit.size_is)
-
   pub next_stands : (size w : ℕ) → Fetches D kernel from size w → Standing D kernel from size w rest
   next_stands size w f =
       let n = stands_next long_and_short D kernel from rest s inside in
@@ -73,6 +70,11 @@ module _ (dictionary kernel : List ℕ) where
         let z : length (listing c.rest) ≡ 0 = ap (λ (l : List Instr). length (listing l)) e in
         omega (arith, c.counted)
 
+    -- The next instruction lies in the kernel,
+    pub counting_inside : from < length kernel → (size w : ℕ) → Fetches (dictionary_of dictionary) kernel from size w → from + 8 * size ≤ length kernel
+    counting_inside inside size w f = (next_stands (dictionary_of dictionary) kernel from c.rest c.stands inside size w f).room
+
+    -- and its lines are so many bytes more.
     pub counting_next : from < length kernel → (size w : ℕ) → Fetches (dictionary_of dictionary) kernel from size w
         → (m : ℕ) → m ≡ 61 + length (decimal (from / 8)) + length (form_of size) → m ≤ 86 → Counting dictionary kernel (from + 8 * size) (n + m)
     unfolding listing

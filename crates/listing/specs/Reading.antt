@@ -2,8 +2,7 @@
 use Rattle.std.specs.Prelude as std
 use Rattle.std.specs.Prelude.{Some, None, Result, Ok, Err, is_ok, replicate, take, Bool, true, false, cond, ◌&&◌, List, ◌≡◌, refl, ℕ, ◌+◌, ◌-◌, ◌*◌, ◌^◌, ◌≤◌, ◌<◌, eqb, length, drop, get_or}
 use Rattle.std.proofs.Math.Option.{Option, none, some}
-use Rattle.std.proofs.Common.{sym, ap, ◌∙◌, subst, arith, drop_of_length-le, eq-eqb, ne_eqb}
-use Rattle.std.proofs.Math.ListN.{get_or-eq_default}
+use Rattle.std.proofs.Common.{sym, ap, ◌∙◌, arith, drop_of_length-le, eq-eqb}
 use Rattle.std.proofs.lemmas.Bool.{false≢true}
 use Rattle.std.proofs.lemmas.List.Edits.{sets}
 use Rattle.paper.specs.Dictionary.{Dictionary}
@@ -20,16 +19,15 @@ use Rattle.text.specs.declared.read.Unread.TheVariants.{Torn, Other}
 use Rattle.text.specs.Decimals.{decimal_most}
 use Rattle.text.specs.Meaning.{found_is}
 use Rattle.text.specs.Reading.{stored_first}
-use Rattle.words.specs.declared.bytes.Word.{Word}
-use Rattle.words.specs.Words.{to_word}
 use Rattle.kernel.specs.Jumps.{instr_of}
-use Rattle.kernel.specs.declared.fetch.Fetched.{Fetched}
+use Rattle.kernel.specs.declared.instructions.Instruction.{Instruction}
+use Rattle.kernel.specs.Instructions.{instr_is}
 use Rattle.listing.specs.Lines.{length_lined, lines_length, from_lt, form_length, sum_joined}
 
--- What the code finds at a byte, of the instruction that can be read there at a place: its size, its word and the byte after its lines; or none.
-abbrev pub LinesAt : Option Instr → ℕ → ℕ → std.Option (Fetched × ℕ) → Type 0
-LinesAt o place from (Some (f, next)) = (o ≡ some (instr_of place f.size (to_word f.word))) × (next ≡ from + length (instr_text (instr_of place f.size (to_word f.word))))
-LinesAt o place from None = o ≡ none
+-- What the code finds at a byte: the instruction that can be read there and the byte after its lines; or none.
+abbrev pub LinesAt : Option Instr → ℕ → std.Option (Instruction × ℕ) → Type 0
+LinesAt o from (Some (i, next)) = (o ≡ some (instr_is i)) × (next ≡ from + length (instr_text (instr_is i)))
+LinesAt o from None = o ≡ none
 
 -- ---- digits
 
@@ -49,15 +47,6 @@ word_halves s from a b c d p q r t =
 -- ---- the candidate
 
 -- By its size, which its form's first letter tells, and its word.
-pub size_past : (s : List ℕ) (n : ℕ) → length s ≤ n → (◌≡◌ {A = ℕ} 2 (cond (eqb (get_or s n 0) 115) 1 2)) × (2 ≤ 2)
-size_past s n h = rw (get_or-eq_default s 0 {n = n} h) (refl, omega arith)
-
-pub size_short : (b : ℕ) → b ≡ 115 → (◌≡◌ {A = ℕ} 1 (cond (eqb b 115) 1 2)) × (1 ≤ 2)
-size_short b h = rw (eq-eqb b 115 h) (refl, omega arith)
-
-pub size_long : (b : ℕ) → (b ≡ 115 → ⊥) → (◌≡◌ {A = ℕ} 2 (cond (eqb b 115) 1 2)) × (2 ≤ 2)
-size_long b h = rw (ne_eqb b 115 h) (refl, omega arith)
-
 pub form_bytes : (b : Bool) → length (form_of (cond b 1 2)) + 1 ≡ 7 - cond b 1 2
 form_bytes true = refl
 form_bytes false = refl

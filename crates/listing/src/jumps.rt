@@ -5,13 +5,11 @@ ghost use Rattle.listing.specs.Again.{lines_in, CanRead, MarksAre, astray_is};
 
 use crate::lines::candidate;
 use crate::write::lines_length;
-use kernel::instructions::Instruction;
 use kernel::jumps::jump_lands;
 use words::limits::{DICTIONARY_BYTES, PLACES};
 
 // The byte at which the lines begin of the first branch with a distance that leads to no mark. The marks are those of the text's instructions and of the end.
-// This loop and `lay::write_kernel`'s go on by the length of an instruction's lines. An iterator over a text would be a struct with its law, its measure and its `next`, as `kernel::instructions` has them:
-// longer than the two loops.
+// It goes over the text as `lay::write_kernel` does. An iterator over a text would be a struct with its law, its measure and its `next`, as `kernel::instructions` has them: longer than the two loops.
 pub(crate) fn first_astray(
     dictionary: &[u8; DICTIONARY_BYTES],
     text: &[u8],
@@ -22,19 +20,14 @@ pub(crate) fn first_astray(
 {
     let mut from: usize = 0;
     let mut place: u64 = 0;
+    // A step is as long as an instruction's lines, so no `for` counts it.
     while from < text.len() {
-        let f = candidate(text, place, from);
-        let size = f.size;
-        let i = Instruction {
-            place,
-            size,
-            word: f.word,
-        };
+        let i = candidate(text, place, from);
         if !jump_lands(marks, i) {
             return Some(from as u64);
         }
-        from += lines_length(place, size);
-        place += size;
+        from += lines_length(place, i.size);
+        place += i.size;
     }
     None
 }

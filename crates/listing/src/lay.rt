@@ -30,7 +30,6 @@ fn put_word(dictionary: &[u8; DICTIONARY_BYTES], out: &mut [u8], at: usize, size
 }
 
 // The kernel's bytes, in the output's first.
-// (The loop goes on by the length of an instruction's lines; `jumps::first_astray` says why it is no `for`.)
 pub(crate) fn write_kernel(dictionary: &[u8; DICTIONARY_BYTES], text: &[u8], out: &mut [u8])
     requires can_read { CanRead dictionary.now text.now }
     requires text_in_bounds { length (kernel_of (dictionary_of dictionary.now) (lines_in dictionary.now text.now)) ≤ length out.old }
@@ -38,11 +37,11 @@ pub(crate) fn write_kernel(dictionary: &[u8; DICTIONARY_BYTES], text: &[u8], out
 {
     let mut from: usize = 0;
     let mut place: u64 = 0;
+    // A step is as long as an instruction's lines, so no `for` counts it.
     while from < text.len() {
-        let f = candidate(text, place, from);
-        let size = f.size;
-        put_word(dictionary, out, 8 * (place as usize), size, f.word);
-        from += lines_length(place, size);
-        place += size;
+        let i = candidate(text, place, from);
+        put_word(dictionary, out, 8 * (place as usize), i.size, i.word);
+        from += lines_length(place, i.size);
+        place += i.size;
     }
 }

@@ -6,7 +6,6 @@ pub mod lay;
 pub mod lines;
 pub mod list;
 pub mod read;
-pub mod reader;
 pub mod scan;
 pub mod taken;
 pub mod write;

@@ -6,11 +6,12 @@ ghost use Rattle.paper.specs.Text.{hex_from};
 ghost use Rattle.paper.specs.Listing.{word_at, candidate, instr_at};
 ghost use Rattle.words.specs.Words.{to_word};
 ghost use Rattle.kernel.specs.Jumps.{instr_of};
+ghost use Rattle.kernel.specs.Marks.{place_count};
 ghost use Rattle.listing.specs.Reading.{LinesAt};
 
 use crate::taken::is_taken;
 use crate::write::put_lines;
-use kernel::fetch::Fetched;
+use kernel::instructions::Instruction;
 use table::regions::Regions;
 use text::read::{find, hex_digits};
 use text::write::width;
@@ -53,25 +54,24 @@ fn word_in(text: &[u8], from: usize) -> Word
 fn size_in(text: &[u8], at: usize) -> u64
     ensures { (result ≡ cond (eqb (get_or text.now at 0) 115) 1 2) × (result ≤ 2) }
 {
-    if text.len() <= at {
-        return 2;
+    match text.get(at) {
+        Some(b's') => 1,
+        _ => 2,
     }
-    if text[at] == 115 {
-        return 1;
-    }
-    2
 }
 
-// The one instruction at a place whose lines can begin at a byte: its size and its word.
-pub(crate) fn candidate(text: &[u8], place: u64, from: usize) -> Fetched
-    requires { from ≤ length text.now }
-    ensures { instr_of place result.size (to_word result.word) ≡ candidate text.now place from }
+// The one instruction at a place whose lines can begin at a byte.
+pub(crate) fn candidate(text: &[u8], place: u64, from: usize) -> Instruction
+    requires inside { from ≤ length text.now }
+    requires near { place < place_count }
+    ensures stands { result.place ≡ place }
+    ensures value { instr_of place result.size (to_word result.word) ≡ candidate text.now place from }
 {
     let value = from + width(place) + 12;
     let size = size_in(text, value);
     let lines = value + 7 - (size as usize);
     let word = word_in(text, lines);
-    Fetched { size, word }
+    Instruction { place, size, word }
 }
 
 // The instruction at a place whose six lines begin at a byte, if it can be read, and the byte after its lines. The table of what source fields allow is lent.
@@ -81,9 +81,10 @@ pub(crate) fn lines_at(
     text: &[u8],
     place: u64,
     from: usize,
-) -> Option<(Fetched, usize)>
-    requires { from ≤ length text.now }
-    ensures { LinesAt (instr_at (dictionary_of dictionary.now) text.now place from) place from result }
+) -> Option<(Instruction, usize)>
+    requires inside { from ≤ length text.now }
+    requires near { place < place_count }
+    ensures { LinesAt (instr_at (dictionary_of dictionary.now) text.now place from) from result }
 {
     let instruction = candidate(text, place, from);
     let mut lines = [0u8; LINES_BYTES];

@@ -6,9 +6,10 @@ ghost use Rattle.paper.specs.Calls.{deliver};
 ghost use Rattle.words.specs.Answer.{Wrote};
 ghost use Rattle.listing.specs.Passing.{instrs_in, Listable};
 
-use crate::reader::read_at;
 use crate::write::{lines_length, put_lines};
 use kernel::accept::accept;
+use kernel::forms::Forms;
+use kernel::instructions::Instructions;
 use words::answer::{Answer, accepted};
 use words::limits::{DICTIONARY_BYTES, PLACES};
 use words::refusal::Refusal;
@@ -18,12 +19,9 @@ fn text_length(dictionary: &[u8; DICTIONARY_BYTES], kernel: &[u8]) -> usize
     requires { Listable dictionary.now kernel.now }
     ensures { result ≡ length (listing (instrs_in dictionary.now kernel.now)) }
 {
-    let mut place: u64 = 0;
     let mut n: usize = 0;
-    while 8 * place < kernel.len() as u64 {
-        let f = read_at(kernel, place, dictionary);
-        n += lines_length(place, f.size);
-        place += f.size;
+    for i in Instructions::of(dictionary, kernel) {
+        n += lines_length(i.place, i.size);
     }
     n
 }
@@ -34,12 +32,9 @@ fn write_text(dictionary: &[u8; DICTIONARY_BYTES], kernel: &[u8], out: &mut [u8]
     requires kernel_in_bounds { length (listing (instrs_in dictionary.now kernel.now)) ≤ length out.old }
     ensures { out.new ≡ sets out.old 0 (listing (instrs_in dictionary.now kernel.now)) }
 {
-    let mut place: u64 = 0;
     let mut at: usize = 0;
-    while 8 * place < kernel.len() as u64 {
-        let f = read_at(kernel, place, dictionary);
-        at = put_lines(out, at, place, f.size, f.word);
-        place += f.size;
+    for i in Instructions::of(dictionary, kernel) {
+        at = put_lines(out, at, i.place, i.size, i.word);
     }
 }
 
@@ -65,6 +60,6 @@ pub fn list(dictionary: &[u8], kernel: &[u8], out: &mut [u8]) -> Answer
         return Err(Refusal::WrongSize.into());
     };
     let mut marks = [0u8; PLACES];
-    accept(false, dictionary, kernel, &mut marks)?;
+    accept(Forms::LongAndShort, dictionary, kernel, &mut marks)?;
     list_accepted(dictionary, kernel, out)
 }

@@ -13,7 +13,6 @@ use words::refusal::Refusal;
 
 // The text's instructions, read one after the other: how many places its kernel has, or the refusal of the first faulty lines, by the byte at which they begin. In the marks that are lent it sets a mark, 1, for each place at which one starts and for the end, and
 // none elsewhere; the marks that a faulty text leaves are working storage. The table of what source fields allow is lent.
-// The loop is no `for`: where the next instruction's lines begin is known only once those before have been read.
 pub(crate) fn scan(
     regions: &Regions,
     dictionary: &[u8; DICTIONARY_BYTES],
@@ -26,6 +25,7 @@ pub(crate) fn scan(
     let mut from: usize = 0;
     let mut place: u64 = 0;
     let mut count: u64 = 0;
+    // A step is as long as an instruction's lines, which are known once they have been read: so no `for` counts it.
     while from < text.len() {
         if count == INSTRUCTION_LIMIT {
             return Err(Refusal::NoListing.at(from as u64));

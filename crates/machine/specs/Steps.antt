@@ -32,11 +32,6 @@ pub record Shows (registers addresses here : List ℕ) (s : Stand) (t : State) :
   pub posted : Posted s.awake here t.channels
   pub place : s.place ≡ t.place
 
--- Flags are numbers of 16 bits.
-pub record Sound (s : Stand) : Type 0 where
-  pub flag0 : s.flags.flag0 < 65536
-  pub flag1 : s.flags.flag1 < 65536
-
 -- The awake channels are those of the mask.
 posted-awake : (up : ℕ) (here : List ℕ) (cs : List Channel) → Posted up here cs → map is_awake cs ≡ awake_list up
 unfolding mask_of

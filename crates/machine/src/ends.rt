@@ -15,7 +15,7 @@ use words::limits::STATE_LENGTH;
 pub fn enter(bytes: &[u8; STATE_LENGTH], here: &mut [u16]) -> Stand
     requires { (all_three bytes.now 16 ≡ true) × ((p : ℕ) → get_or here.old p 0 ≡ 0) × Inside (length here.old) (channels_in bytes.now 0 16) }
     ensures by_index_2 { (registers : List ℕ) → Shows registers (addresses_in bytes.now) here.new result (state_of registers bytes.now) }
-    ensures flag0_bound { (result.flags.flag0 < 65536) × (result.flags.flag1 < 65536) × (length here.new ≡ length here.old) }
+    ensures here_length { length here.new ≡ length here.old }
 {
     let s = read_state(bytes);
     post_all(s.channels, here);

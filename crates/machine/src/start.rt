@@ -19,10 +19,7 @@ pub fn started(mask: u16, flag0: u16, flag1: u16) -> State
     ensures { ((registers : List ℕ) → state_is registers (replicate address_bytes 0) result ≡ begun registers flag0 flag1 mask) × SaneState result }
 {
     State {
-        flags: Flags {
-            flag0: u64::from(flag0),
-            flag1: u64::from(flag1),
-        },
+        flags: Flags { flag0, flag1 },
         channels: Channels {
             awake: mask,
             waiting: 0,

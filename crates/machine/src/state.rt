@@ -49,8 +49,8 @@ pub fn read_state(bytes: &[u8; STATE_LENGTH]) -> State
     ensures { ((registers : List ℕ) → state_is registers (addresses_in bytes.now) result ≡ state_of registers bytes.now)
         × (all_three bytes.now 16 ≡ true → SaneState result) }
 {
-    let flag0 = read2(bytes, 0);
-    let flag1 = read2(bytes, 2);
+    let flag0 = read2(bytes, 0) as u16;
+    let flag1 = read2(bytes, 2) as u16;
     let place = read2(bytes, 4);
     State {
         flags: Flags { flag0, flag1 },
@@ -103,8 +103,8 @@ pub(crate) fn write_state(bytes: &mut [u8; STATE_LENGTH], s: State)
     requires { Sane s.channels }
     ensures { (registers : List ℕ) → bytes.new ≡ state_bytes (state_is registers (addresses_in bytes.old) s) }
 {
-    write::<2>(bytes, 0, s.flags.flag0);
-    write::<2>(bytes, 2, s.flags.flag1);
+    write::<2>(bytes, 0, u64::from(s.flags.flag0));
+    write::<2>(bytes, 2, u64::from(s.flags.flag1));
     write::<2>(bytes, 4, s.place);
     write::<2>(bytes, 6, u64::from(s.channels.awake));
     write::<2>(bytes, 8, u64::from(s.channels.waiting));

@@ -10,7 +10,7 @@ ghost use Rattle.execute.specs.Stores.{store_of};
 ghost use Rattle.execute.specs.Readable.{Counting, Reckoning, OnRegisters};
 ghost use Rattle.machine.specs.Branches.{ways_is, Within};
 ghost use Rattle.machine.specs.Posts.{Posted};
-ghost use Rattle.machine.specs.Steps.{Shows, Sound};
+ghost use Rattle.machine.specs.Steps.{Shows};
 
 use crate::branch::act;
 use crate::dispatch::operation_here;
@@ -45,10 +45,10 @@ fn perform(
     here: &mut [u16],
 ) -> Stand
     requires o_value { (operation_is o ≡ operation (to_word w)) × OnRegisters (to_word w) }
-    requires flag0_bound { (flags.flag0 < 65536) × (flags.flag1 < 65536) × Within (length here.old) (ways_is ways) }
+    requires within { Within (length here.old) (ways_is ways) }
     ensures by_index { (addresses : List ℕ) (cs : List Channel) → Posted up here.old cs → Shows registers.new addresses here.new result
         (perform (operation_is o) (to_word w) (ways_is ways) (store_of registers.old flags addresses) cs) }
-    ensures flag0_bound_2 { (result.flags.flag0 < 65536) × (result.flags.flag1 < 65536) × (length here.new ≡ length here.old) }
+    ensures here_length { length here.new ≡ length here.old }
 {
     match o {
         Operation::Makes(p) => {
@@ -84,10 +84,10 @@ pub fn step_at(
     here: &mut [u16],
 ) -> Stand
     requires on_registers { OnRegisters (to_word w) × Within (length here.old) (ways_is ways) }
-    requires sound { Sound s × (s.place < length here.old) }
+    requires place_inside { s.place < length here.old }
     ensures by_index { (addresses : List ℕ) (t : State) → Shows registers.old addresses here.old s t
         → Shows registers.new addresses here.new result (step_at (to_word w) s.place (ways_is ways) t) }
-    ensures flag0_bound { (result.flags.flag0 < 65536) × (result.flags.flag1 < 65536) × (length here.new ≡ length here.old) }
+    ensures here_length { length here.new ≡ length here.old }
 {
     let up = rouse(s.awake, s.place, here);
     let o = operation_here(opcode(w));
@@ -104,10 +104,10 @@ pub fn move_at(
     here: &mut [u16],
 ) -> Stand
     requires w_value { (operation (to_word w) ≡ plain mov) × Counting mov (to_word w) × (length addresses.old ≡ address_bytes) }
-    requires sound { Sound s × (s.place < length here.old) }
+    requires place_inside { s.place < length here.old }
     ensures shows { (t : State) → Shows registers.old addresses.old here.old s t
         → Shows registers.new addresses.new here.new result (step_at (to_word w) s.place (ways_is ways) t) }
-    ensures flag0_bound { (result.flags.flag0 < 65536) × (result.flags.flag1 < 65536) × (length here.new ≡ length here.old) }
+    ensures here_length { length here.new ≡ length here.old }
 {
     let awake = rouse(s.awake, s.place, here);
     transfer(w, u64::from(awake), s.flags, registers, addresses);
@@ -128,10 +128,10 @@ pub fn float_at(
     here: &mut [u16],
 ) -> Stand
     requires w_value { (operation (to_word w) ≡ plain (plain_is p)) × Reckoning (plain_is p) (to_word w) }
-    requires sound { Sound s × (s.place < length here.old) }
+    requires place_inside { s.place < length here.old }
     ensures by_index { (addresses : List ℕ) (t : State) → Shows registers.old addresses here.old s t
         → Shows registers.new addresses here.new result (step_at (to_word w) s.place (ways_is ways) t) }
-    ensures flag0_bound { (result.flags.flag0 < 65536) × (result.flags.flag1 < 65536) × (length here.new ≡ length here.old) }
+    ensures here_length { length here.new ≡ length here.old }
 {
     let awake = rouse(s.awake, s.place, here);
     let flags = reckon(p, w, u64::from(awake), s.flags, registers);

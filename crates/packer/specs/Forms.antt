@@ -4,11 +4,10 @@ use Rattle.std.proofs.Math.Option.{Option, none, some}
 use Rattle.std.proofs.Common.{eq-eqb, ne_eqb}
 use Rattle.paper.specs.Dictionary.{Dictionary, dictionary_of}
 use Rattle.paper.specs.Shorten.{shorten}
-use Rattle.paper.specs.Kernel.{Instr}
+use Rattle.paper.specs.Kernel.{Instr, Forms, long_only, long_and_short}
 use Rattle.paper.specs.Packing.{Form, relay}
 use Rattle.paper.specs.Calls.{accepted}
 use Rattle.laws.specs.Names.{long_form, new_end}
-use Rattle.kernel.specs.Judging.{forms_is}
 use Rattle.kernel.specs.Marks.{instrs_of}
 use Rattle.kernel.specs.Accepting.{AcceptedKernel}
 
@@ -16,6 +15,11 @@ use Rattle.kernel.specs.Accepting.{AcceptedKernel}
 abbrev pub form_of : Bool → Dictionary → Form
 form_of true D = shorten D
 form_of false D = long_form
+
+-- Packing takes long words only, unpacking both.
+abbrev pub forms_of : Bool → Forms
+forms_of true = long_only
+forms_of false = long_and_short
 
 -- The short word that a number stands for where forms are kept: 0 is none.
 abbrev pub recalled : ℕ → Option ℕ
@@ -29,11 +33,11 @@ recalled-some short h = rw (ne_eqb short 0 h)
 
 -- The instructions of a kernel, which is packed from long words only; none of one that is refused.
 unfoldable pub kernel_of : Bool → List ℕ → List ℕ → List Instr
-kernel_of packs dictionary kernel = instrs_of (accepted (forms_is packs) dictionary kernel)
+kernel_of packs dictionary kernel = instrs_of (accepted (forms_of packs) dictionary kernel)
 
 -- It is accepted.
 abbrev pub Taken : Bool → List ℕ → List ℕ → Type 0
-Taken packs dictionary kernel = AcceptedKernel (forms_is packs) dictionary kernel (kernel_of packs dictionary kernel)
+Taken packs dictionary kernel = AcceptedKernel (forms_of packs) dictionary kernel (kernel_of packs dictionary kernel)
 
 -- The bytes that it becomes, and the place past the last of them.
 abbrev pub result_of : Bool → List ℕ → List ℕ → List ℕ

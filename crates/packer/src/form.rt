@@ -13,7 +13,7 @@ use words::bytes::Word;
 use words::limits::{DICTIONARY_BYTES, INSTRUCTION_LIMIT};
 
 // Where a parameter `packs` is true, words are shortened, by the dictionary's sets if there are any; else all are long.
-// A bool and no enum, here and in `pack`, `place` and `write`: what is said of it (`form_of`, `Taken`, `kernel_of`, `result_of`) is said of a Bool, and it is asked in two places alone, `form` and `sets_for`.
+// A bool and no enum, here and in `pack`, `place` and `write`: what is said of it (`form_of`, `Taken`, `kernel_of`, `result_of`) is said of a Bool, and it is asked in three places alone, `form`, `pack::sets_for` and `pack::taken`.
 
 // As many short words as a kernel has instructions, at the most.
 pub(crate) const SHORTS: usize = INSTRUCTION_LIMIT as usize;

@@ -1,17 +1,19 @@
 // Packing and unpacking, for all inputs. A refusal leaves the output as it was.
 // Dictionary and kernel go in two, with the clause `Taken`: three functions have it, of which one calls the others, and what they ensure is said of the two by name (`result_of`, `kernel_of`).
+ghost use Rattle.std.specs.Prelude.{◌≡◌};
 ghost use Rattle.std.specs.Option.{option_copied};
 ghost use Rattle.paper.specs.Dictionary.{dictionary_of};
 ghost use Rattle.paper.specs.Calls.{deliver, accepted, relaid, pack_call, unpack_call};
 ghost use Rattle.short.specs.Sets.{Serves};
 ghost use Rattle.words.specs.Answer.{Wrote};
 ghost use Rattle.kernel.specs.Judging.{forms_is};
-ghost use Rattle.packer.specs.Forms.{form_of, Taken, result_of};
+ghost use Rattle.packer.specs.Forms.{form_of, forms_of, Taken, result_of};
 
 use crate::form::SHORTS;
 use crate::place::place_all;
 use crate::write::write_all;
 use kernel::accept::accept;
+use kernel::forms::Forms;
 use short::sets::{IndexSets, TABLE_SETS, gather_all};
 use words::answer::{Answer, accepted};
 use words::limits::{DICTIONARY_BYTES, PLACES};
@@ -60,16 +62,27 @@ fn lay_out(
     accepted(length as u64)
 }
 
+// Which words a kernel is taken with: to be packed, long ones only.
+fn taken(packs: bool) -> Forms
+    ensures { forms_is result ≡ forms_of packs }
+{
+    if packs {
+        Forms::LongOnly
+    } else {
+        Forms::LongAndShort
+    }
+}
+
 // The kernel laid out anew: packed, from long words only, or unpacked.
 fn relay(packs: bool, dictionary: &[u8], kernel: &[u8], out: &mut [u8]) -> Answer
     ensures { Wrote (relaid (form_of packs (dictionary_of dictionary.now)) out.old
-        (accepted (forms_is packs) dictionary.now kernel.now)) result out.new }
+        (accepted (forms_of packs) dictionary.now kernel.now)) result out.new }
 {
     let Some(dictionary) = dictionary.as_array() else {
         return Err(Refusal::WrongSize.into());
     };
     let mut marks = [0u8; PLACES];
-    accept(packs, dictionary, kernel, &mut marks)?;
+    accept(taken(packs), dictionary, kernel, &mut marks)?;
     lay_out(packs, dictionary, kernel, out)
 }
 

@@ -9,32 +9,31 @@ use Rattle.paper.specs.Calls as paper
 use Rattle.words.specs.declared.answer.Refused.{Refused}
 use Rattle.words.specs.Refusals.{number}
 use Rattle.words.specs.Answer.{answer_is}
-use Rattle.kernel.specs.Judging.{forms_is}
 use Rattle.kernel.specs.Marks.{Said, said_is, Says, says_answer, says_refused, says_instrs}
 use Rattle.kernel.specs.Accepting.{accepted_kernel}
-use Rattle.packer.specs.Forms.{kernel_of, Taken}
+use Rattle.packer.specs.Forms.{forms_of, kernel_of, Taken}
 
 -- ---- what is said of one kernel
 
-module _ (packs : Bool) (dictionary kernel marks : List ℕ) (said : Said) (says : Says (accepted (forms_is packs) dictionary kernel) said marks) where
+module _ (packs : Bool) (dictionary kernel marks : List ℕ) (said : Said) (says : Says (accepted (forms_of packs) dictionary kernel) said marks) where
   -- It is refused,
-  pub said_bad : (f : Refused) → said ≡ Err f → (accepted (forms_is packs) dictionary kernel ≡ bad (number f.refusal) f.offset) × (f.count ≡ None)
-  said_bad f e = says_refused (accepted (forms_is packs) dictionary kernel) said marks says f e
+  pub said_bad : (f : Refused) → said ≡ Err f → (accepted (forms_of packs) dictionary kernel ≡ bad (number f.refusal) f.offset) × (f.count ≡ None)
+  said_bad f e = says_refused (accepted (forms_of packs) dictionary kernel) said marks says f e
 
   module _ (count : ℕ) (e : said ≡ Ok count) where
     -- or accepted, with these instructions,
-    pub said_good : accepted (forms_is packs) dictionary kernel ≡ good (kernel_of packs dictionary kernel)
+    pub said_good : accepted (forms_of packs) dictionary kernel ≡ good (kernel_of packs dictionary kernel)
     unfolding kernel_of
-    said_good = (says_instrs (accepted (forms_is packs) dictionary kernel) said marks says count e).0
+    said_good = (says_instrs (accepted (forms_of packs) dictionary kernel) said marks says count e).0
 
     pub said_taken : Taken packs dictionary kernel
-    said_taken = accepted_kernel (forms_is packs) dictionary kernel (kernel_of packs dictionary kernel) said_good
+    said_taken = accepted_kernel (forms_of packs) dictionary kernel (kernel_of packs dictionary kernel) said_good
 
     -- which are so many.
     pub said_count : count ≡ length (kernel_of packs dictionary kernel)
     said_count =
         let same : verdict 0 count ≡ verdict 0 (length (kernel_of packs dictionary kernel)) =
-        ap said_is (sym e) ∙ says_answer (accepted (forms_is packs) dictionary kernel) said marks says ∙ ap paper.checked_as said_good in
+        ap said_is (sym e) ∙ says_answer (accepted (forms_of packs) dictionary kernel) said marks says ∙ ap paper.checked_as said_good in
         ap paper.count_of same
 
 -- ---- two accepted kernels, of so many instructions, of which the first `same` are the same

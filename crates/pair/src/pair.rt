@@ -8,6 +8,7 @@ ghost use Rattle.packer.specs.Forms.{kernel_of, Taken};
 use crate::common::common;
 use crate::place::place_long;
 use kernel::accept::accept;
+use kernel::forms::Forms;
 use words::answer::{Answer, Refused, accepted};
 use words::limits::{DICTIONARY_BYTES, PLACES};
 use words::refusal::Refusal;
@@ -46,7 +47,7 @@ fn with_sent(dictionary: &[u8; DICTIONARY_BYTES], long: &[u8], sent: &[u8], ours
         (accepted long_and_short dictionary.now sent.now) }
 {
     let mut marks = [0u8; PLACES];
-    match accept(false, dictionary, sent, &mut marks) {
+    match accept(Forms::LongAndShort, dictionary, sent, &mut marks) {
         Ok(theirs) => compare(dictionary, long, sent, ours, theirs),
         Err(refused) => Err(Refused {
             count: Some(long.len() as u64),
@@ -63,6 +64,6 @@ pub fn pair(dictionary: &[u8], long: &[u8], sent: &[u8]) -> Answer
         return Err(Refusal::WrongSize.into());
     };
     let mut marks = [0u8; PLACES];
-    let ours = accept(true, dictionary, long, &mut marks)?;
+    let ours = accept(Forms::LongOnly, dictionary, long, &mut marks)?;
     with_sent(dictionary, long, sent, ours)
 }

@@ -3,10 +3,8 @@ use mathlib.Core.Path.{◌≡◌}
 use Prim.Native.Nat.{ℕ}
 use Rattle.paper.specs.Placing as paper
 use Rattle.laws.specs.FloatFormula.{placed_patterns}
-use Rattle.placement.specs.declared.patterns.Record.{Record}
-use Rattle.placement.specs.declared.patterns.Spot.{Spot}
 use Rattle.placement.specs.Orders.{placed_by}
-use Rattle.placement.specs.Spots.{record_is, point_at, spot_is, unloaded, point_of, spot_of}
+use Rattle.placement.specs.Spots.{Record, Spot, record_is, point_at, spot_is, unloaded, point_of, spot_of}
 
 both : (x x' y y' : ℕ) → x ≡ x' → y ≡ y' → point_at x y ≡ point_at x' y'
 both x x' y y' p q = λ i. point_at (p i) (q i)

@@ -3,10 +3,16 @@ use Rattle.std.specs.Prelude.{List, ◌++◌, ℕ}
 use Rattle.paper.specs.Bits.{bytes_of}
 use Rattle.paper.specs.Single.{float, pattern}
 use Rattle.paper.specs.Placing as paper
-use Rattle.placement.specs.declared.Placement.{Placement}
-use Rattle.placement.specs.declared.Point.{Point}
-use Rattle.placement.specs.declared.patterns.Record.{Record}
-use Rattle.placement.specs.declared.patterns.Spot.{Spot}
+use Rattle.placement.specs.declared.Six.{Six}
+use Rattle.placement.specs.declared.Two.{Two}
+use Rattle.placement.specs.Orders.{Placement, Point}
+
+-- A placement by its patterns, and a point by its patterns.
+abbrev pub Record : Type 0
+Record = Six ℕ
+
+abbrev pub Spot : Type 0
+Spot = Two ℕ
 
 -- ---- in the paper's terms
 

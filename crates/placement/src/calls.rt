@@ -5,9 +5,9 @@ ghost use Rattle.paper.specs.Placing.{record_bytes, placement_of, point_bytes, p
 ghost use Rattle.words.specs.Answer.{Wrote};
 ghost use Rattle.placement.specs.Spots.{record_is, spot_is, point_at, loaded_from, six_bytes};
 
-use crate::Placement;
 use crate::fixed::KERNEL;
-use crate::patterns::{Record, Spot, answer_spot, load};
+use crate::patterns::{Record, Spot, answer_spot};
+use crate::{Placement, Six, Two};
 use numbers::write;
 use short::calls::deliver;
 use words::answer::{Answer, accepted};
@@ -40,7 +40,7 @@ fn record_of(bytes: &[u8]) -> Record
     let d = float_at(bytes, 12);
     let e = float_at(bytes, 16);
     let f = float_at(bytes, 20);
-    Record { a, b, c, d, e, f }
+    Six { a, b, c, d, e, f }
 }
 
 // The bytes of a point's two patterns.
@@ -63,7 +63,7 @@ pub fn place(order: u64, bytes: &[u8], x: u32, y: u32, out: &mut [u8]) -> Answer
     if order >= 3 {
         return Err(Refusal::NotServed.into());
     }
-    let answered = answer_spot(order, record_of(bytes), Spot { x, y });
+    let answered = answer_spot(order, record_of(bytes), Two { x, y });
     deliver(out, &point_bytes(answered))
 }
 
@@ -110,5 +110,5 @@ fn bytes_of(k: Record) -> [u8; RECORD_BYTES]
 pub fn load_placement(p: Placement, registers: &mut [u8]) -> Answer
     ensures { Wrote (place_load_call (six_bytes (loaded_from p)) registers.old) result registers.new }
 {
-    place_load(&bytes_of(load(p)), registers)
+    place_load(&bytes_of(p.to_bits()), registers)
 }

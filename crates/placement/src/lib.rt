@@ -8,25 +8,31 @@ pub mod patterns;
 ghost use Rattle.std.specs.Prelude.{◌≡◌};
 ghost use Rattle.placement.specs.Orders.{placed_by, answered};
 
+// Six numbers of a kind: a, b and c of x, d, e and f of y.
+#[derive(Clone, Copy)]
+pub struct Six<T: Copy> {
+    pub a: T,
+    pub b: T,
+    pub c: T,
+    pub d: T,
+    pub e: T,
+    pub f: T,
+}
+
+// Two numbers of a kind, x and y.
+#[derive(Clone, Copy)]
+pub struct Two<T: Copy> {
+    pub x: T,
+    pub y: T,
+}
+
 // Six single floats: a·x + b·y + c and d·x + e·y + f.
-#[derive(Clone, Copy)]
-pub struct Placement {
-    pub a: f32,
-    pub b: f32,
-    pub c: f32,
-    pub d: f32,
-    pub e: f32,
-    pub f: f32,
-}
+pub type Placement = Six<f32>;
 
-// Where something is.
-#[derive(Clone, Copy)]
-pub struct Point {
-    pub x: f32,
-    pub y: f32,
-}
+// Where something is, on floats.
+pub type Point = Two<f32>;
 
-// Keep, shift by c and f, or place by a full record.
+// Keep, shift by c and f, or place by a full record: three cases, of which none is the lack of a value.
 #[derive(Clone, Copy)]
 pub enum Order {
     Keep,
@@ -38,7 +44,7 @@ pub enum Order {
 pub fn placed(p: Placement, x: f32, y: f32) -> Point
     ensures { result ≡ placed_by p x y }
 {
-    Point {
+    Two {
         x: p.a * x + p.b * y + p.c,
         y: p.d * x + p.e * y + p.f,
     }
@@ -49,8 +55,8 @@ pub fn answer(order: Order, x: f32, y: f32) -> Point
     ensures { result ≡ answered order x y }
 {
     match order {
-        Order::Keep => Point { x, y },
-        Order::Shift(c, f) => Point { x: x + c, y: y + f },
+        Order::Keep => Two { x, y },
+        Order::Shift(c, f) => Two { x: x + c, y: y + f },
         Order::Place(p) => placed(p, x, y),
     }
 }

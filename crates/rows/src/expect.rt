@@ -19,12 +19,12 @@ pub enum Outcome {
 const NOTHING: u64 = 0x1_0000_0000;
 
 // A number was found where another, or the same, was asked for.
-pub fn compared(found: Option<u64>, asked: u32) -> Outcome
+pub fn compared(found: Option<u64>, asked: u64) -> Outcome
     ensures { result ≡ outcome_of found asked }
 {
     match found {
         None => Outcome::Found(NOTHING),
-        Some(found) if found == u64::from(asked) => Outcome::Right,
+        Some(found) if found == asked => Outcome::Right,
         Some(found) => Outcome::Found(found),
     }
 }
@@ -58,7 +58,7 @@ pub fn expected(desk: &Desk, expectation: Expectation) -> Outcome {
             seen(number_at::<4>(&desk.board[..OUTPUT], at as usize), value)
         }
         Expectation::Stands { at, value } => {
-            compared(number_at::<2>(&desk.state, at as usize), value)
+            compared(number_at::<2>(&desk.state, at as usize), u64::from(value))
         }
     }
 }
@@ -68,5 +68,5 @@ fn seen(found: Option<u64>, asked: u32) -> Outcome {
     if found.is_none() {
         return Outcome::Unasked;
     }
-    compared(found, asked)
+    compared(found, u64::from(asked))
 }

@@ -14,7 +14,7 @@ use Rattle.paper.specs.Machine.{stops, or_spent, step, run}
 use Rattle.laws.specs.Runs.{more, run-zero, run_on}
 use Rattle.paper.specs.Store.{Store}
 use Rattle.paper.specs.State.{addresses_in, state_of, state_legal, state_lands, waits_land, all_three, channels_in, state_bytes}
-use Rattle.paper.specs.Calls.{refusal, sized, judged_kernel, accepted, Changed, unchanged, all_sized, on_state, stopped_as, stepped_as, step_call, ran_as, run_call}
+use Rattle.paper.specs.Calls.{sized, judged_kernel, accepted, Changed, unchanged, all_sized, on_state, stopped_as, stepped_as, step_call, ran_as, run_call}
 use Rattle.laws.specs.Same.{state_names}
 use Rattle.laws.specs.Lasting.{lands_before}
 use Rattle.laws.specs.Demands.{Ready, run_ready, step_ready}

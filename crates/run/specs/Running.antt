@@ -17,7 +17,7 @@ use Rattle.laws.specs.Places.{jump_lands_lem, place_lands}
 use Rattle.laws.specs.Lasting.{Lasting, names_lands, lands_before, step_lasting}
 use Rattle.machine.specs.declared.step.Stand.{Stand}
 use Rattle.machine.specs.Branches.{Within}
-use Rattle.machine.specs.Steps.{Shows, Sound}
+use Rattle.machine.specs.Steps.{Shows}
 
 -- An instruction that starts at place p of a kernel: it passes the judge, and lies before the kernel's end.
 pub record Passes (k : List Instr) (p : ℕ) (i : Instr) : Type 0 where
@@ -93,13 +93,6 @@ module _ (k : List Instr) (registers addresses here : List ℕ) (s : Stand) (t :
 
   pub running_addresses : length addresses ≡ address_bytes
   running_addresses = ap length (sym running_a0) ∙ r.lasts.holding.store.addresses
-
-  pub running_sound : Sound s
-  running_sound =
-      record {
-        flag0 = rw (ap (λ (st : Store). st.flag0) r.shows.store) r.lasts.holding.store.flag0;
-        flag1 = rw (ap (λ (st : Store). st.flag1) r.shows.store) r.lasts.holding.store.flag1;
-      }
 
   -- The place is one of the kernel's.
   pub running_lands : lands k s.place ≡ true

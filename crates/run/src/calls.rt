@@ -10,6 +10,7 @@ use crate::call::Call;
 use crate::lawful::made_lawful;
 use crate::legal::is_legal;
 use kernel::accept::{accept, sized};
+use kernel::forms::Forms;
 use words::answer::{Answer, Refused};
 use words::limits::{BUDGET_LIMIT, DICTIONARY_BYTES, PLACES, REGISTER_BYTES, STATE_LENGTH};
 use words::refusal::Refusal;
@@ -24,7 +25,7 @@ fn admit(
     requires { sized dictionary.now kernel.now ≡ true }
     ensures { (registers : List ℕ) → Admits dictionary.now kernel.now registers state.now marks.new result }
 {
-    accept(false, dictionary, kernel, marks)?;
+    accept(Forms::LongAndShort, dictionary, kernel, marks)?;
     if !is_legal(marks, state) {
         return Err(Refusal::BadState.into());
     }

@@ -55,11 +55,11 @@ pub(crate) fn looked_at(desk: &Desk, look: Look) -> Outcome {
     match look {
         Look::Part { place, at, value } => {
             let held = part(desk.dictionary(), desk.kernel(), u64::from(place));
-            compared(number_at::<4>(held, at as usize), value)
+            compared(number_at::<4>(held, at as usize), u64::from(value))
         }
         Look::Loads { at, value } => {
             let held = load(desk.dictionary(), desk.kernel(), desk.output());
-            compared(number_at::<4>(held, at as usize), value)
+            compared(number_at::<4>(held, at as usize), u64::from(value))
         }
     }
 }

@@ -9,5 +9,5 @@ pub returns : goal.returns
 returns c =
     λ results e.
     let made = flag_from_lem (to_word c.args.w) c.chosen.result c.args.enable _ _ _ _ _ results c.channels-n.ensures.0 c.qtr_ctrl-quarter.ensures.0
-    (e ∙ ap (lowest_bits results) (sym c.channels-n.ensures.0)) c.raised_mask-found.ensures c.flag_after-flag.ensures.0 in
+    (e ∙ ap (lowest_bits results) (sym c.channels-n.ensures.0)) c.raised_mask-found.ensures c.flag_after-flag.ensures in
     rw (← c.chosen.ensures, ← made) c.with_chosen.ensures

@@ -11,10 +11,10 @@ pub returns-then-exec_size-eq0 : goal.returns-then-exec_size-eq0
 returns-then-exec_size-eq0 c =
     let p = plain_is c.args.p in
     let w = to_word c.args.w in
-    record { by_index = λ addresses. (c.execute_one.ensures.by_index addresses, addresses_still p w (awake_list c.args.awake) (store_of c.args.registers.now c.args.flags addresses) (not-destination p w c.requires.counting.1)); by_index_2 = c.execute_one.ensures.by_index_2; flag0_bound = c.execute_one.ensures.flag0_bound }
+    record { by_index = λ addresses. (c.execute_one.ensures.by_index addresses, addresses_still p w (awake_list c.args.awake) (store_of c.args.registers.now c.args.flags addresses) (not-destination p w c.requires.1)); by_index_2 = c.execute_one.ensures.by_index_2 }
 
 pub returns-else-exec_size-eq0 : goal.returns-else-exec_size-eq0
 returns-else-exec_size-eq0 c =
     let p = plain_is c.args.p in
     let w = to_word c.args.w in
-    record { by_index = λ addresses. (c.execute_many.ensures.by_index addresses, addresses_still p w (awake_list c.args.awake) (store_of c.args.registers.now c.args.flags addresses) (not-destination p w c.requires.counting.1)); by_index_2 = c.execute_many.ensures.by_index_2; flag0_bound = c.execute_many.ensures.flag0_bound }
+    record { by_index = λ addresses. (c.execute_many.ensures.by_index addresses, addresses_still p w (awake_list c.args.awake) (store_of c.args.registers.now c.args.flags addresses) (not-destination p w c.requires.1)); by_index_2 = c.execute_many.ensures.by_index_2 }

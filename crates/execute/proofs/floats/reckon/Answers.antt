@@ -6,15 +6,15 @@ use Rattle.words.specs.Words.{to_word}
 use Rattle.lanes.specs.Masks.{awake_list, quarter_mask}
 use Rattle.execute.specs.Stores.{store_of}
 use Rattle.execute.specs.Readable.{legal_writable, not-destination, float_registers, float_destination}
-use Rattle.execute.proofs.Executed.{Made, direct_registers, direct_flags, direct_less, addresses_still}
+use Rattle.execute.proofs.Executed.{Made, direct_registers, direct_flags, addresses_still}
 use Rattle.execute.proofs.floats.reckon.Goals as goal
 
 pub write_floats-requires : goal.write_floats-requires
 write_floats-requires c =
     let p = plain_is c.args.p in
     let w = to_word c.args.w in
-    let direct = not-destination p w (float_registers p w c.requires.reckoning) in
-    (legal_writable p w c.requires.reckoning.acting, c.told-registers ∙ ap bytes_in (sym direct), direct, float_destination p w c.requires.reckoning)
+    let direct = not-destination p w (float_registers p w c.requires) in
+    (legal_writable p w c.requires.acting, c.told-registers ∙ ap bytes_in (sym direct), direct, float_destination p w c.requires)
 
 pub returns : goal.returns
 returns c =
@@ -32,12 +32,11 @@ returns c =
       own-enables = c.quarter_mask.ensures;
       makes = c.float_results.ensures (quarter_mask predicate quarter);
     } in
-    let legal = c.requires.reckoning.acting in
-    let none = float_registers p w c.requires.reckoning in record {
+    let legal = c.requires.acting in
+    let none = float_registers p w c.requires in record {
       by_index = λ addresses. (
         direct_registers p w c.args.awake registers c.args.flags _ _ _ _ _ _ legal none made _ c.write_floats.ensures addresses,
         addresses_still p w (awake_list c.args.awake) (store_of registers c.args.flags addresses) (not-destination p w none),
       );
       by_index_2 = direct_flags p w c.args.awake registers c.args.flags _ _ _ _ _ _ legal none made _ c.float_flags.ensures;
-      flag0_bound = direct_less p w c.args.awake registers c.args.flags _ _ _ _ _ _ legal none made _ c.float_flags.ensures c.told-registers c.requires.awake_bound.1 c.requires.awake_bound.2;
     }

@@ -8,16 +8,16 @@ use Rattle.words.specs.Words.{to_word}
 use Rattle.words.specs.Operations.{plain_is}
 use Rattle.operands.specs.Single.{alone}
 use Rattle.execute.specs.Readable.{not-destination, not_source, legal_writable}
-use Rattle.execute.proofs.Executed.{Made, direct_registers, direct_flags, direct_less}
+use Rattle.execute.proofs.Executed.{Made, direct_registers, direct_flags}
 use Rattle.execute.proofs.one.execute_one.Goals as goal
 
 pub result_of-v-requires : goal.result_of-v-requires
 result_of-v-requires c =
-    (c.requires.counting.0, (c.told-registers ∙ ap bytes_in (sym (not_source (plain_is c.args.p) (to_word c.args.w) c.requires.counting.1 src0 (first_source (plain_is c.args.p))))), c.requires.counting.2, c.requires.counting.1)
+    (c.requires.0, (c.told-registers ∙ ap bytes_in (sym (not_source (plain_is c.args.p) (to_word c.args.w) c.requires.1 src0 (first_source (plain_is c.args.p))))), c.requires.2, c.requires.1)
 
 pub store-requires : goal.store-requires
 store-requires c =
-    (legal_writable (plain_is c.args.p) (to_word c.args.w) c.requires.counting.0.acting, (c.told-registers ∙ ap bytes_in (sym (not-destination (plain_is c.args.p) (to_word c.args.w) c.requires.counting.1))), c.requires.counting.2, not-destination (plain_is c.args.p) (to_word c.args.w) c.requires.counting.1)
+    (legal_writable (plain_is c.args.p) (to_word c.args.w) c.requires.0.acting, (c.told-registers ∙ ap bytes_in (sym (not-destination (plain_is c.args.p) (to_word c.args.w) c.requires.1))), c.requires.2, not-destination (plain_is c.args.p) (to_word c.args.w) c.requires.1)
 
 pub returns : goal.returns
 returns c =
@@ -32,4 +32,4 @@ returns c =
       own-holds = c.quarter_mask.ensures;
       own-enables = c.quarter_mask-2.ensures;
       makes = c.result_of-v.ensures;
-    } in record { by_index = direct_registers p w c.args.awake registers c.args.flags _ _ _ _ _ _ c.requires.counting.0.acting c.requires.counting.1 made _ c.store.ensures; by_index_2 = direct_flags p w c.args.awake registers c.args.flags _ _ _ _ _ _ c.requires.counting.0.acting c.requires.counting.1 made _ c.flags_of_one.ensures; flag0_bound = direct_less p w c.args.awake registers c.args.flags _ _ _ _ _ _ c.requires.counting.0.acting c.requires.counting.1 made _ c.flags_of_one.ensures c.told-registers c.requires.awake_bound.1 c.requires.awake_bound.2 }
+    } in record { by_index = direct_registers p w c.args.awake registers c.args.flags _ _ _ _ _ _ c.requires.0.acting c.requires.1 made _ c.store.ensures; by_index_2 = direct_flags p w c.args.awake registers c.args.flags _ _ _ _ _ _ c.requires.0.acting c.requires.1 made _ c.flags_of_one.ensures }

@@ -11,8 +11,8 @@ returns-then-not-is_listed c = sym (short_unlisted _ _ _ (sym (c.is_listed.ensur
 pub returns-then-is_branch : goal.returns-then-is_branch
 returns-then-is_branch c = sym (short_branch _ _ _ (sym (c.is_listed.ensures ∙ ap is_listed c.operation_in.ensures) ∙ c.if-not-is_listed.false) (sym (c.is_branch.ensures ∙ ap is_branch c.operation_in-2.ensures) ∙ c.if-is_branch.true))
 
-pub returns-then-long : goal.returns-then-long
-returns-then-long c = sym (short_untaken _ _ _ (sym (c.is_listed.ensures ∙ ap is_listed c.operation_in.ensures) ∙ c.if-not-is_listed.false) (sym (c.is_branch.ensures ∙ ap is_branch c.operation_in-2.ensures) ∙ c.if-is_branch.false) (rw c.if-long.true))
+pub returns-in-LongOnly : goal.returns-in-LongOnly
+returns-in-LongOnly c = sym (short_untaken _ _ _ (sym (c.is_listed.ensures ∙ ap is_listed c.operation_in.ensures) ∙ c.if-not-is_listed.false) (sym (c.is_branch.ensures ∙ ap is_branch c.operation_in-2.ensures) ∙ c.if-is_branch.false) (rw c.in-LongOnly.is))
 
-pub returns : goal.returns
-returns c = c.judge_word.ensures ∙ ap (judge_word 1) c.expand-w.ensures ∙ sym (short_taken _ _ _ (sym (c.is_listed.ensures ∙ ap is_listed c.operation_in.ensures) ∙ c.if-not-is_listed.false) (sym (c.is_branch.ensures ∙ ap is_branch c.operation_in-2.ensures) ∙ c.if-is_branch.false) (rw c.if-long.false))
+pub returns-in-LongAndShort : goal.returns-in-LongAndShort
+returns-in-LongAndShort c = c.judge_word.ensures ∙ ap (judge_word 1) c.expand.ensures ∙ sym (short_taken _ _ _ (sym (c.is_listed.ensures ∙ ap is_listed c.operation_in.ensures) ∙ c.if-not-is_listed.false) (sym (c.is_branch.ensures ∙ ap is_branch c.operation_in-2.ensures) ∙ c.if-is_branch.false) (rw c.in-LongAndShort.is))

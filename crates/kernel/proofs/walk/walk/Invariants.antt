@@ -16,7 +16,7 @@ invariant-loop-from l =
     (l.from ≤ length l.kernel)
     × (l.count ≤ instruction_limit)
     × (length l.marks ≡ place_count)
-    × Leads (judge_at (forms_is l.long) (dictionary_of l.dictionary) l.kernel) (length l.kernel) l.from l.count l.marks (parse (forms_is l.long) (dictionary_of l.dictionary) l.kernel)
+    × Leads (judge_at (forms_is l.forms) (dictionary_of l.dictionary) l.kernel) (length l.kernel) l.from l.count l.marks (parse (forms_is l.forms) (dictionary_of l.dictionary) l.kernel)
 
 abbrev pub decreases-loop-from : goal.decreases-loop-from
 decreases-loop-from l = length l.kernel - l.from

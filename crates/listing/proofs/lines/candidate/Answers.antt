@@ -12,4 +12,4 @@ returns c =
     let a = c.args in
     let v = c.width in
     let z = c.size_in-size in
-    candidate_by a.text.now a.place a.from _ _ _ _ (omega (arith, v.ensures.0)) z.ensures.0 refl c.word_in-word.ensures
+    record { stands = refl; value = candidate_by a.text.now a.place a.from _ _ _ _ (omega (arith, v.ensures.0)) z.ensures.0 refl c.word_in-word.ensures }

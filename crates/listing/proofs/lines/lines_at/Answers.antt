@@ -1,16 +1,11 @@
 -- The candidate's lines are written, and are looked for; then it is seen whether it can be read. Assumes nothing.
-use mathlib.Core.Path.{◌≡◌, sym, ap, ◌∙◌}
-use Prim.Native.Nat.{ℕ, ◌+◌, ◌≤◌}
+use mathlib.Core.Path.{sym}
+use Prim.Native.Nat.{◌+◌, ◌≤◌}
 use native.Mathlib.Omega.{arith}
-use lib.ListN.{length, drop}
-use mathlib.Core.List.{List}
-use lib.ListN.{replicate}
+use lib.ListN.{length}
 use lib.Seq.{length-take-le}
 use Rattle.paper.specs.Dictionary.{dictionary_of}
-use Rattle.paper.specs.Text.{found}
 use Rattle.paper.specs.Listing.{instr_text}
-use Rattle.text.specs.Meaning.{found_is}
-use Rattle.text.specs.Reading.{stored_first}
 use Rattle.words.specs.Words.{to_word}
 use Rattle.kernel.specs.Jumps.{instr_of}
 use Rattle.listing.specs.Reading.{lines_fit, looked, instr_whole, instr_unread, instr_some, instr_refused}
@@ -60,8 +55,8 @@ returns-in_err-ok c =
     let D = dictionary_of a.dictionary.now in
     let size = g.result.size in
     let w = to_word g.result.word in
-    let f = looked D a.text.now a.place a.from size w g.ensures p.new.out p.result _ c.ranges.place.fits p.ensures.0 p.ensures.1 c.find.ensures in
-    rw c.from_residual.ensures (instr_unread D a.text.now a.place a.from size w g.ensures _ c.in_err-ok.ensures.variant f)
+    let f = looked D a.text.now a.place a.from size w g.ensures.value p.new.out p.result _ c.ranges.place.fits p.ensures.0 p.ensures.1 c.find.ensures in
+    rw c.from_residual.ensures (instr_unread D a.text.now a.place a.from size w g.ensures.value _ c.in_err-ok.ensures.variant f)
 
 pub returns-then-not-is_taken : goal.returns-then-not-is_taken
 returns-then-not-is_taken c =
@@ -71,8 +66,8 @@ returns-then-not-is_taken c =
     let D = dictionary_of a.dictionary.now in
     let size = g.result.size in
     let w = to_word g.result.word in
-    let f = looked D a.text.now a.place a.from size w g.ensures p.new.out p.result _ c.ranges.place.fits p.ensures.0 p.ensures.1 c.find.ensures in
-    instr_refused D a.text.now a.place a.from size w g.ensures (instr_whole D a.text.now a.place a.from size w g.ensures _ c.in_ok-ok.ensures.variant f) (sym (c.if-not-is_taken.ensures a.place))
+    let f = looked D a.text.now a.place a.from size w g.ensures.value p.new.out p.result _ c.ranges.place.fits p.ensures.0 p.ensures.1 c.find.ensures in
+    instr_refused D a.text.now a.place a.from size w g.ensures.value (instr_whole D a.text.now a.place a.from size w g.ensures.value _ c.in_ok-ok.ensures.variant f) (sym (c.if-not-is_taken.ensures a.place))
 
 pub returns : goal.returns
 returns c =
@@ -82,5 +77,5 @@ returns c =
     let D = dictionary_of a.dictionary.now in
     let size = g.result.size in
     let w = to_word g.result.word in
-    let f = looked D a.text.now a.place a.from size w g.ensures p.new.out p.result _ c.ranges.place.fits p.ensures.0 p.ensures.1 c.find.ensures in
-    (instr_some D a.text.now a.place a.from size w g.ensures (instr_whole D a.text.now a.place a.from size w g.ensures _ c.in_ok-ok.ensures.variant f) (sym (c.if-not-is_taken.ensures a.place)), omega (arith, p.ensures.0))
+    let f = looked D a.text.now a.place a.from size w g.ensures.value p.new.out p.result _ c.ranges.place.fits p.ensures.0 p.ensures.1 c.find.ensures in
+    rw g.ensures.stands (instr_some D a.text.now a.place a.from size w g.ensures.value (instr_whole D a.text.now a.place a.from size w g.ensures.value _ c.in_ok-ok.ensures.variant f) (sym (c.if-not-is_taken.ensures a.place)), omega (arith, p.ensures.0))

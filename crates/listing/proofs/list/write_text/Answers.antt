@@ -1,52 +1,39 @@
--- The loop's invariant: the lines of the instructions before `place` are written before `at`. The measure is what is left of the kernel. Assumes nothing.
-use mathlib.Core.Path.{refl, ◌∙◌}
+-- The next instruction's lines are written after those before it. Assumes nothing.
+use mathlib.Core.Path.{◌≡◌, refl, ◌∙◌}
 use native.Mathlib.Omega.{arith}
-use borrow.Author.Rules.{rules}
-use Rattle.listing.specs.Passing.{next_whole, writing_start, writing_end}
-use Rattle.listing.specs.Places.{writing_inside, room_place, writing_place}
+use Rattle.kernel.specs.Reading.{stands_filled}
+use Rattle.kernel.specs.Instructions.{Over, comes, ends}
+use Rattle.listing.specs.Passing.{writing_start, writing_room, writing_next, writing_end}
 use Rattle.listing.proofs.list.write_text.Goals as goal
 
-pub loop-place-init : goal.loop-place-init
-loop-place-init c = (search rules, refl, writing_start _ _ _ c.requires.listable)
+pub of-i-items-requires : goal.of-i-items-requires
+of-i-items-requires c =
+    let k = c.requires.listable in record { bounded = k.sizes.kernel-most; whole = stands_filled _ _ _ _ k.stands }
 
-pub overflow_mul-place : goal.overflow_mul-place
-overflow_mul-place c =
-    let k = c.requires.listable in
-    omega (arith, c.loop-place.invariant.0, k.sizes.kernel-most)
-
-pub read_at-f-requires : goal.read_at-f-requires
-read_at-f-requires c =
-    let i = c.loop-place.invariant.2 in
-    next_whole _ _ _ i.rest i.stands c.loop-place-test.true
+pub loop-i-init : goal.loop-i-init
+loop-i-init c =
+    let start : Over c.args.dictionary.now c.args.kernel.now c.into_iter-i-iterator.result × (c.into_iter-i-iterator.result.from ≡ 0) =
+    rw c.into_iter-i-iterator.ensures.into_iter_gives c.of-i-items.ensures.over in
+    (start.0, refl, rw start.1 (writing_start _ _ _ c.requires.listable))
 
 pub put_lines-at-requires : goal.put_lines-at-requires
 put_lines-at-requires c =
-    let l = c.loop-place.invariant in
-    let t = c.loop-place-test.true in
-    let f = c.read_at-f.ensures in
-    room_place _ _ _ t _ _ f _ _ _ l.2 (omega (arith, l.1, c.requires.kernel_in_bounds))
+    let i = c.loop-i.invariant in
+    let g = comes c.loop-i.i-iterator i.0 c.in-Some.i c.next.new.self c.in-Some.ensures.steps in
+    rw g.place-is (writing_room _ _ _ _ _ _ i.2 g.inside _ _ g.fetched (omega (arith, i.1, c.requires.kernel_in_bounds)))
 
-pub overflow_add-place : goal.overflow_add-place
-overflow_add-place c =
-    let k = c.requires.listable in
-    let f = c.read_at-f.ensures in
-    omega (arith, c.loop-place-test.true, f.few, k.sizes.kernel-most)
-
-pub loop-place-smaller : goal.loop-place-smaller
-loop-place-smaller c =
-    let f = c.read_at-f.ensures in
-    omega (arith, c.loop-place-test.true, f.some)
-
-pub loop-place-preserved : goal.loop-place-preserved
-loop-place-preserved c =
-    let l = c.loop-place.invariant in
-    let t = c.loop-place-test.true in
-    let f = c.read_at-f.ensures in
+pub loop-i-preserved : goal.loop-i-preserved
+loop-i-preserved c =
+    let i = c.loop-i.invariant in
+    let g = comes c.loop-i.i-iterator i.0 c.in-Some.i c.next.new.self c.in-Some.ensures.steps in
     let p = c.put_lines-at in
-    (writing_inside _ _ _ t _ _ f _ _ _ l.2, p.auto.out ∙ l.1, writing_place _ _ _ t _ _ f _ _ _ l.2 _ _ p.ensures.0 p.ensures.1)
+    let e = rw g.place-is at p.ensures in
+    (g.over, p.auto.out ∙ i.1, rw g.next (writing_next _ _ _ _ _ _ i.2 g.inside _ _ g.fetched _ _ e.0 e.1))
 
 pub shape_of-out : goal.shape_of-out
-shape_of-out c = c.loop-place.invariant.1
+shape_of-out c = c.loop-i.invariant.1
 
 pub returns : goal.returns
-returns c = writing_end _ _ _ _ _ _ c.loop-place.invariant.2 c.loop-place-test.false
+returns c =
+    let i = c.loop-i.invariant in
+    writing_end _ _ _ _ _ _ i.2 (ends c.loop-i.i-iterator i.0 c.next.new.self c.in-None.ensures.steps)

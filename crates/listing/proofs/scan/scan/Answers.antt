@@ -18,7 +18,8 @@ returns-then-count-eq-INSTRUCTION_LIMIT c =
 
 pub lines_at-requires : goal.lines_at-requires
 lines_at-requires c =
-    c.loop-from.invariant.0
+    let l = c.loop-from in
+    record { inside = l.invariant.0; near = omega (arith, c.if-count-eq-INSTRUCTION_LIMIT.false, l.invariant.1, l.invariant.2) }
 
 pub returns-in-None : goal.returns-in-None
 returns-in-None c =

@@ -17,5 +17,4 @@ pub returns : goal.returns
 returns c =
     let e = c.read_state-s.ensures in
     let p = c.post_all.ensures in
-    let h = e.1 c.requires.0 in
-    record { by_index_2 = enter_shows _ _ _ _ e.0 refl refl refl p.0; flag0_bound = (h.flag0, h.flag1, p.1) }
+    record { by_index_2 = enter_shows _ _ _ _ e.0 refl refl refl p.0; here_length = p.1 }

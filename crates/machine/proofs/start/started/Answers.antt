@@ -9,7 +9,7 @@ pub returns : goal.returns
 returns c =
     let mask = c.args.mask in (
       (λ registers. λ i. record {
-        store = record { registers = registers; flag0 = c.from.ensures i; flag1 = c.from-2.ensures i; addresses = replicate 16 0 };
+        store = record { registers = registers; flag0 = c.args.flag0; flag1 = c.args.flag1; addresses = replicate 16 0 };
         channels = start_channels_lem mask i;
         place = 0;
       }),

@@ -16,6 +16,6 @@ returns-clause-by_index c =
     let after = c.reckon-flags.ensures in
     λ addresses t shows.
     rw (c.requires.w_value.0, ← shows.store)
-    (pass_shown _ _ _ _ addresses _ (step_shown a.registers.now addresses a.here.now a.s t shows c.requires.sound.1 _ _ (c.from.ensures ∙ e.0) e.1) (sym c.from.ensures)
+    (pass_shown _ _ _ _ addresses _ (step_shown a.registers.now addresses a.here.now a.s t shows c.requires.place_inside _ _ (c.from.ensures ∙ e.0) e.1) (sym c.from.ensures)
     (plain_is a.p) (to_word a.w) (ways_is a.ways) (store_of a.registers.now a.s.flags addresses) c.requires.w_value.0 c.requires.w_value.1.acting refl
     (after.by_index addresses) (after.by_index_2 addresses))

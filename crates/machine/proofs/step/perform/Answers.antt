@@ -12,8 +12,8 @@ use Rattle.machine.specs.Branches.{ways_is}
 use Rattle.machine.specs.Steps.{pass_shown, idle_shown, branch_shown, predicate_less, nop_idle, unlisted_idle}
 use Rattle.machine.proofs.step.perform.Goals as goal
 
-pub execute-flags-requires-clause-counting : goal.execute-flags-requires-clause-counting
-execute-flags-requires-clause-counting c = c.requires.o_value.1 _ (sym c.requires.o_value.0 ∙ ap operation_is c.in-Makes.is)
+pub execute-flags-requires : goal.execute-flags-requires
+execute-flags-requires c = c.requires.o_value.1 _ (sym c.requires.o_value.0 ∙ ap operation_is c.in-Makes.is)
 
 pub overflow_cast-voted : goal.overflow_cast-voted
 overflow_cast-voted c =

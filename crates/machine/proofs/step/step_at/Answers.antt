@@ -10,4 +10,4 @@ returns-clause-by_index c =
     let e = c.rouse-up.ensures in
     λ addresses t shows.
     rw (← (c.operation_here-o.ensures ∙ ap operation_of c.opcode.ensures.0), ← shows.store)
-    (c.perform.ensures.by_index addresses _ (step_shown a.registers.now addresses a.here.now a.s t shows c.requires.sound.1 _ _ e.0 e.1))
+    (c.perform.ensures.by_index addresses _ (step_shown a.registers.now addresses a.here.now a.s t shows c.requires.place_inside _ _ e.0 e.1))

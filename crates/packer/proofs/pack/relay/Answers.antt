@@ -14,14 +14,14 @@ pub returns-in_err-accept : goal.returns-in_err-accept
 returns-in_err-accept c =
     let a = c.args in
     let p = err_from_is_err_and c.from_residual.result c.from_residual.ensures.1 in
-    rw (p.1, p.2, ← c.in-Some.ensures.cases.same) (call_refused a.packs c.in-Some.dictionary.now a.kernel.now _ _ c.accept.ensures _ c.in_err-accept.was _)
+    rw (p.1, p.2, ← c.in-Some.ensures.cases.same) (call_refused a.packs c.in-Some.dictionary.now a.kernel.now _ _ (rw c.taken.ensures at c.accept.ensures) _ c.in_err-accept.was _)
 
 pub lay_out-requires : goal.lay_out-requires
-lay_out-requires c = call_taken _ _ _ _ _ c.accept.ensures _ c.in_ok-accept.was
+lay_out-requires c = call_taken _ _ _ _ _ (rw c.taken.ensures at c.accept.ensures) _ c.in_ok-accept.was
 
 pub returns : goal.returns
 returns c =
     let a = c.args in
     let w = c.lay_out in
     rw (← c.in-Some.ensures.cases.same)
-    (call_laid a.packs c.in-Some.dictionary.now a.kernel.now _ _ c.accept.ensures _ c.in_ok-accept.was w.result a.out.now _ w.ensures)
+    (call_laid a.packs c.in-Some.dictionary.now a.kernel.now _ _ (rw c.taken.ensures at c.accept.ensures) _ c.in_ok-accept.was w.result a.out.now _ w.ensures)

@@ -3,9 +3,8 @@ use mathlib.Core.Path.{◌∙◌, sym, ap}
 use borrow.Author.Tests.{ne_eqb}
 use Rattle.paper.specs.Single.{float}
 use Rattle.paper.specs.Placing.{order_of}
-use Rattle.placement.specs.declared.Placement.{Placement}
 use Rattle.placement.specs.declared.Order.TheVariants.{Shift, Place}
-use Rattle.placement.specs.Orders.{answered}
+use Rattle.placement.specs.Orders.{Placement, answered}
 use Rattle.placement.specs.Spots.{spot_is, spot_of}
 use Rattle.placement.proofs.SameBits.{same_patterns}
 use Rattle.placement.proofs.patterns.answer_spot.Goals as goal
@@ -21,7 +20,7 @@ returns-in-1 c =
     rw c.in-1.is
     (ap spot_is
     (c.answer_bits.ensures
-    ∙ ap (λ (p : Placement). spot_of (answered (Shift p.c p.f) (float at.x) (float at.y))) c.unload-p.ensures))
+    ∙ ap (λ (p : Placement). spot_of (answered (Shift p.c p.f) (float at.x) (float at.y))) c.from_bits-p.ensures))
 
 pub returns-in_default : goal.returns-in_default
 unfolding order_of
@@ -32,5 +31,5 @@ returns-in_default c =
     simp (ne_eqb _ _ r.1, ne_eqb _ _ r.0.1)
     (ap spot_is
     (c.answer_bits-in_default.ensures
-    ∙ ap (λ (p : Placement). spot_of (answered (Place p) (float at.x) (float at.y))) c.unload.ensures)
+    ∙ ap (λ (p : Placement). spot_of (answered (Place p) (float at.x) (float at.y))) c.from_bits.ensures)
     ∙ sym (same_patterns args.k at))

@@ -3,7 +3,7 @@ use mathlib.Core.Path.{refl, sym, ◌∙◌}
 use native.Mathlib.Omega.{arith}
 use Rattle.paper.specs.Machine.{step}
 use Rattle.run.specs.Acting.{acts_by}
-use Rattle.run.specs.Running.{running_addresses, running_a0, running_sound, running_place, running_end, running_spent, running_made}
+use Rattle.run.specs.Running.{running_addresses, running_a0, running_place, running_end, running_spent, running_made}
 use Rattle.run.specs.Tables.{row_there, row_away, row_steps, row_usual}
 use Rattle.run.specs.Outcomes.{leads_start, leads_on, leads_spent, leads_stopped, leads_end}
 use Rattle.run.proofs.running.run_on.Goals as goal
@@ -45,7 +45,7 @@ step_at-s-requires c =
     let i = c.loop-s.invariant.1 p.0 p.1 p.2 p.3 in
     let st = row_steps p.0 _ _ _ _ p.3 _ _ _ _ i.0 i.1 c.loop-s-test.true _ c.loop-s.invariant.3 (omega (arith, c.loop-s.invariant.0, c.if-steps-budget.false)) _ _ c.row_at-row.ensures.0 c.row_at-row.ensures.1 in
     let acts = acts_by _ _ _ _ c.acting.ensures c.in-Steps.is in
-    record { on_registers = (acts.1, st.within); sound = (running_sound p.0 _ _ _ _ i.0 i.1, running_place p.0 _ _ _ _ i.0 i.1) }
+    record { on_registers = (acts.1, st.within); place_inside = running_place p.0 _ _ _ _ i.0 i.1 }
 
 pub overflow_add-steps : goal.overflow_add-steps
 overflow_add-steps c = omega (arith, c.loop-s.invariant.0, c.if-steps-budget.false, c.ranges.budget)
@@ -63,8 +63,8 @@ loop-s-preserved-in-Steps c =
           let i = l.invariant.1 k t r d in
           let st = row_steps k _ _ _ _ d _ _ _ _ i.0 i.1 c.loop-s-test.true _ c.loop-s.invariant.3 (omega (arith, c.loop-s.invariant.0, c.if-steps-budget.false)) _ _ c.row_at-row.ensures.0 c.row_at-row.ensures.1 in
           let same = acts.2 _ _ i.0 (running_a0 k _ _ _ _ i.0 i.1) in
-          (step k i.0, running_made k _ _ _ _ i.0 i.1 _ _ _ st same _ _ _ _ c.step_at-s.ensures.flag0_bound.2 (c.step_at-s.ensures.by_index _ i.0 i.1.shows), leads_on k _ t _ i.0 i.2 (st.on acts.0) (omega (arith, l.invariant.0, more)) (step k i.0) refl),
-      c.step_at-s.ensures.flag0_bound.2 ∙ l.invariant.2,
+          (step k i.0, running_made k _ _ _ _ i.0 i.1 _ _ _ st same _ _ _ _ c.step_at-s.ensures.here_length (c.step_at-s.ensures.by_index _ i.0 i.1.shows), leads_on k _ t _ i.0 i.2 (st.on acts.0) (omega (arith, l.invariant.0, more)) (step k i.0) refl),
+      c.step_at-s.ensures.here_length ∙ l.invariant.2,
       λ e. absurd (omega arith),
     )
 
@@ -74,7 +74,7 @@ move_at-s-requires c =
     let i = c.loop-s.invariant.1 p.0 p.1 p.2 p.3 in
     let st = row_steps p.0 _ _ _ _ p.3 _ _ _ _ i.0 i.1 c.loop-s-test.true _ c.loop-s.invariant.3 (omega (arith, c.loop-s.invariant.0, c.if-steps-budget.false)) _ _ c.row_at-row.ensures.0 c.row_at-row.ensures.1 in
     let acts = acts_by _ _ _ _ c.acting.ensures c.in-Moves.is in
-    record { w_value = (acts.1.0, acts.1.1, running_addresses p.0 _ _ _ _ i.0 i.1); sound = (running_sound p.0 _ _ _ _ i.0 i.1, running_place p.0 _ _ _ _ i.0 i.1) }
+    record { w_value = (acts.1.0, acts.1.1, running_addresses p.0 _ _ _ _ i.0 i.1); place_inside = running_place p.0 _ _ _ _ i.0 i.1 }
 
 pub overflow_add-steps-in-Moves : goal.overflow_add-steps-in-Moves
 overflow_add-steps-in-Moves c = omega (arith, c.loop-s.invariant.0, c.if-steps-budget.false, c.ranges.budget)
@@ -92,8 +92,8 @@ loop-s-preserved-in-Moves c =
           let i = l.invariant.1 k t r d in
           let st = row_steps k _ _ _ _ d _ _ _ _ i.0 i.1 c.loop-s-test.true _ c.loop-s.invariant.3 (omega (arith, c.loop-s.invariant.0, c.if-steps-budget.false)) _ _ c.row_at-row.ensures.0 c.row_at-row.ensures.1 in
           let same = acts.2 _ _ i.0 (running_a0 k _ _ _ _ i.0 i.1) in
-          (step k i.0, running_made k _ _ _ _ i.0 i.1 _ _ _ st same _ _ _ _ c.move_at-s.ensures.flag0_bound.2 (c.move_at-s.ensures.shows i.0 i.1.shows), leads_on k _ t _ i.0 i.2 (st.on acts.0) (omega (arith, l.invariant.0, more)) (step k i.0) refl),
-      c.move_at-s.ensures.flag0_bound.2 ∙ l.invariant.2,
+          (step k i.0, running_made k _ _ _ _ i.0 i.1 _ _ _ st same _ _ _ _ c.move_at-s.ensures.here_length (c.move_at-s.ensures.shows i.0 i.1.shows), leads_on k _ t _ i.0 i.2 (st.on acts.0) (omega (arith, l.invariant.0, more)) (step k i.0) refl),
+      c.move_at-s.ensures.here_length ∙ l.invariant.2,
       λ e. absurd (omega arith),
     )
 
@@ -103,7 +103,7 @@ float_at-s-requires c =
     let i = c.loop-s.invariant.1 p.0 p.1 p.2 p.3 in
     let st = row_steps p.0 _ _ _ _ p.3 _ _ _ _ i.0 i.1 c.loop-s-test.true _ c.loop-s.invariant.3 (omega (arith, c.loop-s.invariant.0, c.if-steps-budget.false)) _ _ c.row_at-row.ensures.0 c.row_at-row.ensures.1 in
     let acts = acts_by _ _ _ _ c.acting.ensures c.in-Reckons.is in
-    record { w_value = acts.1; sound = (running_sound p.0 _ _ _ _ i.0 i.1, running_place p.0 _ _ _ _ i.0 i.1) }
+    record { w_value = acts.1; place_inside = running_place p.0 _ _ _ _ i.0 i.1 }
 
 pub overflow_add-steps-in-Reckons : goal.overflow_add-steps-in-Reckons
 overflow_add-steps-in-Reckons c = omega (arith, c.loop-s.invariant.0, c.if-steps-budget.false, c.ranges.budget)
@@ -121,8 +121,8 @@ loop-s-preserved c =
           let i = l.invariant.1 k t r d in
           let st = row_steps k _ _ _ _ d _ _ _ _ i.0 i.1 c.loop-s-test.true _ c.loop-s.invariant.3 (omega (arith, c.loop-s.invariant.0, c.if-steps-budget.false)) _ _ c.row_at-row.ensures.0 c.row_at-row.ensures.1 in
           let same = acts.2 _ _ i.0 (running_a0 k _ _ _ _ i.0 i.1) in
-          (step k i.0, running_made k _ _ _ _ i.0 i.1 _ _ _ st same _ _ _ _ c.float_at-s.ensures.flag0_bound.2 (c.float_at-s.ensures.by_index _ i.0 i.1.shows), leads_on k _ t _ i.0 i.2 (st.on acts.0) (omega (arith, l.invariant.0, more)) (step k i.0) refl),
-      c.float_at-s.ensures.flag0_bound.2 ∙ l.invariant.2,
+          (step k i.0, running_made k _ _ _ _ i.0 i.1 _ _ _ st same _ _ _ _ c.float_at-s.ensures.here_length (c.float_at-s.ensures.by_index _ i.0 i.1.shows), leads_on k _ t _ i.0 i.2 (st.on acts.0) (omega (arith, l.invariant.0, more)) (step k i.0) refl),
+      c.float_at-s.ensures.here_length ∙ l.invariant.2,
       λ e. absurd (omega arith),
     )
 
