@@ -32,7 +32,8 @@ pub fn is_addressed(p: Plain, w: Word) -> bool
 
 // ---- one operand
 
-// The addresses are the last bytes of the state, lent as the slice that a run has of them, so a clause says how many there are.
+// The addresses are the last bytes of the state, lent as the slice that a run has of them, so a clause says how many there are: an array of them would come of that slice as an Option, and a run would have to
+// answer for a None that there is not.
 
 // The destination named directly, if it is by address.
 fn settle_dst(w: Word, addresses: &[u8]) -> Option<Word>

@@ -17,6 +17,7 @@ fn joined(number: u8, offset: u64, count: u64) -> u64
 }
 
 // The number of an answer that fits.
+// (A function, and no From: an answer that does not fit has no number.)
 pub fn number_of(answer: Answer) -> u64
     requires { Small (answer_is answer) }
     ensures { result ≡ as_number (answer_is answer) }

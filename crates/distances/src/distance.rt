@@ -10,6 +10,7 @@ use words::bytes::Word;
 use words::fields::{high_half, long_distance, low_half, short_distance};
 
 // Where a distance stands and from where it counts: bits 63:48, JIP's 111:96 or UIP's 127:112, from the instruction's own start; or 127:96, from its end.
+// It is copied and matched on, and never compared or printed, so no more is derived.
 #[derive(Clone, Copy)]
 pub enum Distance {
     Near,
@@ -17,6 +18,8 @@ pub enum Distance {
     Jip,
     Uip,
 }
+
+// Three matches, and no table with a row for each: of a row the half of the word and the place to count from would still be told by a test each.
 
 // The distance's bits.
 fn field(d: Distance, w: Word) -> u64

@@ -6,6 +6,7 @@ ghost use Rattle.element.specs.Biased.{ex};
 use super::value::BASE;
 
 // What a condition code says of a - b against 0: 1 z, 2 nz, 3 g, 4 ge, 5 l, 6 le.
+// It is no instance of one function with `single::operation::compare_pattern`: this is said of the difference of two numbers, that of the floats' order, in which a NaN is neither less, equal nor greater.
 pub fn compare(code: u64, a: u64, b: u64) -> bool
     ensures { result ≡ compares code (ex a -ℤ ex b) }
 {

@@ -35,6 +35,7 @@ pub fn load(kind: u64, pattern: u64) -> u64
 }
 
 // v, or the end of the range that it lies beyond.
+// (std's `clamp` asks that low be no more than high; this is said of any two.)
 fn between(v: u64, low: u64, high: u64) -> u64
     ensures { result ≡ cond (ltb v low) low (cond (ltb high v) high v) }
 {

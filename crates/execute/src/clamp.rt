@@ -6,6 +6,7 @@ ghost use Rattle.execute.specs.Results.{Kept};
 use element::value::clamp;
 
 // The results of the n first channels clamped to the type.
+// (A loop of one line, as those of `operands::modify`; what it leaves is `Kept`, and not `Mapped`.)
 fn clamp_each(kind: u64, n: usize, values: &mut [u64; 16])
     requires { (n ≤ 16) × IsWhole kind }
     ensures { Kept true kind n values.old values.new }

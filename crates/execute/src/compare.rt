@@ -1,4 +1,6 @@
 // What cmp leaves in a flag.
+// `flags_after`, `flags_of_one` and `floats::float_flags` differ in the lowest bits alone, which only cmp reckons. One function would take a closure for these, with a clause of what it answers: no shorter
+// than the three, which are one `if` each.
 ghost use Rattle.std.specs.Prelude.{List, [], ◌≡◌, ℕ, ◌+◌, ◌≤◌, ◌<◌};
 ghost use Rattle.paper.specs.Word.{exec_size};
 ghost use Rattle.paper.specs.Region.{channels};

@@ -1,4 +1,6 @@
 // What an instruction stores.
+// `write`, `write_by_element`, `floats::write_floats` and `one::store` ask for null and for the region, and then store each in its own way. One function would take a closure that stores, with clauses of
+// what it leaves: longer than the two lines that they share.
 ghost use Rattle.std.specs.Prelude.{false, ◌≡◌, length};
 ghost use Rattle.paper.specs.Word.{dst_is_a0};
 ghost use Rattle.paper.specs.Legal.{bytes_in};

@@ -115,7 +115,8 @@ fn write_floats(w: Word, enable: u64, registers: &mut [u8], results: &[u32; 16])
 
 // ---- flags
 
-// The lowest bits of the n first results as a mask. It is said apart from `compare::lowest_bits`, which has one caller and so is compiled into it.
+// The lowest bits of the n first results as a mask. It is no instance of one function with `compare::lowest_bits` for the reason that `operands::floats` gives: what is said of both (`lowest_bits`) is said
+// of a list of numbers.
 fn outcomes(results: &[u32; 16], n: usize) -> u64
     requires { n ≤ 16 }
     ensures { (result ≡ lowest_bits results.now n) × (result < 65536) }

@@ -1,4 +1,5 @@
 // What an instruction that is no branch does to registers and flags.
+// `n ≤ 16` stands in each contract, as in `lanes`, which says why.
 #![tactic(auto)]
 
 pub mod clamp;

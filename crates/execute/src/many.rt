@@ -1,4 +1,5 @@
 // An instruction on any number of channels, its numbers in arrays of sixteen.
+// Arrays, and beside them how many channels there are: memory is fixed, and no instruction has more than sixteen.
 ghost use Rattle.std.specs.Prelude.{false, List, ◌≡◌, ℕ, ◌<◌};
 ghost use Rattle.paper.specs.Legal.{uses_a0};
 ghost use Rattle.paper.specs.Effect.{plain_effect};

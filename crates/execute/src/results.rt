@@ -20,6 +20,7 @@ use words::operation::Plain;
 use words::traits::reads_two;
 
 // The second operands, where the operation reads them; else the zeros that were there.
+// (`floats::float_second` is the same over another array: an `if` around one call.)
 fn second(p: Plain, w: Word, n: usize, registers: &[u8], values: &mut [u64; 16])
     requires counting { Counting (plain_is p) (to_word w) × (n ≡ channels (to_word w)) × (length registers.now ≡ bytes_in (src_is_a0 src0 (to_word w))) × (uses_a0 (plain_is p) (to_word w) ≡ false) }
     requires by_index { (k : ℕ) → k < n → Near 8 (get_or values.old k 0) }

@@ -14,6 +14,7 @@ pub struct Report {
 }
 
 // What is printed for a refusal: neither instructions nor bytes.
+// It takes every number and offset, and so is no conversion of a refusal: not each number is one's.
 pub fn refused(number: u8, offset: u64) -> Report
     ensures { report_is result ≡ record { verdict = number; at = offset; instructions = 0; bytes = 0 } }
 {

@@ -15,6 +15,7 @@ use words::limits::{DICTIONARY_BYTES, KERNEL_BYTES};
 pub const INPUT_BYTES: usize = DICTIONARY_BYTES + KERNEL_BYTES + 1;
 
 // Writes the four lines on an input, or a beginning of them before an error.
+// (`lister::talk` has the same two functions for its text, and says why.)
 pub fn put_lines<W: Write>(writer: &mut W, input: &[u8]) -> io::Result<()>
     ensures ok { OnOk result (Appends (W.contents writer.old) (W.contents writer.new) (input_text input.now)) }
     ensures err { OnErr result (AppendsPart (W.contents writer.old) (W.contents writer.new) (input_text input.now)) }

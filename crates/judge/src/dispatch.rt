@@ -5,7 +5,8 @@ ghost use Rattle.words.specs.Operations.{operation_is};
 
 use words::operation::{Branch, Operation, Plain};
 
-// The same as `words::operation::operation_of`, with one caller, as `machine::dispatch` has it for a step: so it is compiled into it, and what it answers never goes through memory.
+// The same as `words::operation::operation_of`, with one caller, as `machine::dispatch` has it for a step: so it is compiled into it, and what it answers never goes through memory. The
+// judge takes a tenth less time so than by the one with many callers (docs/PERFORMANCE.md).
 #[tactic(auto, unfolding(paper::specs::Operation::operation_of))]
 pub(crate) fn operation_here(code: u64) -> Operation
     ensures { operation_is result ≡ operation_of code }

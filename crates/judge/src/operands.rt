@@ -40,6 +40,7 @@ pub fn bad_first_modifier(p: Plain, w: Word) -> bool
 }
 
 // The same on src1, which has none as an immediate.
+// The two sources have a rule each: one function of the source would match on it, and have both bodies as its arms.
 pub fn bad_second_modifier(p: Plain, w: Word) -> bool
     ensures { result ≡ bad_modifier (plain_is p) (to_word w) src1 }
 {

@@ -15,6 +15,8 @@ use words::refusal::Refusal;
 
 // The kernel's instructions, judged one after the other: how many there are, or the refusal of the first that is refused. In the marks that are
 // lent it sets a mark, 1, for each place at which one starts and for the end, and none elsewhere. The marks that a refused kernel leaves are working storage.
+// The loop is no `for`: how far it goes is known only once the instruction at its place is judged, and `Instructions` goes over those that have passed.
+// Marks are bytes in fixed memory, since `accept` is public and is lent them so.
 // The table of what source fields allow is lent, for the judge to look in.
 pub(crate) fn walk(
     regions: &Regions,

@@ -36,6 +36,7 @@ fn unmasked(awake: u64, force: u64) -> u64
 }
 
 // The channels that the predicate leaves: those for which it holds, or all if it does not mask.
+// The predicate stands beside whether it masks, and is no Option, as `enable_mask` is defined of both: where it does not mask it is reckoned all the same.
 fn passed(masks: bool, predicate: u64) -> u64
     ensures { result ≡ passed_mask masks predicate }
 {

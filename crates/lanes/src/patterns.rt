@@ -1,5 +1,6 @@
 // Patterns of 32 bits stored for all channels, where they are enabled: what `scatter` does, from an array of half the size.
-// The two are no instances of one generic function: `scattered` is said of numbers, and not of a type parameter's values.
+// The two are no instances of one generic function: `scattered` is the paper's, said of numbers, which a contract looks up by `get_or values.now k 0`. Of a type parameter's values it would take a trait
+// with the number that each is, and a law for each of the two widths: longer than the loop, whose body is two lines.
 ghost use Rattle.std.specs.Prelude.{◌≡◌, ℕ, ◌+◌, ◌*◌, ◌<◌, ◌≤◌, length, get_or};
 ghost use Rattle.paper.specs.Bits.{bit};
 ghost use Rattle.paper.specs.Effect.{scattered};

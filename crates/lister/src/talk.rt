@@ -23,7 +23,7 @@ pub fn put_shown<W: Write>(writer: &mut W, input: &[u8]) -> io::Result<()>
     write_full(writer, &text[..n])
 }
 
-// What `front::talk::talk` does with its text. (One function for both would take a trait of a text, its size, its law and its writer, longer than the two.)
+// What `front::talk::talk` does with its text. (One function for both would take the sizes of two arrays, and a trait or a closure with a law of the text that it writes: longer than the two.)
 // Of a kernel that is too long one byte more than is allowed is read, so that it is refused; what follows that byte changes nothing (`shown_input_cut`).
 pub fn talk<R: Read, W: Write>(reader: &mut R, writer: &mut W) -> io::Result<()>
     ensures ok { OnOk result (IfSome (R.remaining reader.old)

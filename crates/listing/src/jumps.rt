@@ -9,6 +9,7 @@ use kernel::jumps::jump_lands;
 use words::limits::{DICTIONARY_BYTES, PLACES};
 
 // The byte at which the lines begin of the first branch with a distance that leads to no mark. The marks are those of the text's instructions and of the end.
+// It goes over the text as `lay::write_kernel` does. An iterator over a text would be a struct with its law, its measure and its `next`, as `kernel::instructions` has them: longer than the two loops.
 pub(crate) fn first_astray(
     dictionary: &[u8; DICTIONARY_BYTES],
     text: &[u8],

@@ -19,6 +19,7 @@ use words::bytes::Word;
 use words::limits::DICTIONARY_BYTES;
 
 // The most bytes that an instruction's lines can have, by any place.
+// They are written into an array of so many, since there is no heap.
 const LINES_BYTES: usize = 86;
 
 // The dwords of 64 bits.

@@ -18,6 +18,8 @@ use words::limits::{DICTIONARY_BYTES, PLACES};
 use words::refusal::Refusal;
 
 // The kernel of so many places that a text was read as, or 14 where the output is shorter.
+// (As `list::list_accepted` and `packer::pack::lay_out`: the length is known before anything is written, so each writes into the output itself. `short::calls::deliver` has bytes that are made already;
+// one function for all would take a closure that writes, with clauses of what it leaves.)
 fn write_read(
     dictionary: &[u8; DICTIONARY_BYTES],
     text: &[u8],

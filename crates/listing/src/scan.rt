@@ -25,7 +25,7 @@ pub(crate) fn scan(
     let mut from: usize = 0;
     let mut place: u64 = 0;
     let mut count: u64 = 0;
-    // A step is as long as an instruction's lines, so no `for` counts it.
+    // A step is as long as an instruction's lines, which are known once they have been read: so no `for` counts it.
     while from < text.len() {
         if count == INSTRUCTION_LIMIT {
             return Err(Refusal::NoListing.at(from as u64));

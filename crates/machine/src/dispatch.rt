@@ -5,7 +5,8 @@ ghost use Rattle.words.specs.Operations.{operation_is};
 
 use words::operation::{Branch, Operation, Plain};
 
-// The same as `words::operation::operation_of`, with one caller, a step: so it is compiled into it, and both matches become one jump. What it answers never goes through memory.
+// The same as `words::operation::operation_of`, with one caller, a step: so it is compiled into it, and both matches become one jump. What it answers never goes through memory. By the one with many
+// callers a step took 4 ns longer (docs/PERFORMANCE.md).
 pub(crate) fn operation_here(code: u64) -> Operation
     ensures { operation_is result ≡ operation_of code }
 {

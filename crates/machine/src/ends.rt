@@ -1,4 +1,5 @@
 // The two ends of a run: from the state's bytes to where a run stands, and back.
+// Who waits is a mask for each place of fixed memory that is lent, since there is no heap (docs/DECISIONS.md, 75).
 ghost use Rattle.std.specs.Prelude.{◌≡◌, true, List, ℕ, ◌<◌, ◌≤◌, length, get_or};
 ghost use Rattle.paper.specs.Machine as paper;
 ghost use Rattle.paper.specs.State.{channels_in, addresses_in, state_of, all_three, state_bytes};

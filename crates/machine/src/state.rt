@@ -12,6 +12,7 @@ use words::bytes::{read2, write};
 use words::limits::STATE_LENGTH;
 
 // Flags, channels, and the place at which the next step is made. Registers are lent beside it, and a0's bytes stay where they are lent.
+// It has no ghost field that it is sane (`SaneState`): `read_state` answers a State for any bytes, and only of those that `three` passes it is.
 #[derive(Clone, Copy)]
 pub struct State {
     pub flags: Flags,

@@ -1,4 +1,5 @@
 // One step, at a known instruction.
+// What a step changes is lent in parts, since C lends the registers and the state as two, and the masks by place are a run's own; what goes from step to step by value is a Stand.
 ghost use Rattle.std.specs.Prelude.{List, ◌≡◌, ℕ, ◌<◌, length, get_or};
 ghost use Rattle.paper.specs.Limits.{address_bytes};
 ghost use Rattle.paper.specs.Operation.{mov, plain, operation};

@@ -4,7 +4,8 @@
 ghost use Rattle.std.specs.Prelude.{◌≡◌, ◌+◌, ◌<◌, ◌≤◌, ◌^◌, length};
 ghost use Rattle.paper.specs.Bits.{number_at, put_at};
 
-// The number of the byte at `from`. Each size has a function of its own: one over any number of bytes is slower where a run reads each channel's value.
+// The number of the byte at `from`. Each size has a function of its own: one over any number of bytes is slower where a run reads each channel's value. `read8`, which reads none, is written as they are:
+// one over any number would stand for it alone.
 pub fn read1(bytes: &[u8], from: usize) -> u64
     requires { from + 1 ≤ length bytes.now }
     ensures { result ≡ number_at bytes.now from 1 }

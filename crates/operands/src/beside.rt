@@ -1,4 +1,5 @@
 // Elements that lie side by side.
+// A type and its elements' size are two numbers, with a clause that they fit: loops of one type have both as const parameters (`typed`), which a struct of them could not be.
 ghost use Rattle.std.specs.Prelude.{◌≡◌, ℕ, ◌+◌, ◌*◌, ◌≤◌, ◌<◌, length, get_or};
 ghost use Rattle.paper.specs.Bits.{number_at};
 ghost use Rattle.paper.specs.Value.{size_of};
@@ -37,6 +38,7 @@ fn typed<const KIND: u64, const SIZE: usize>(
 }
 
 // The patterns of the n first words from byte `from` on.
+// (Apart from `floats::float_line`, as that module says: an array of another width.)
 fn word_patterns(registers: &[u8], from: usize, n: usize, patterns: &mut [u16; 16])
     requires n_bound { n ≤ 16 }
     requires by_index { (k : ℕ) → k < n → from + k * 2 + 2 ≤ length registers.now }

@@ -1,4 +1,5 @@
 // What the channels of src0 read in either file, element by element.
+// A file is lent as a slice, its length a clause (`bytes_in`): the registers and a0, of which the same is said, have different ones. So it is in `execute::destination`.
 ghost use Rattle.std.specs.Prelude.{◌≡◌, length};
 ghost use Rattle.paper.specs.Word.{src0, src_is_a0};
 ghost use Rattle.paper.specs.Region.{channels};

@@ -1,6 +1,7 @@
 // What the channels of a source of floats read, as 32-bit patterns; modified.
-// Its loops are those of whole numbers (`line`, `lines`, `spread`, `modify_each`) over arrays of half the size, which a run goes through faster. They are no instances of one
-// generic function, since what is said of them (`Mapped`) is said of numbers, and not of a type parameter's values.
+// Its loops are those of whole numbers (`line`, `lines`, `gather`, `spread`, `modify_each`, `modify_all`) over arrays of half the size, by which a step takes two fifths of the time (docs/DECISIONS.md, 195).
+// They are no instances of one generic function: `Mapped` looks a channel up by `get_or .. 0`, and a type parameter's values have no 0. One function would need a second `Mapped` for any type, a trait with
+// the number that a value is, and a law for each of the two widths that leads back: longer than the loops, whose bodies are a line or two.
 ghost use Rattle.std.specs.Prelude.{false, ◌≡◌, ℕ, ◌+◌, ◌*◌, ◌^◌, ◌≤◌, ◌<◌, length};
 ghost use Rattle.paper.specs.Bits.{number_at};
 ghost use Rattle.paper.specs.Word.{src_is_a0};

@@ -1,4 +1,5 @@
 // What the channels of a source read, as numbers.
+// `n ≤ 16` stands in each contract, as in `lanes`, which says why.
 #![tactic(auto)]
 
 pub mod beside;

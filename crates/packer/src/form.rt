@@ -13,12 +13,14 @@ use words::bytes::Word;
 use words::limits::{DICTIONARY_BYTES, INSTRUCTION_LIMIT};
 
 // Where a parameter `packs` is true, words are shortened, by the dictionary's sets if there are any; else all are long.
+// A bool and no enum, here and in `pack`, `place` and `write`: what is said of it (`form_of`, `Taken`, `kernel_of`, `result_of`) is said of a Bool, and it is asked in three places alone, `form`, `pack::sets_for` and `pack::taken`.
 
 // As many short words as a kernel has instructions, at the most.
 pub(crate) const SHORTS: usize = INSTRUCTION_LIMIT as usize;
 
 // The short word that w becomes, or 0 where it stays long.
-// A number and no Option, since 4,096 of them are kept in fixed memory from one pass to the next; no short word is 0.
+// A number and no Option: 4,096 of them are kept in fixed memory from one pass to the next, where an Option takes twice the bytes, and what is said of those that are kept (`Kept`, `AllKept`) is said of
+// numbers, by `recalled`. No short word is 0.
 pub(crate) fn form(
     packs: bool,
     dictionary: &[u8; DICTIONARY_BYTES],

@@ -1,4 +1,5 @@
 // Packing and unpacking, for all inputs. A refusal leaves the output as it was.
+// Dictionary and kernel go in two, with the clause `Taken`: three functions have it, of which one calls the others, and what they ensure is said of the two by name (`result_of`, `kernel_of`).
 ghost use Rattle.std.specs.Prelude.{◌≡◌};
 ghost use Rattle.std.specs.Option.{option_copied};
 ghost use Rattle.paper.specs.Dictionary.{dictionary_of};

@@ -21,6 +21,7 @@ use words::bytes::{Word, write, write16};
 use words::limits::{DICTIONARY_BYTES, PLACES};
 
 // Stores a word in its form from byte `from` on.
+// (0 for none, as `form` says.)
 fn write_word(short: u64, w: Word, out: &mut [u8], from: usize)
     requires { from + 8 * places_taken (recalled short) ≤ length out.old }
     ensures { out.new ≡ take from out.old

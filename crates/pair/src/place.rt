@@ -1,4 +1,5 @@
 // Where the instructions of the sent kernel come to stand if every word is long.
+// Dictionary and kernel go in two: a pair has one dictionary and two kernels.
 ghost use Rattle.std.specs.Prelude.{false, ◌≡◌, length};
 ghost use Rattle.laws.specs.Names.{long_form};
 ghost use Rattle.kernel.specs.Marks.{place_count};

@@ -21,7 +21,7 @@ pub const RECORD_BYTES: usize = 24;
 // The byte of the registers at which r6 begins.
 const R6: usize = 192;
 
-// The float at a byte of a record.
+// The float at a byte of a record. (`from_le_bytes` would name its four bytes one by one.)
 fn float_at(bytes: &[u8], from: usize) -> u32
     requires { from + 4 ≤ length bytes.now }
     ensures { result ≡ number_at bytes.now from 4 }
@@ -29,7 +29,7 @@ fn float_at(bytes: &[u8], from: usize) -> u32
     read4(bytes, from) as u32
 }
 
-// The record that bytes hold.
+// The record that bytes hold. (As a From of bytes it, and `bytes_of`, would be the same six lines below another head.)
 fn record_of(bytes: &[u8]) -> Record
     requires { length bytes.now ≡ record_bytes }
     ensures { record_is result ≡ placement_of bytes.now }

@@ -49,6 +49,7 @@ pub fn put_restored<W: Write, E: Write>(
 }
 
 // What follows the bytes that are read changes nothing (`read_cut`) and stays unread.
+// (It reads as `front::talk::talk` does; that has one writer, and this two, each with a law of its own.)
 pub fn restore<R: Read, W: Write, E: Write>(
     reader: &mut R,
     output: &mut W,

@@ -104,6 +104,7 @@ impl Desk {
     }
 
     // The output that is lent.
+    // (One line of its own array, as the kernel's.)
     pub fn output(&self) -> &[u8]
         ensures { result.now ≡ take (min self.now.sizes.room longest) (drop output_from self.now.board) }
     {

@@ -214,6 +214,7 @@ fn command_of(name: &[u8], numbers: &[u32]) -> Command {
 }
 
 // The count in the key of a line with a field that is no number, or with too many.
+// It is printed with the key, of which it is the last digit, so it is a digit that no count is.
 const UNCOUNTED: u64 = 9;
 
 // The line's command, known or not. Any fields follow `case`.

@@ -57,6 +57,7 @@ pub(crate) fn name_of(line: &[u8]) -> &[u8] {
 }
 
 // What stands for a name of more than seven letters.
+// A number of the key that is printed of such a line, and no Option: of any line that is not understood something is told.
 const LONGER: u64 = 1;
 
 // The letters of a line's name as one number, the first letter highest: what is told of a line that is not understood.

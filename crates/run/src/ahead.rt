@@ -14,6 +14,7 @@ use words::bytes::Word;
 use words::unusual::is_unusual;
 
 // A row of the table: a word, where it leads, and whether it is unusual.
+// In the table, which is fixed memory, it is three numbers: half the bytes of a Row.
 #[derive(Clone, Copy)]
 pub struct Row {
     pub word: Word,

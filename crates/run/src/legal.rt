@@ -11,6 +11,7 @@ use machine::state::{read_state, three};
 use words::limits::{PLACES, STATE_LENGTH};
 
 // A channel that waits at a place does so at a mark; of one that does not wait nothing is asked.
+// Waiting and the place are two, as the state's bytes and `Channels` have them: an Option would be made of them for this one test.
 fn rests(marks: &[u8; PLACES], waits: bool, place: u64) -> bool
     ensures { result ≡ cond waits (marked marks.now place) true }
 {

@@ -12,6 +12,7 @@ use words::bytes::Word;
 
 // The ways of word w, an instruction of `size` places from place `here` on. What has no distance leads to the next place alone; what has two jumps by the first,
 // and parks channels by the second.
+// A place that there is not is 0, and no Option, as the paper's `leads` has it: the three stand in one number of a run's table.
 pub(crate) fn ways_of(w: Word, here: u64, size: u64) -> Ways
     requires { (here < 65536) × (size < 65536) }
     ensures { ways_is result ≡ ways_of (instr_of here size (to_word w)) }

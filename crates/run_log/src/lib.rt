@@ -1,4 +1,5 @@
 // A log of finished runs in a lent buffer.
+// Log and count go in two, as C lends them: a count may be past the buffer, which is 1.
 #![tactic(auto)]
 
 pub mod calls;

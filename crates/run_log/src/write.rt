@@ -12,6 +12,7 @@ use words::limits::{BUDGET_LIMIT, LAST_PLACE};
 use words::refusal::Refusal;
 
 // What a finished run leaves in the log.
+// The verdict is a number, as C gives any; `legal` judges it.
 #[derive(Clone, Copy)]
 pub struct Entry {
     pub verdict: u64,

@@ -1,4 +1,5 @@
 // The long word that a short word stands for.
+// Fields of a word's half are taken and put by powers of 2, each in its line of a sum, as the rows of `assemble` are: `words::fields::part` only takes, and a line would then tell its two places in two spellings.
 ghost use Rattle.std.specs.Prelude.{◌≡◌, ◌<◌, ◌^◌};
 ghost use Rattle.paper.specs.Rows.{assemble};
 ghost use Rattle.paper.specs.Dictionary.{dictionary_of};

@@ -27,6 +27,7 @@ pub(crate) const SOURCE: usize = 4;
 pub type IndexSets = [[u32; TABLE_SETS]; 5];
 
 // The set of index i alone.
+// `alone` and `power` are functions, so that their equations stay out of the loops that use them (docs/PROOFS.md); `words::region::count_of` and `stride_of` are the paper's.
 fn alone(i: usize) -> u32
     requires { i < 32 }
     ensures { result ≡ 2 ^ i }

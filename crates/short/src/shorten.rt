@@ -1,4 +1,5 @@
 // The smallest short word that expands to a word.
+// Dictionary and sets go in two, with the clause `Serves`, which says nothing where no sets are lent: a struct of both would be made for one word too, and be taken apart by each look-up.
 ghost use Rattle.std.specs.Prelude.{◌≡◌, ℕ, ◌+◌, ◌<◌, ◌≤◌, ◌^◌, true, false};
 ghost use Rattle.std.specs.Option.{option_copied};
 ghost use Rattle.paper.specs.Rows.{assemble};

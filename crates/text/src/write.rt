@@ -1,4 +1,5 @@
 // What is written: texts, decimals, lines and hex digits, from a place of a lent buffer on, where there is room. Each function answers the place after it.
+// Buffer and place are two: what is said of a text is where in the whole buffer it stands (`sets out.old at ..`), and of a struct of both each function would take its buffer out to write there.
 ghost use Rattle.std.specs.Prelude.{◌≡◌, ◌+◌, ◌≤◌, ◌<◌, length};
 ghost use Rattle.std.proofs.lemmas.List.Edits.{sets};
 ghost use Rattle.paper.specs.Text.{decimal, line, hex_digit, hexes};

@@ -1,4 +1,7 @@
 // The fields of a word that are judged or executed, one function a field.
+// A field is the number in its bits, as in the paper, whose definitions answer every number: `compares`, `modified`, `sign_modified`, `predicate`, `enabled`, `condition_served` of a condition, a modifier,
+// PredCtrl, PredInv and WECtrl. So do the functions that are said of these (`compare`, `modify`, `modify_pattern`, `predicate_mask`, `enable_mask`); words that are no instructions have codes without a
+// meaning too, for which an enum would need cases. Source and word go in two, here and in the crates above, as in the paper: most that is said of a word asks no source.
 ghost use Rattle.std.specs.Prelude.{◌≡◌, ◌+◌, ◌<◌, ◌≤◌, ◌^◌};
 ghost use Rattle.paper.specs.Bits.{bits};
 ghost use Rattle.paper.specs.Expand.{is_short};
@@ -199,6 +202,7 @@ pub fn dst_addr_mode(w: Word) -> u64
 }
 
 // The destination is null.
+// (As `dst_is_a0` and `src_is_a0`: two comparisons with the paper's numbers, which a function of file and register would only name.)
 pub fn is_null(w: Word) -> bool
     ensures { result ≡ is_null (to_word w) }
 {

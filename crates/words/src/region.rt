@@ -15,6 +15,7 @@ use crate::fields::{
 use crate::types::size_of;
 
 // The byte at which a region begins, its strides from row to row and from channel to channel, in elements, the code of a row's width, and an element's bytes.
+// That its numbers are small (`Small`) is a clause, and no ghost field: `gather` and `float_gather` are handed the numbers one by one (docs/DECISIONS.md, 97) and would have to prove it again.
 #[derive(Clone, Copy)]
 pub struct Region {
     pub origin: usize,

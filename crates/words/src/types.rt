@@ -1,8 +1,11 @@
 // What the code of a type says.
+// A code is a number, here and in `element`, `operands` and `execute`: what is said of it is the paper's (`size_of`, `width`, `value`, `clamp_to`), and `size_of` answers every number, 0 for what is no
+// type's. An enum would have a case for that, and one case more in `width_of` made runs slower (docs/PROOFS.md).
 ghost use Rattle.std.specs.Prelude.{◌≡◌, ◌<◌, ◌≤◌};
 ghost use Rattle.paper.specs.Value.{width, size_of};
 
 // The bytes of its elements; none where the code is no type's.
+// (0, and no Option: the paper's `size_of` has it, and the judge takes it as a size of which only 0 is a multiple.)
 pub fn size_of(kind: u64) -> u64
     ensures { (result ≡ size_of kind) × (result ≤ 4) }
 {
