@@ -1,11 +1,8 @@
 -- The loop's invariant: where the pass stands, the places stored and the forms kept so far. Assumes nothing.
 use mathlib.Core.Path.{◌≡◌}
 use Prim.Native.Nat.{◌/◌}
-use lib.ListN.{length}
-use Rattle.paper.specs.Limits.{instruction_limit}
 use Rattle.paper.specs.Dictionary.{dictionary_of}
 use Rattle.paper.specs.Packing.{index}
-use Rattle.kernel.specs.Marks.{place_count}
 use Rattle.kernel.specs.Instructions.{Over}
 use Rattle.packer.specs.Forms.{form_of, kernel_of}
 use Rattle.packer.specs.Stages.{Stage, PlacedTo}
@@ -19,8 +16,6 @@ invariant-loop-i l =
     let from = l.i-iterator.from in
     record {
       over : Over l.dictionary l.kernel l.i-iterator;
-      places_long : length l.places ≡ place_count;
-      shorts_long : length l.shorts ≡ instruction_limit;
       stage : Stage form k from l.to;
       placed : PlacedTo form k l.places (from / 8);
       number : l.n ≡ index k (from / 8);
