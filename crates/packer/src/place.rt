@@ -30,13 +30,11 @@ pub(crate) fn place_all(
         shorts.new }
 {
     let mut to: u64 = 0;
-    let mut n: usize = 0;
-    for i in Instructions::of(dictionary, kernel) {
+    for (n, i) in Instructions::of(dictionary, kernel).enumerate() {
         places[i.place as usize] = to as u16;
         let short = form(packs, dictionary, sets, i.word);
         shorts[n] = short;
         to += places_taken(short);
-        n += 1;
     }
     places[kernel.len() / 8] = to as u16;
     to
