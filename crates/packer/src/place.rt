@@ -1,10 +1,8 @@
 // The first pass: which form each instruction gets, and where it comes to stand.
-ghost use Rattle.std.specs.Prelude.{◌≡◌, length};
+ghost use Rattle.std.specs.Prelude.{◌≡◌};
 ghost use Rattle.std.specs.Option.{option_copied};
-ghost use Rattle.paper.specs.Limits.{instruction_limit};
 ghost use Rattle.paper.specs.Dictionary.{dictionary_of};
 ghost use Rattle.short.specs.Sets.{Serves};
-ghost use Rattle.kernel.specs.Marks.{place_count};
 ghost use Rattle.packer.specs.Forms.{form_of, kernel_of, Taken, result_end};
 ghost use Rattle.packer.specs.Stages.{Placed};
 ghost use Rattle.packer.specs.Keeping.{AllKept};
@@ -24,8 +22,7 @@ pub(crate) fn place_all(
     shorts: &mut [u64; SHORTS],
     places: &mut [u16; PLACES],
 ) -> u64
-    requires taken { Taken packs dictionary.now kernel.now × Serves (dictionary_of dictionary.now) (option_copied sets) }
-    requires shorts_len { (length shorts.old ≡ instruction_limit) × (length places.old ≡ place_count) }
+    requires { Taken packs dictionary.now kernel.now × Serves (dictionary_of dictionary.now) (option_copied sets) }
     ensures value { result ≡ result_end packs dictionary.now kernel.now }
     ensures placed { Placed (form_of packs (dictionary_of dictionary.now)) (kernel_of packs dictionary.now kernel.now)
         places.new }
@@ -33,13 +30,11 @@ pub(crate) fn place_all(
         shorts.new }
 {
     let mut to: u64 = 0;
-    let mut n: usize = 0;
-    for i in Instructions::of(dictionary, kernel) {
+    for (n, i) in Instructions::of(dictionary, kernel).enumerate() {
         places[i.place as usize] = to as u16;
         let short = form(packs, dictionary, sets, i.word);
         shorts[n] = short;
         to += places_taken(short);
-        n += 1;
     }
     places[kernel.len() / 8] = to as u16;
     to

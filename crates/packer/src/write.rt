@@ -78,14 +78,12 @@ pub(crate) fn write_all(
         ++ drop (8 * result_end packs dictionary.now kernel.now) out.old }
 {
     let mut to: u64 = 0;
-    let mut n: usize = 0;
-    for i in Instructions::of(dictionary, kernel) {
+    for (n, i) in Instructions::of(dictionary, kernel).enumerate() {
         let short = shorts[n];
         let next = to + places_taken(short);
         let w = rewrite(places, i, to, next);
         let at = 8 * (to as usize);
         write_word(short, w, out, at);
         to = next;
-        n += 1;
     }
 }

@@ -22,6 +22,7 @@ pub(crate) fn common(
     requires placed { Placed long_form (kernel_of false dictionary.now sent.now) places.now }
     ensures { result ≡ agreed (program (kernel_of true dictionary.now long.now)) (program (kernel_of false dictionary.now sent.now)) }
 {
+    // The count is the answer past the loop's end too, where `enumerate` has none left to give.
     let mut n: u64 = 0;
     for i in Instructions::of(dictionary, sent) {
         let at = 16 * (n as usize);

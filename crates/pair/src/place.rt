@@ -1,8 +1,7 @@
 // Where the instructions of the sent kernel come to stand if every word is long.
 // Dictionary and kernel go in two: a pair has one dictionary and two kernels.
-ghost use Rattle.std.specs.Prelude.{false, ◌≡◌, length};
+ghost use Rattle.std.specs.Prelude.{false};
 ghost use Rattle.laws.specs.Names.{long_form};
-ghost use Rattle.kernel.specs.Marks.{place_count};
 ghost use Rattle.packer.specs.Forms.{kernel_of, Taken};
 ghost use Rattle.packer.specs.Stages.{Placed};
 
@@ -15,8 +14,7 @@ pub(crate) fn place_long(
     kernel: &[u8],
     places: &mut [u16; PLACES],
 )
-    requires taken { Taken false dictionary.now kernel.now }
-    requires places_len { length places.old ≡ place_count }
+    requires { Taken false dictionary.now kernel.now }
     ensures { Placed long_form (kernel_of false dictionary.now kernel.now) places.new }
 {
     let mut to: u16 = 0;

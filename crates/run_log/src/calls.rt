@@ -1,11 +1,11 @@
 // The calls: the log is the first bytes of a lent buffer, their count given.
-ghost use Rattle.std.specs.Prelude.{◌≡◌, length};
+ghost use Rattle.std.specs.Prelude.{◌≡◌, ◌≤◌, length, IfOk};
 ghost use Rattle.paper.specs.Limits.{state_length};
 ghost use Rattle.paper.specs.Log.{log_sized, log_read_call, log_runs_call, log_part, log_append_call, entry_of, log_run_call};
 ghost use Rattle.words.specs.Answer.{answer_is, Wrote};
-ghost use Rattle.run_log.specs.Meaning.{entry_is};
+ghost use Rattle.run_log.specs.Meaning.{entry_is, log_records};
 
-use crate::read::read;
+use crate::read::{Records, read};
 use crate::write::{Entry, add, legal};
 use lanes::mask::count_awake;
 use words::answer::{Answer, accepted};
@@ -21,42 +21,38 @@ fn sized(log: &[u8], count: u64) -> bool
     count <= length && length < 4294967296
 }
 
+// The whole records of the log.
+fn records_of(log: &[u8], count: u64) -> Result<Records, Refusal>
+    ensures is { result ≡ log_records log.now count }
+    ensures inside { IfOk result (λ r. r.bytes ≤ length log.now) }
+{
+    if !sized(log, count) {
+        return Err(Refusal::WrongSize);
+    }
+    read(&log[..count as usize]).ok_or(Refusal::NoLog)
+}
+
 // How many bytes the whole records take.
 pub fn whole_bytes(log: &[u8], count: u64) -> Answer
     ensures { answer_is result ≡ log_read_call log.now count }
 {
-    if !sized(log, count) {
-        return Err(Refusal::WrongSize.into());
-    }
-    match read(&log[..count as usize]) {
-        Some(records) => accepted(records.bytes as u64),
-        None => Err(Refusal::NoLog.into()),
-    }
+    accepted(records_of(log, count)?.bytes as u64)
 }
 
 // How many records are whole.
 pub fn whole_runs(log: &[u8], count: u64) -> Answer
     ensures { answer_is result ≡ log_runs_call log.now count }
 {
-    if !sized(log, count) {
-        return Err(Refusal::WrongSize.into());
-    }
-    match read(&log[..count as usize]) {
-        Some(records) => accepted(records.runs),
-        None => Err(Refusal::NoLog.into()),
-    }
+    accepted(records_of(log, count)?.runs)
 }
 
 // The whole records, as a part of the buffer; empty on refusal.
 pub fn whole<'a>(log: &'a [u8], count: u64) -> &'a [u8]
     ensures { result.now ≡ log_part log.now count }
 {
-    if !sized(log, count) {
-        return &log[..0];
-    }
-    match read(&log[..count as usize]) {
-        Some(records) => &log[..records.bytes],
-        None => &log[..0],
+    match records_of(log, count) {
+        Ok(records) => &log[..records.bytes],
+        Err(_) => &log[..0],
     }
 }
 
@@ -64,16 +60,11 @@ pub fn whole<'a>(log: &'a [u8], count: u64) -> &'a [u8]
 pub fn append(log: &mut [u8], count: u64, e: Entry) -> Answer
     ensures { Wrote (log_append_call log.old count (entry_is e)) result log.new }
 {
-    if !sized(log, count) {
-        return Err(Refusal::WrongSize.into());
-    }
+    let records = records_of(log, count)?;
     if !legal(e) {
         return Err(Refusal::NoLog.into());
     }
-    match read(&log[..count as usize]) {
-        Some(records) => add(log, count, records, e),
-        None => Err(Refusal::NoLog.into()),
-    }
+    add(log, count, records, e)
 }
 
 // What a run leaves in the log, by its answer as it crossed to C and its state.

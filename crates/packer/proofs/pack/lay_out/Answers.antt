@@ -4,8 +4,7 @@ use Rattle.packer.specs.Answers.{end_most, laid_short, laid_room, laid_written}
 use Rattle.packer.proofs.pack.lay_out.Goals as goal
 
 pub place_all-end-requires : goal.place_all-end-requires
-place_all-end-requires c =
-    record { taken = (c.requires, c.sets_for-sets.ensures); shorts_len = (omega arith, omega arith) }
+place_all-end-requires c = (c.requires, c.sets_for-sets.ensures)
 
 pub overflow_mul-length : goal.overflow_mul-length
 overflow_mul-length c = omega (arith, end_most _ _ _ c.requires _ c.place_all-end.ensures.value)

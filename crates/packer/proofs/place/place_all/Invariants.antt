@@ -1,28 +1,25 @@
 -- The loop's invariant: where the pass stands, the places stored and the forms kept so far. Assumes nothing.
-use mathlib.Core.Path.{◌≡◌}
-use Prim.Native.Nat.{◌/◌}
-use lib.ListN.{length}
+use Rattle.std.proofs.Common.{◌≡◌, ◌≤◌, ◌+◌, ◌/◌, length}
 use Rattle.paper.specs.Limits.{instruction_limit}
 use Rattle.paper.specs.Dictionary.{dictionary_of}
 use Rattle.paper.specs.Packing.{index}
-use Rattle.kernel.specs.Marks.{place_count}
-use Rattle.kernel.specs.Instructions.{Over}
+use Rattle.kernel.specs.Instructions.{Over, instrs_left}
 use Rattle.packer.specs.Forms.{form_of, kernel_of}
 use Rattle.packer.specs.Stages.{Stage, PlacedTo}
 use Rattle.packer.specs.Keeping.{Kept}
 use Rattle.packer.proofs.place.place_all.Given as goal
 
-abbrev pub invariant-loop-i : goal.invariant-loop-i
-invariant-loop-i l =
+abbrev pub invariant-loop-n : goal.invariant-loop-n
+invariant-loop-n l =
     let form = form_of l.packs (dictionary_of l.dictionary) in
     let k = kernel_of l.packs l.dictionary l.kernel in
-    let from = l.i-iterator.from in
+    let from = l.n-iterator.iter.from in
     record {
-      over : Over l.dictionary l.kernel l.i-iterator;
-      places_long : length l.places ≡ place_count;
-      shorts_long : length l.shorts ≡ instruction_limit;
+      asked : (goal.iterator-loop-n).can_next l.n-iterator;
+      left : l.n-iterator.count + length (instrs_left l.n-iterator.iter) ≤ instruction_limit;
+      over : Over l.dictionary l.kernel l.n-iterator.iter;
       stage : Stage form k from l.to;
       placed : PlacedTo form k l.places (from / 8);
-      number : l.n ≡ index k (from / 8);
-      kept : Kept form k l.shorts l.n;
+      number : l.n-iterator.count ≡ index k (from / 8);
+      kept : Kept form k l.shorts l.n-iterator.count;
     }

@@ -1,13 +1,12 @@
 -- The first difference is the end of both, or it is not. Assumes nothing.
 use mathlib.Core.Bool.{true, false}
-use borrow.Author.Rules.{rules}
 use Rattle.packer.specs.Forms.{kernel_of}
 use Rattle.pair.specs.Answers.{compared_longer, compared_shorter, compared_whole}
 use Rattle.pair.proofs.pair.compare.Goals as goal
 use Rattle.pair.proofs.pair.compare.Goals.{then-same-ours-via-then-same-ours, then-same-ours-via-else-same-ours+then-same-theirs}
 
 pub place_long-requires : goal.place_long-requires
-place_long-requires c = record { taken = c.requires.taken.1; places_len = search rules }
+place_long-requires c = c.requires.taken.1
 
 pub common-same-requires : goal.common-same-requires
 common-same-requires c = record { taken = c.requires.taken; placed = c.place_long.ensures }

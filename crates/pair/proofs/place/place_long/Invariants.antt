@@ -1,11 +1,8 @@
 -- The loop's invariant: where the pass stands, and the places stored so far. Assumes nothing.
 use mathlib.Core.Bool.{false}
-use mathlib.Core.Path.{◌≡◌}
 use Prim.Native.Nat.{◌/◌}
-use lib.ListN.{length}
 use Rattle.laws.specs.Names.{long_form}
 use Rattle.kernel.specs.Instructions.{Over}
-use Rattle.kernel.specs.Marks.{place_count}
 use Rattle.packer.specs.Forms.{kernel_of}
 use Rattle.packer.specs.Stages.{Stage, PlacedTo}
 use Rattle.pair.proofs.place.place_long.Given as goal
@@ -16,7 +13,6 @@ invariant-loop-i l =
     let from = l.i-iterator.from in
     record {
       over : Over l.dictionary l.kernel l.i-iterator;
-      long : length l.places ≡ place_count;
       stage : Stage long_form k from l.to;
       placed : PlacedTo long_form k l.places (from / 8);
     }

@@ -1,18 +1,10 @@
--- By the buffer's size and what was read. Assumes nothing.
-use mathlib.Core.Path.{sym, ◌∙◌}
-use Rattle.run_log.specs.Calls.{part_length, part_unsized, part_is}
+-- What is said of the records is the part. Assumes nothing.
+use mathlib.Core.Path.{sym}
+use Rattle.run_log.specs.Calls.{part_says}
 use Rattle.run_log.proofs.calls.whole.Goals as goal
 
-pub returns-then-not-sized : goal.returns-then-not-sized
-returns-then-not-sized c = part_unsized _ _ (sym c.sized.ensures ∙ c.if-not-sized.true)
+pub returns-in-Ok : goal.returns-in-Ok
+returns-in-Ok c = part_says _ _ _ (sym c.in-Ok.ensures.is)
 
-pub slice_bounds-read-end : goal.slice_bounds-read-end
-slice_bounds-read-end c = part_length _ _ (sym c.sized.ensures ∙ c.if-not-sized.false)
-
-pub returns-in-Some : goal.returns-in-Some
-returns-in-Some c =
-    part_is _ _ _ (sym c.sized.ensures ∙ c.if-not-sized.false) (sym c.in-Some.ensures.0)
-
-pub returns-in-None : goal.returns-in-None
-returns-in-None c =
-    part_is _ _ _ (sym c.sized.ensures ∙ c.if-not-sized.false) (sym c.in-None.ensures.0)
+pub returns-in-Err : goal.returns-in-Err
+returns-in-Err c = part_says _ _ _ (sym c.in-Err.ensures.is)

@@ -1,22 +1,13 @@
--- By the buffer's size and what was read. Assumes nothing.
+-- What is said of the records is the answer. Assumes nothing.
 use mathlib.Core.Path.{sym, ◌∙◌}
-use Rattle.run_log.specs.Calls.{part_length, runs_unsized, runs_is}
+use Rattle.std.proofs.lemmas.Result.{err_from_is_err_and}
+use Rattle.run_log.specs.Calls.{runs_says}
 use Rattle.run_log.proofs.calls.whole_runs.Goals as goal
 
-pub returns-then-not-sized : goal.returns-then-not-sized
-returns-then-not-sized c =
-    rw c.into.ensures
-    (runs_unsized _ _ (sym c.sized.ensures ∙ c.if-not-sized.true))
+pub returns-in_err-records_of : goal.returns-in_err-records_of
+returns-in_err-records_of c =
+    let p = err_from_is_err_and c.from_residual.result c.from_residual.ensures.1 in
+    rw (p.1, p.2) (runs_says _ _ _ (sym c.records_of.ensures.is ∙ c.in_err-records_of.was))
 
-pub slice_bounds-read-end : goal.slice_bounds-read-end
-slice_bounds-read-end c = part_length _ _ (sym c.sized.ensures ∙ c.if-not-sized.false)
-
-pub returns-in-Some : goal.returns-in-Some
-returns-in-Some c =
-    rw c.accepted.ensures
-    (runs_is _ _ _ (sym c.sized.ensures ∙ c.if-not-sized.false) (sym c.in-Some.ensures.0))
-
-pub returns-in-None : goal.returns-in-None
-returns-in-None c =
-    rw c.into-in-None.ensures
-    (runs_is _ _ _ (sym c.sized.ensures ∙ c.if-not-sized.false) (sym c.in-None.ensures.0))
+pub returns : goal.returns
+returns c = rw c.accepted.ensures (runs_says _ _ _ (sym c.records_of.ensures.is ∙ c.in_ok-records_of.was))
