@@ -1,15 +1,24 @@
 -- Rule 12 against a test of places, where the paper tests the instructions themselves. Assumes nothing.
 use Rattle.std.specs.Prelude as std
 use Rattle.std.specs.Prelude.{Bool, true, false, cond, ◌&&◌, List, [], ◌∷◌, ◌≡◌, refl, ℕ, ◌+◌, ◌*◌, ◌^◌, ◌<◌, ℤ, pos, negsuc}
+use Rattle.std.proofs.Math.Bool.{and-true}
 use Rattle.std.proofs.Math.Option.{Option, none, some}
-use Rattle.std.proofs.Common.{ap₂}
+use Rattle.std.proofs.lemmas.Option.{none-some}
+use Rattle.std.proofs.Common.{sym, ap, ap₂, ◌∙◌}
 use Rattle.paper.specs.Kernel.{Instr}
-use Rattle.paper.specs.Jump.{targets_of, lands, jump_lands, targets_land, first_astray}
+use Rattle.paper.specs.Operation.{operation}
+use Rattle.paper.specs.Jump.{Distance, distances, reach, reached, targets_of, lands, jump_lands, targets_land, first_astray}
 use Rattle.distances.specs.Reach.{said_of}
+use Rattle.distances.specs.Distances.{told}
 
 -- A place of which the test `land` holds; none lies below 0.
 abbrev pub lands_at : (ℕ → Bool) → ℤ → Bool
 lands_at land = said_of land false
+
+-- Of a target that the code does not tell it does not hold.
+pub none_lands : (land : ℕ → Bool) (z : ℤ) (t : std.Option ℕ) → t ≡ told z → t ≡ std.None → false ≡ lands_at land z
+none_lands land (pos p) t e n = absurd (none-some p (sym n ∙ e))
+none_lands land (negsuc p) t e n = refl
 
 -- Each target lands there.
 abbrev pub land_by : (ℕ → Bool) → List ℤ → Bool
@@ -48,3 +57,17 @@ pub out_astray : (land : ℕ → Bool) (k : List Instr) → ((p : ℕ) → land 
 unfolding first_out first_astray
 out_astray land k same [] = refl
 out_astray land k same (i ∷ rest) = rw (all_same land k same (targets_of i), out_astray land k same rest)
+
+-- ---- the code's test
+
+module _ (land : ℕ → Bool) (here size w : ℕ) where
+  -- Where one distance leads.
+  abbrev at : Distance → ℤ
+  at f = reach f w here (here + size)
+
+  -- A word with two distances lands where both lead.
+  pub two_land : (f g : Distance) → distances (operation w) ≡ f ∷ g ∷ []
+      → (lands_at land (at f) && lands_at land (at g)) ≡ land_by land (targets_of (instr_of here size w))
+  two_land f g e =
+      ap (λ (b : Bool). lands_at land (at f) && b) (sym (and-true (lands_at land (at g))))
+      ∙ sym (ap (λ (fs : List Distance). land_by land (reached fs (instr_of here size w))) e)
