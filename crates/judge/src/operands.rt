@@ -26,7 +26,7 @@ pub fn unequal_halves(x: Source, w: Word) -> bool
     ensures { result ≡ unequal_halves (to_word w) (source_is x) }
 {
     let kind = src_type(x, w);
-    let word = (2 <= kind) & (kind <= 3);
+    let word = (2..=3).contains(&kind);
     let differ = low_half(w) != high_half(w);
     is_immediate(x, w) & word & differ
 }

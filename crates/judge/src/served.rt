@@ -62,7 +62,7 @@ fn predicate_served(w: Word) -> bool
 {
     let control = pred_ctrl(w);
     let fits = group_of(control) <= count_of(exec_size(w));
-    let votes = (4 <= control) & (control <= 11) & fits;
+    let votes = (4..=11).contains(&control) & fits;
     (control <= 1) | votes
 }
 

@@ -27,23 +27,6 @@ fn each_pattern(
     }
 }
 
-// Those that a mask enables.
-fn some_patterns(
-    registers: &mut [u8],
-    origin: usize,
-    stride: usize,
-    n: usize,
-    enable: u64,
-    patterns: &[u32; 16],
-)
-    requires n_bound { n ≤ 16 }
-    requires by_index { (k : ℕ) → k < n → origin + k * stride * 4 + 4 ≤ length registers.old }
-    ensures { registers.new
-        ≡ scattered registers.old (λ k. origin + k * stride * 4) 4 (bit enable) (λ k. get_or patterns.now k 0) n }
-{
-    each_pattern(registers, origin, stride, n, enable, patterns)
-}
-
 // Side by side, all of them.
 fn all_patterns(registers: &mut [u8], origin: usize, n: usize, patterns: &[u32; 16])
     requires n_bound { n ≤ 16 }
@@ -71,6 +54,6 @@ pub fn scatter_patterns(
     if is_whole(stride, enable, n) {
         all_patterns(registers, origin, n, patterns)
     } else {
-        some_patterns(registers, origin, stride, n, enable, patterns)
+        each_pattern(registers, origin, stride, n, enable, patterns)
     }
 }

@@ -18,13 +18,6 @@ pub fn store_channel(registers: &mut [u8], from: usize, size: usize, enable: u64
     }
 }
 
-// One of two numbers.
-fn either(on: bool, v: u64, old: u64) -> u64
-    ensures { result ≡ cond on v old }
-{
-    if on { v } else { old }
-}
-
 // Channel k's value stored where the mask enables it, without a branch: a disabled channel's bytes are stored as they are.
 pub(crate) fn blend_channel(
     registers: &mut [u8],
@@ -39,7 +32,7 @@ pub(crate) fn blend_channel(
 {
     let old = read_element(registers, from, size);
     let on = bit(enable, k as u64);
-    write_element(registers, from, size, either(on, v, old));
+    write_element(registers, from, size, if on { v } else { old });
 }
 
 // The n channels' values stored `stride` elements apart, each where its bit of the mask is 1.

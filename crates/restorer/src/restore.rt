@@ -2,6 +2,7 @@
 ghost use Rattle.std.specs.Prelude.{IfSome, OnErr, OnOk};
 ghost use Rattle.std.specs.Io.KnownBytes.{Appends};
 ghost use Rattle.front.specs.Streams.{AppendsPart};
+ghost use Rattle.words.specs.Refusals.{number};
 ghost use Rattle.restorer.specs.Restored.{refusal_text, restored_output, restored_errors};
 
 use front::input::read_full;
@@ -11,6 +12,7 @@ use front::report::refused;
 use listing::read::read;
 use std::io;
 use std::io::{Read, Write};
+use words::answer::Refused;
 use words::limits::{DICTIONARY_BYTES, KERNEL_BYTES};
 
 // One byte more than a listing can have, which is 70 for each of 4,096 instructions.
@@ -20,12 +22,15 @@ const TEXT_BYTES: usize = 286721;
 const INPUT_BYTES: usize = DICTIONARY_BYTES + TEXT_BYTES;
 
 // Writes the four lines of a refusal, or a beginning of them before an error.
-fn say<E: Write>(errors: &mut E, number: u8, offset: u64) -> io::Result<()>
-    ensures ok { OnOk result (Appends (E.contents errors.old) (E.contents errors.new) (refusal_text number offset)) }
-    ensures err { OnErr result (AppendsPart (E.contents errors.old) (E.contents errors.new) (refusal_text number offset)) }
+fn say<E: Write>(errors: &mut E, refusing: Refused) -> io::Result<()>
+    ensures ok { OnOk result (Appends (E.contents errors.old) (E.contents errors.new) (refusal_text (number refusing.refusal) refusing.offset)) }
+    ensures err { OnErr result (AppendsPart (E.contents errors.old) (E.contents errors.new) (refusal_text (number refusing.refusal) refusing.offset)) }
 {
     let mut lines = [0u8; LINES_BYTES];
-    let n = put_report(&mut lines, refused(number, offset));
+    let n = put_report(
+        &mut lines,
+        refused(refusing.refusal.number(), refusing.offset),
+    );
     write_full(errors, &lines[..n])
 }
 
@@ -44,7 +49,7 @@ pub fn put_restored<W: Write, E: Write>(
     let mut kernel = [0u8; KERNEL_BYTES];
     match read(dictionary, text, &mut kernel) {
         Ok(told) => write_full(output, &kernel[..told.count as usize]),
-        Err(refused) => say(errors, refused.refusal.number(), refused.offset),
+        Err(refusing) => say(errors, refusing),
     }
 }
 

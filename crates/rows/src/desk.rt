@@ -1,5 +1,5 @@
 // The bytes that rows lay out, and what is known between two lines of a file.
-ghost use Rattle.std.specs.Prelude.{◌≡◌, ◌+◌, ◌%◌, ◌^◌, ◌<◌, true, false, min, take, drop};
+ghost use Rattle.std.specs.Prelude.{◌≡◌, ◌+◌, ◌%◌, ◌^◌, ◌<◌, ◌≤◌, length, true, false, min, take, drop};
 ghost use Rattle.rows.specs.Sizes.{kernel_from, longest, output_from};
 
 use crate::sizes::{BOARD, KERNEL, LONGEST, OUTPUT, STATE, TABLE};
@@ -45,6 +45,14 @@ pub struct Desk {
 
 // No call has been made: no call answers this. (It is a number, and no `Option`, since `load`, `logrun` and `answer` take it as they take any answer.)
 const UNASKED: u64 = 0xFFFF_FFFF_FFFF_FFFF;
+
+// The bytes that are lent from a place on, which has LONGEST bytes after it.
+fn lent_after(bytes: &[u8], from: usize, size: usize) -> &[u8]
+    requires { from + longest ≤ length bytes.now }
+    ensures { result.now ≡ take (min size longest) (drop from bytes.now) }
+{
+    &bytes[from..from + size.min(LONGEST)]
+}
 
 impl Desk {
     // Zeros, and no case has begun.
@@ -100,7 +108,7 @@ impl Desk {
     pub fn kernel(&self) -> &[u8]
         ensures { result.now ≡ take (min self.now.sizes.kernel longest) (drop kernel_from self.now.table) }
     {
-        &self.table[KERNEL..KERNEL + self.sizes.kernel.min(LONGEST)]
+        lent_after(&self.table, KERNEL, self.sizes.kernel)
     }
 
     // The output that is lent.
@@ -108,6 +116,6 @@ impl Desk {
     pub fn output(&self) -> &[u8]
         ensures { result.now ≡ take (min self.now.sizes.room longest) (drop output_from self.now.board) }
     {
-        &self.board[OUTPUT..OUTPUT + self.sizes.room.min(LONGEST)]
+        lent_after(&self.board, OUTPUT, self.sizes.room)
     }
 }

@@ -2,8 +2,8 @@
 use Rattle.std.proofs.Common.{ap, ap₂, sym, ◌∙◌, refl, length-take-le, arith}
 use Rattle.front.proofs.Said.{of_ok, of_err, quiet, unasked, all_written, part_written}
 use Rattle.restorer.specs.Counted.{counted_fits}
-use Rattle.std.specs.Prelude.{ℕ, []}
-use Rattle.restorer.specs.Restored.{refusal_text, refused_lines, output_by, errors_by, output_of, errors_of}
+use Rattle.std.specs.Prelude.{[]}
+use Rattle.restorer.specs.Restored.{refused_lines, output_by, errors_by, output_of, errors_of}
 use Rattle.restorer.proofs.Said.{asked}
 use Rattle.restorer.proofs.restore.put_restored.Goals as goal
 
@@ -32,15 +32,15 @@ returns-in-Ok-clause-errors_err g c =
 
 pub returns-in-Err-clause-output : goal.returns-in-Err-clause-output
 returns-in-Err-clause-output g c =
-    of_ok _ (quiet (g.W.Write.contents c.args.output.now) _ (sym (refused_lines _ _ c.in-Err.refused.count _).0 ∙ ap₂ output_by c.in-Err.ensures.0 c.in-Err.ensures.1 ∙ ap output_of (asked c.args.input.now _ _ _ _ c.min.ensures c.split_at.ensures.front c.split_at.ensures.back refl)))
+    of_ok _ (quiet (g.W.Write.contents c.args.output.now) _ (sym (refused_lines _ _ c.in-Err.refusing.count _).0 ∙ ap₂ output_by c.in-Err.ensures.0 c.in-Err.ensures.1 ∙ ap output_of (asked c.args.input.now _ _ _ _ c.min.ensures c.split_at.ensures.front c.split_at.ensures.back refl)))
 
 pub returns-in-Err-clause-errors : goal.returns-in-Err-clause-errors
 returns-in-Err-clause-errors g c =
-    all_written _ _ _ _ _ (ap (λ (n : ℕ). refusal_text n c.in-Err.refused.offset) c.number.ensures.0 ∙ sym (refused_lines _ _ c.in-Err.refused.count []).1 ∙ ap errors_by c.in-Err.ensures.0 ∙ ap errors_of (asked c.args.input.now _ _ _ _ c.min.ensures c.split_at.ensures.front c.split_at.ensures.back refl)) c.say.ensures.ok
+    all_written _ _ _ _ _ (sym (refused_lines _ _ c.in-Err.refusing.count []).1 ∙ ap errors_by c.in-Err.ensures.0 ∙ ap errors_of (asked c.args.input.now _ _ _ _ c.min.ensures c.split_at.ensures.front c.split_at.ensures.back refl)) c.say.ensures.ok
 
 pub returns-in-Err-clause-errors_err : goal.returns-in-Err-clause-errors_err
 returns-in-Err-clause-errors_err g c =
-    part_written _ _ _ _ _ (ap (λ (n : ℕ). refusal_text n c.in-Err.refused.offset) c.number.ensures.0 ∙ sym (refused_lines _ _ c.in-Err.refused.count []).1 ∙ ap errors_by c.in-Err.ensures.0 ∙ ap errors_of (asked c.args.input.now _ _ _ _ c.min.ensures c.split_at.ensures.front c.split_at.ensures.back refl)) c.say.ensures.err
+    part_written _ _ _ _ _ (sym (refused_lines _ _ c.in-Err.refusing.count []).1 ∙ ap errors_by c.in-Err.ensures.0 ∙ ap errors_of (asked c.args.input.now _ _ _ _ c.min.ensures c.split_at.ensures.front c.split_at.ensures.back refl)) c.say.ensures.err
 
 pub returns-in-Err-clause-output_err : goal.returns-in-Err-clause-output_err
 returns-in-Err-clause-output_err g c =
