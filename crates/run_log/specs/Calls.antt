@@ -128,12 +128,22 @@ module _ (log : List ℕ) (count : ℕ) where
   pub append_refused : (e : Entry) (r : Refusal) → log_records log count ≡ Err r → Gives (log_append_call log count e) (refusal (number r) 0) log
   append_refused e r w = rw (← append_says e (Err r) w) (refl, refl)
 
-  pub append_illegal : (e : Entry) (r : Records) → log_records log count ≡ Ok r → entry_legal e ≡ false → Gives (log_append_call log count e) (refusal 32 0) log
-  append_illegal e r w h = rw (← append_says e (Ok r) w, h) (refl, refl)
+  pub append_unsized : (e : Entry) → log_sized log count ≡ false → Gives (log_append_call log count e) (refusal 1 0) log
+  unfolding log_append_call
+  append_unsized e h = rw h (refl, refl)
 
-  pub append_is : (e : Entry) (r : Records) → log_records log count ≡ Ok r → entry_legal e ≡ true
+  pub append_illegal : (e : Entry) → log_sized log count ≡ true → entry_legal e ≡ false → Gives (log_append_call log count e) (refusal 32 0) log
+  unfolding log_append_call appended
+  append_illegal e h g = rw (h, g) (refl, refl)
+
+  pub append_is : (e : Entry) (q : Reading) → log_sized log count ≡ true → entry_legal e ≡ true → reading (take count log) ≡ q
+      → appended_to log count e q ≡ log_append_call log count e
+  unfolding log_append_call appended
+  append_is e q h g w = rw (h, g, w)
+
+  pub append_whole : (e : Entry) (r : Records) → log_records log count ≡ Ok r → entry_legal e ≡ true
       → added_at log count r.bytes (record_text r.runs e) ≡ log_append_call log count e
-  append_is e r w h = rw (← append_says e (Ok r) w, h)
+  append_whole e r w h = rw (← append_says e (Ok r) w, h)
 
   -- ---- logging a run
 

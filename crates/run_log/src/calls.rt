@@ -56,14 +56,17 @@ pub fn whole<'a>(log: &'a [u8], count: u64) -> &'a [u8]
     }
 }
 
-// Appends a record.
+// Appends a record. Of an entry that is refused the log is not read.
 pub fn append(log: &mut [u8], count: u64, e: Entry) -> Answer
     ensures { Wrote (log_append_call log.old count (entry_is e)) result log.new }
 {
-    let records = records_of(log, count)?;
+    if !sized(log, count) {
+        return Err(Refusal::WrongSize.into());
+    }
     if !legal(e) {
         return Err(Refusal::NoLog.into());
     }
+    let records = records_of(log, count)?;
     add(log, count, records, e)
 }
 
