@@ -37,7 +37,7 @@ use Rattle.run.specs.declared.call.Call.{Call}
 use Rattle.run.specs.declared.call.Call.TheVariants.{Step, Run}
 use Rattle.run.specs.Kernels.{instructions, MarksLand, Takes, runnable}
 use Rattle.run.specs.Opening.{Blank}
-use Rattle.run.specs.Lent.{lent_in, lent}
+use Rattle.run.specs.Lent.{lent_whole, whole_lent}
 use Rattle.run.specs.Outcomes.{verdict_is, Ends, one_step, no_step}
 use Rattle.laws.specs.Truth.{both_true}
 
@@ -317,7 +317,7 @@ module _ (o : std.Option Verdict) (place steps : ℕ) where
 -- A run begins where a legal state stands, with what is lent of its bytes.
 pub begins : {dictionary kernel marks registers bytes before here : List ℕ} {s : Stand} → Allowed dictionary kernel marks registers bytes → Blank kernel before
     → Shows registers (addresses_in bytes) here s (state_of registers bytes) → (s.flags.flag0 < 65536) × (s.flags.flag1 < 65536) × (length here ≡ length before)
-    → Running (instructions dictionary kernel) registers (lent_in bytes) here s (state_of registers bytes)
+    → Running (instructions dictionary kernel) registers (lent_whole bytes) here s (state_of registers bytes)
 begins {dictionary} {kernel} {marks} {registers} {bytes} {before} {here} {s} a blank shows h =
-    lent bytes a.sizes.state-is (instructions dictionary kernel) registers here s (state_of registers bytes)
+    whole_lent bytes a.sizes.state-is (instructions dictionary kernel) registers here s (state_of registers bytes)
     (opened dictionary kernel registers bytes a.sizes a.lawful here s (stood kernel registers bytes before here s blank shows h))

@@ -132,7 +132,8 @@ fn made_in<const ROOM: usize, const NUMBERS: usize>(
     }
 }
 
-// A step or a run of an accepted kernel from a legal state.
+// A step or a run of an accepted kernel from a legal state. It stays a function of its own, so that a call that is refused takes none of its tables' stack.
+#[inline(never)]
 pub(crate) fn made_lawful(
     call: Call,
     accepted: Accepted,

@@ -4,7 +4,7 @@ use Rattle.std.specs.Prelude.{◌*◌, Some, Ok, Err}
 use Rattle.words.specs.declared.refusal.Refusal.TheVariants.{BadAddress}
 use Rattle.run.specs.Running.{running_place}
 use Rattle.run.specs.Answers.{legal_three, taken, waits_inside, stood, begins, run_made, told_astray, told_verdict}
-use Rattle.run.specs.Lent.{back_shows}
+use Rattle.run.specs.Lent.{back_whole_shows}
 use borrow.Author.Rules.{rules}
 use Rattle.run.proofs.lawful.run_over.Goals as goal
 
@@ -21,7 +21,7 @@ pub leave-requires : goal.leave-requires
 leave-requires c =
     let r = begins c.requires.allowed.0 c.requires.blank.0 (c.enter-start.ensures.by_index_2 _) (omega arith, omega arith, c.enter-start.ensures.here_length) in
     let a = c.run_on-out.ensures _ _ r (c.fill-end.ensures.0 _ _) in
-    (a.1.few, _, _, back_shows c.args.state.now c.requires.allowed.0.sizes.state-is _ _ _ _ _ _ a.1)
+    (a.1.few, _, _, back_whole_shows c.args.state.now c.requires.allowed.0.sizes.state-is _ _ _ _ _ _ a.1)
 
 pub overflow_mul-result : goal.overflow_mul-result
 overflow_mul-result c =
@@ -35,10 +35,10 @@ pub returns-in-None : goal.returns-in-None
 returns-in-None c =
     let r = begins c.requires.allowed.0 c.requires.blank.0 (c.enter-start.ensures.by_index_2 _) (omega arith, omega arith, c.enter-start.ensures.here_length) in
     let a = c.run_on-out.ensures _ _ r (c.fill-end.ensures.0 _ _) in
-    run_made _ _ _ _ c.requires.allowed.0.sizes c.requires.allowed.0.lawful _ _ (stood _ _ _ _ _ _ c.requires.blank.0 (c.enter-start.ensures.by_index_2 _) (omega arith, omega arith, c.enter-start.ensures.here_length)) _ c.requires.allowed.1 _ _ _ _ _ a (c.leave.ensures _ _ (back_shows c.args.state.now c.requires.allowed.0.sizes.state-is _ _ _ _ _ _ a.1)) (Err (record { refusal = BadAddress; offset = 8 * c.run_on-out.result.stand.place; count = Some c.run_on-out.result.steps })) (told_astray _ _ _ c.in-None.is)
+    run_made _ _ _ _ c.requires.allowed.0.sizes c.requires.allowed.0.lawful _ _ (stood _ _ _ _ _ _ c.requires.blank.0 (c.enter-start.ensures.by_index_2 _) (omega arith, omega arith, c.enter-start.ensures.here_length)) _ c.requires.allowed.1 _ _ _ _ _ a (c.leave.ensures _ _ (back_whole_shows c.args.state.now c.requires.allowed.0.sizes.state-is _ _ _ _ _ _ a.1)) (Err (record { refusal = BadAddress; offset = 8 * c.run_on-out.result.stand.place; count = Some c.run_on-out.result.steps })) (told_astray _ _ _ c.in-None.is)
 
 pub returns-in-Some : goal.returns-in-Some
 returns-in-Some c =
     let r = begins c.requires.allowed.0 c.requires.blank.0 (c.enter-start.ensures.by_index_2 _) (omega arith, omega arith, c.enter-start.ensures.here_length) in
     let a = c.run_on-out.ensures _ _ r (c.fill-end.ensures.0 _ _) in
-    run_made _ _ _ _ c.requires.allowed.0.sizes c.requires.allowed.0.lawful _ _ (stood _ _ _ _ _ _ c.requires.blank.0 (c.enter-start.ensures.by_index_2 _) (omega arith, omega arith, c.enter-start.ensures.here_length)) _ c.requires.allowed.1 _ _ _ _ _ a (c.leave.ensures _ _ (back_shows c.args.state.now c.requires.allowed.0.sizes.state-is _ _ _ _ _ _ a.1)) (Ok (record { verdict = c.in-Some.verdict; count = c.run_on-out.result.steps })) (told_verdict _ _ _ _ c.in-Some.is)
+    run_made _ _ _ _ c.requires.allowed.0.sizes c.requires.allowed.0.lawful _ _ (stood _ _ _ _ _ _ c.requires.blank.0 (c.enter-start.ensures.by_index_2 _) (omega arith, omega arith, c.enter-start.ensures.here_length)) _ c.requires.allowed.1 _ _ _ _ _ a (c.leave.ensures _ _ (back_whole_shows c.args.state.now c.requires.allowed.0.sizes.state-is _ _ _ _ _ _ a.1)) (Ok (record { verdict = c.in-Some.verdict; count = c.run_on-out.result.steps })) (told_verdict _ _ _ _ c.in-Some.is)

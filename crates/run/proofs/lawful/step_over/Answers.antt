@@ -5,7 +5,7 @@ use Rattle.run.specs.Tables.{tabled_one}
 use mathlib.Core.Path.{sym, ap, ◌∙◌}
 use Rattle.run.specs.Outcomes.{verdict_is}
 use Rattle.run.specs.Answers.{told_fine, legal_three, taken, waits_inside, stood, begins, step_end, step_made, step_astray}
-use Rattle.run.specs.Lent.{back_is, back_shows}
+use Rattle.run.specs.Lent.{back_whole_is, back_whole_shows}
 use borrow.Author.Rules.{rules}
 use Rattle.run.proofs.lawful.step_over.Goals as goal
 
@@ -37,16 +37,16 @@ pub returns-in-None : goal.returns-in-None
 returns-in-None c =
     let r = begins c.requires.allowed c.requires.blank.0 (c.enter-start.ensures.by_index_2 _) (omega arith, omega arith, c.enter-start.ensures.here_length) in
     let a = c.run_on-out.ensures _ _ r (tabled_one _ _ _ _ (taken _ _ _ _ c.requires.allowed.sizes c.requires.allowed.lawful).ends c.put_row.ensures.there (omega (arith, c.requires.blank.1, c.put_row.ensures.long))) in
-    step_astray _ _ _ _ c.requires.allowed.sizes c.requires.allowed.lawful _ _ (stood _ _ _ _ _ _ c.requires.blank.0 (c.enter-start.ensures.by_index_2 _) (omega arith, omega arith, c.enter-start.ensures.here_length)) _ _ _ _ a c.if-place-end.false (ap verdict_is c.in-None.is) _ (back_is c.args.state.now c.requires.allowed.sizes.state-is _)
+    step_astray _ _ _ _ c.requires.allowed.sizes c.requires.allowed.lawful _ _ (stood _ _ _ _ _ _ c.requires.blank.0 (c.enter-start.ensures.by_index_2 _) (omega arith, omega arith, c.enter-start.ensures.here_length)) _ _ _ _ a c.if-place-end.false (ap verdict_is c.in-None.is) _ (back_whole_is c.args.state.now c.requires.allowed.sizes.state-is _)
 
 pub leave-requires : goal.leave-requires
 leave-requires c =
     let r = begins c.requires.allowed c.requires.blank.0 (c.enter-start.ensures.by_index_2 _) (omega arith, omega arith, c.enter-start.ensures.here_length) in
     let a = c.run_on-out.ensures _ _ r (tabled_one _ _ _ _ (taken _ _ _ _ c.requires.allowed.sizes c.requires.allowed.lawful).ends c.put_row.ensures.there (omega (arith, c.requires.blank.1, c.put_row.ensures.long))) in
-    (a.1.few, _, _, back_shows c.args.state.now c.requires.allowed.sizes.state-is _ _ _ _ _ _ a.1)
+    (a.1.few, _, _, back_whole_shows c.args.state.now c.requires.allowed.sizes.state-is _ _ _ _ _ _ a.1)
 
 pub returns-in-Some : goal.returns-in-Some
 returns-in-Some c =
     let r = begins c.requires.allowed c.requires.blank.0 (c.enter-start.ensures.by_index_2 _) (omega arith, omega arith, c.enter-start.ensures.here_length) in
     let a = c.run_on-out.ensures _ _ r (tabled_one _ _ _ _ (taken _ _ _ _ c.requires.allowed.sizes c.requires.allowed.lawful).ends c.put_row.ensures.there (omega (arith, c.requires.blank.1, c.put_row.ensures.long))) in
-    step_made _ _ _ _ c.requires.allowed.sizes c.requires.allowed.lawful _ _ (stood _ _ _ _ _ _ c.requires.blank.0 (c.enter-start.ensures.by_index_2 _) (omega arith, omega arith, c.enter-start.ensures.here_length)) _ _ _ _ a c.if-place-end.false (λ e. told_fine _ (sym (ap verdict_is c.in-Some.is) ∙ e)) _ (c.leave.ensures _ _ (back_shows c.args.state.now c.requires.allowed.sizes.state-is _ _ _ _ _ _ a.1))
+    step_made _ _ _ _ c.requires.allowed.sizes c.requires.allowed.lawful _ _ (stood _ _ _ _ _ _ c.requires.blank.0 (c.enter-start.ensures.by_index_2 _) (omega arith, omega arith, c.enter-start.ensures.here_length)) _ _ _ _ a c.if-place-end.false (λ e. told_fine _ (sym (ap verdict_is c.in-Some.is) ∙ e)) _ (c.leave.ensures _ _ (back_whole_shows c.args.state.now c.requires.allowed.sizes.state-is _ _ _ _ _ _ a.1))
