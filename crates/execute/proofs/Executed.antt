@@ -39,7 +39,7 @@ flag_from_lem w flag enable r n quarter mask found results en eq em ef e =
 -- ---- registers, flags and a0
 
 -- What the code makes on its way: the masks by channel number and by the instruction's own, and the results, of the file that src0 stands in.
-pub record Made (p : Plain) (w awake : ℕ) (bytes : List ℕ) (f : Flags) (quarter predicate enable holding working : ℕ) (results : List ℕ) : Type 0 where
+pub record Made (p : Plain) (w awake : ℕ) (bytes : List ℕ) (f : Flags ℕ) (quarter predicate enable holding working : ℕ) (results : List ℕ) : Type 0 where
   pub of_word : quarter ≡ qtr_ctrl w
   pub holds : predicate ≡ predicate_of w (store_of [] f [])
   pub enables : enable ≡ enable_mask (we_ctrl w) (traits p).masks awake predicate
@@ -47,7 +47,7 @@ pub record Made (p : Plain) (w awake : ℕ) (bytes : List ℕ) (f : Flags) (quar
   pub own-enables : working ≡ quarter_mask enable quarter
   pub makes : Makes p w holding bytes results
 
-module _ (p : Plain) (w awake : ℕ) (registers : List ℕ) (f : Flags) (addresses : List ℕ) (quarter predicate enable holding working : ℕ) (results : List ℕ)
+module _ (p : Plain) (w awake : ℕ) (registers : List ℕ) (f : Flags ℕ) (addresses : List ℕ) (quarter predicate enable holding working : ℕ) (results : List ℕ)
     (acting : Acting p w)
     (made : Made p w awake (file_in (src_is_a0 src0 w) (store_of registers f addresses)) f quarter predicate enable holding working results) where
   -- The store before.
@@ -78,7 +78,7 @@ module _ (p : Plain) (w awake : ℕ) (registers : List ℕ) (f : Flags) (address
   unfolding plain_effect
   addresses_made a after e = e ∙ rw working_is (written_addresses p w awake before results acting resulting a)
 
-  module _ (r : Flags) (e : FlagsOf r w (store_of [] f []) (flag_made p w (chosen_flag w (store_of [] f [])) enable results)) where
+  module _ (r : Flags ℕ) (e : FlagsOf r w (store_of [] f []) (flag_made p w (chosen_flag w (store_of [] f [])) enable results)) where
     -- The chosen flag is the paper's.
     flag_made_lem : flag_made p w (chosen_flag w before) enable results ≡ cond (traits p).compares (compared_flag w (awake_list awake) before) (chosen_flag w before)
     flag_made_lem = rw enabled (flag_effect p w awake before results acting resulting)
@@ -93,7 +93,7 @@ module _ (p : Plain) (w awake : ℕ) (registers : List ℕ) (f : Flags) (address
     flag1_made = e.flag1 ∙ ap (λ (flag : ℕ). cond (eqb (flag_choice w) 0) f.flag1 flag) flag_made_lem
 
 -- Where no operand is a0, registers alone are read and written, whatever a0 holds.
-module _ (p : Plain) (w awake : ℕ) (registers : List ℕ) (f : Flags) (quarter predicate enable holding working : ℕ) (results : List ℕ)
+module _ (p : Plain) (w awake : ℕ) (registers : List ℕ) (f : Flags ℕ) (quarter predicate enable holding working : ℕ) (results : List ℕ)
     (acting : Acting p w) (none : uses_a0 p w ≡ false) (made : Made p w awake registers f quarter predicate enable holding working results) where
   read_registers : (addresses : List ℕ)
       → Made p w awake (file_in (src_is_a0 src0 w) (store_of registers f addresses)) f quarter predicate enable holding working results
@@ -106,7 +106,7 @@ module _ (p : Plain) (w awake : ℕ) (registers : List ℕ) (f : Flags) (quarter
   direct_registers after e addresses =
       registers_made p w awake registers f addresses quarter predicate enable holding working results acting (read_registers addresses) (not-destination p w none) after e
 
-  module _ (r : Flags) (e : FlagsOf r w (store_of [] f []) (flag_made p w (chosen_flag w (store_of [] f [])) enable results)) where
+  module _ (r : Flags ℕ) (e : FlagsOf r w (store_of [] f []) (flag_made p w (chosen_flag w (store_of [] f [])) enable results)) where
     pub direct_flags : (addresses : List ℕ)
         → (r.flag0 ≡ (plain_effect p w (awake_list awake) (store_of registers f addresses)).flag0)
         × (r.flag1 ≡ (plain_effect p w (awake_list awake) (store_of registers f addresses)).flag1)
@@ -142,7 +142,7 @@ mov_flag1 w awake st = go (eqb (flag_choice w) 0)
     go false = refl
 
 -- mov: what is stored in the one file or in the other is the paper's.
-pub transferred : (w awake : ℕ) (registers : List ℕ) (f : Flags) (addresses : List ℕ) (quarter predicate enable holding working : ℕ) (results : List ℕ)
+pub transferred : (w awake : ℕ) (registers : List ℕ) (f : Flags ℕ) (addresses : List ℕ) (quarter predicate enable holding working : ℕ) (results : List ℕ)
     → Acting Plain.mov w
     → Made Plain.mov w awake (file_in (src_is_a0 src0 w) (store_of registers f addresses)) f quarter predicate enable holding working results
     → (after after' : List ℕ) → after ≡ written_into (dst_is_a0 w) w working registers results → after' ≡ written_into (not (dst_is_a0 w)) w working addresses results

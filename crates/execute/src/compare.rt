@@ -35,7 +35,7 @@ fn lowest_bits(results: &[u64; 16], n: usize) -> u64
 }
 
 // The flags after cmp, by the mask of the lowest bits of its results.
-pub(crate) fn compared(w: Word, flags: Flags, enable: u64, lowest: u64) -> Flags
+pub(crate) fn compared(w: Word, flags: Flags<u16>, enable: u64, lowest: u64) -> Flags<u16>
     requires { (exec_size (to_word w) ≤ 4) × (channel_of (to_word w) 0 + channels (to_word w) ≤ 16) × (lowest < 65536) }
     ensures { (results : List ℕ) → lowest ≡ lowest_bits results (channels (to_word w))
         → FlagsOf result (to_word w) (store_of [] flags []) (flag_from (to_word w) (chosen_flag (to_word w) (store_of [] flags [])) enable results) }
@@ -43,7 +43,8 @@ pub(crate) fn compared(w: Word, flags: Flags, enable: u64, lowest: u64) -> Flags
     let quarter = qtr_ctrl(w);
     let n = channels(w);
     let found = raised_mask(lowest, quarter);
-    let flag = flag_after(chosen(w, flags), 8 * quarter, n as u64, enable, found);
+    let old = chosen(w, flags.wide());
+    let flag = flag_after(old, 8 * quarter, n as u64, enable, found);
     with_chosen(w, flags, flag)
 }
 
@@ -51,10 +52,10 @@ pub(crate) fn compared(w: Word, flags: Flags, enable: u64, lowest: u64) -> Flags
 pub(crate) fn flags_after(
     p: Plain,
     w: Word,
-    flags: Flags,
+    flags: Flags<u16>,
     enable: u64,
     results: &[u64; 16],
-) -> Flags
+) -> Flags<u16>
     requires { Acting (plain_is p) (to_word w) }
     ensures { FlagsOf result (to_word w) (store_of [] flags []) (flag_made (plain_is p) (to_word w) (chosen_flag (to_word w) (store_of [] flags [])) enable results.now) }
 {
@@ -66,7 +67,7 @@ pub(crate) fn flags_after(
 }
 
 // The same of one channel's result.
-pub(crate) fn flags_of_one(p: Plain, w: Word, flags: Flags, enable: u64, v: u64) -> Flags
+pub(crate) fn flags_of_one(p: Plain, w: Word, flags: Flags<u16>, enable: u64, v: u64) -> Flags<u16>
     requires { Acting (plain_is p) (to_word w) × (channels (to_word w) ≡ 1) }
     ensures { FlagsOf result (to_word w) (store_of [] flags []) (flag_made (plain_is p) (to_word w) (chosen_flag (to_word w) (store_of [] flags [])) enable (alone v)) }
 {

@@ -17,7 +17,7 @@ use words::operation::Plain;
 use words::traits::masks;
 
 // The channels whose predicate holds.
-pub fn voted(w: Word, flags: Flags) -> u64
+pub fn voted(w: Word, flags: Flags<u64>) -> u64
     ensures { result ≡ predicate_of (to_word w) (store_of [] flags []) }
 {
     predicate_mask(chosen(w, flags), pred_ctrl(w), pred_inv(w))
@@ -25,7 +25,7 @@ pub fn voted(w: Word, flags: Flags) -> u64
 
 // The channels whose predicate holds, told at once where there is no predicate. It asks for the mask itself: with two callers `predicate_mask`, which is large, stays a function of its own,
 // and what is handed to it are numbers.
-pub fn predicate_of(w: Word, flags: Flags) -> u64
+pub fn predicate_of(w: Word, flags: Flags<u64>) -> u64
     ensures { result ≡ predicate_of (to_word w) (store_of [] flags []) }
 {
     if pred_ctrl(w) == 0 {

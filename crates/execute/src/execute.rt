@@ -21,9 +21,9 @@ pub fn execute(
     p: Plain,
     w: Word,
     awake: u64,
-    flags: Flags,
+    flags: Flags<u16>,
     registers: &mut [u8; REGISTER_BYTES],
-) -> Flags
+) -> Flags<u16>
     requires { Counting (plain_is p) (to_word w) × (uses_a0 (plain_is p) (to_word w) ≡ false) }
     ensures by_index { (addresses : List ℕ) → (registers.new ≡ (plain_effect (plain_is p) (to_word w) (awake_list awake) (store_of registers.old flags addresses)).registers)
         × (addresses ≡ (plain_effect (plain_is p) (to_word w) (awake_list awake) (store_of registers.old flags addresses)).addresses) }

@@ -129,7 +129,7 @@ fn outcomes(results: &[u32; 16], n: usize) -> u64
 }
 
 // The flags after an operation: cmp leaves what it found in the chosen one; the others change none.
-fn float_flags(p: Plain, w: Word, flags: Flags, enable: u64, results: &[u32; 16]) -> Flags
+fn float_flags(p: Plain, w: Word, flags: Flags<u16>, enable: u64, results: &[u32; 16]) -> Flags<u16>
     requires { Acting (plain_is p) (to_word w) }
     ensures { FlagsOf result (to_word w) (store_of [] flags []) (flag_made (plain_is p) (to_word w) (chosen_flag (to_word w) (store_of [] flags [])) enable results.now) }
 {
@@ -147,9 +147,9 @@ pub fn reckon(
     p: Plain,
     w: Word,
     awake: u64,
-    flags: Flags,
+    flags: Flags<u16>,
     registers: &mut [u8; REGISTER_BYTES],
-) -> Flags
+) -> Flags<u16>
     requires { Reckoning (plain_is p) (to_word w) }
     ensures by_index { (addresses : List ℕ) → (registers.new ≡ (plain_effect (plain_is p) (to_word w) (awake_list awake) (store_of registers.old flags addresses)).registers)
         × (addresses ≡ (plain_effect (plain_is p) (to_word w) (awake_list awake) (store_of registers.old flags addresses)).addresses) }
@@ -157,7 +157,7 @@ pub fn reckon(
         × (result.flag1 ≡ (plain_effect (plain_is p) (to_word w) (awake_list awake) (store_of registers.old flags addresses)).flag1) }
 {
     let quarter = qtr_ctrl(w);
-    let predicate = predicate_of(w, flags);
+    let predicate = predicate_of(w, flags.wide());
     let enable = enable_of(p, w, awake, predicate);
     let mut made = [0u32; 16];
     float_results(p, w, registers, &mut made);

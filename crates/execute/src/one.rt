@@ -72,16 +72,16 @@ pub(crate) fn execute_one(
     p: Plain,
     w: Word,
     awake: u64,
-    flags: Flags,
+    flags: Flags<u16>,
     registers: &mut [u8; REGISTER_BYTES],
-) -> Flags
+) -> Flags<u16>
     requires { Counting (plain_is p) (to_word w) × (uses_a0 (plain_is p) (to_word w) ≡ false) × (channels (to_word w) ≡ 1) }
     ensures by_index { (addresses : List ℕ) → registers.new ≡ (plain_effect (plain_is p) (to_word w) (awake_list awake) (store_of registers.old flags addresses)).registers }
     ensures by_index_2 { (addresses : List ℕ) → (result.flag0 ≡ (plain_effect (plain_is p) (to_word w) (awake_list awake) (store_of registers.old flags addresses)).flag0)
         × (result.flag1 ≡ (plain_effect (plain_is p) (to_word w) (awake_list awake) (store_of registers.old flags addresses)).flag1) }
 {
     let quarter = qtr_ctrl(w);
-    let predicate = predicate_of(w, flags);
+    let predicate = predicate_of(w, flags.wide());
     let enable = enable_of(p, w, awake, predicate);
     let v = result_of(p, w, quarter_mask(predicate, quarter), registers);
     store(w, quarter_mask(enable, quarter), registers, v);

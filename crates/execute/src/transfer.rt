@@ -34,7 +34,7 @@ pub fn uses_a0(w: Word) -> bool
 // What the channels of a mov make: a0 is read, or registers.
 fn moved(
     w: Word,
-    flags: Flags,
+    flags: Flags<u64>,
     registers: &[u8; REGISTER_BYTES],
     addresses: &[u8],
     made: &mut [u64; 16],
@@ -75,7 +75,7 @@ fn write_either(
 pub fn transfer(
     w: Word,
     awake: u64,
-    flags: Flags,
+    flags: Flags<u64>,
     registers: &mut [u8; REGISTER_BYTES],
     addresses: &mut [u8],
 )

@@ -15,7 +15,7 @@ use words::limits::STATE_LENGTH;
 // It has no ghost field that it is sane (`SaneState`): `read_state` answers a State for any bytes, and only of those that `three` passes it is.
 #[derive(Clone, Copy)]
 pub struct State {
-    pub flags: Flags,
+    pub flags: Flags<u16>,
     pub channels: Channels,
     pub place: u64,
 }

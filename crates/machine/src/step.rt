@@ -29,7 +29,7 @@ use words::operation::{Operation, Plain};
 // Where a run stands: the flags, who is awake, and the place of the next step. Registers are lent beside it, a0's bytes, and who waits where.
 #[derive(Clone, Copy)]
 pub struct Stand {
-    pub flags: Flags,
+    pub flags: Flags<u16>,
     pub awake: u16,
     pub place: u64,
 }
@@ -39,7 +39,7 @@ fn perform(
     o: Operation,
     w: Word,
     ways: Ways,
-    flags: Flags,
+    flags: Flags<u16>,
     up: u16,
     registers: &mut [u8; REGISTER_BYTES],
     here: &mut [u16],
@@ -60,7 +60,7 @@ fn perform(
             }
         }
         Operation::Jumps(b) => {
-            let forked = act(b, voted(w, flags) as u16, ways, up, here);
+            let forked = act(b, voted(w, flags.wide()) as u16, ways, up, here);
             Stand {
                 flags,
                 awake: forked.awake,
@@ -110,7 +110,7 @@ pub fn move_at(
     ensures here_length { length here.new ≡ length here.old }
 {
     let awake = rouse(s.awake, s.place, here);
-    transfer(w, u64::from(awake), s.flags, registers, addresses);
+    transfer(w, u64::from(awake), s.flags.wide(), registers, addresses);
     Stand {
         flags: s.flags,
         awake,

@@ -26,7 +26,7 @@ returns c =
     let made : Made p w c.args.awake registers c.args.flags quarter predicate c.enable_of-enable.result (quarter_mask predicate quarter) c.quarter_mask.result c.float_results.new.made =
     record {
       of_word = c.qtr_ctrl-quarter.ensures.0;
-      holds = c.predicate_of-predicate.ensures;
+      holds = rw c.wide.ensures at c.predicate_of-predicate.ensures;
       enables = c.enable_of-enable.ensures;
       own-holds = refl;
       own-enables = c.quarter_mask.ensures;

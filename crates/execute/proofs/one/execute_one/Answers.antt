@@ -27,7 +27,7 @@ returns c =
     let made : Made p w c.args.awake registers c.args.flags c.qtr_ctrl-quarter.result c.predicate_of-predicate.result c.enable_of-enable.result c.quarter_mask.result c.quarter_mask-2.result (alone c.result_of-v.result) =
     record {
       of_word = c.qtr_ctrl-quarter.ensures.0;
-      holds = c.predicate_of-predicate.ensures;
+      holds = rw c.wide.ensures at c.predicate_of-predicate.ensures;
       enables = c.enable_of-enable.ensures;
       own-holds = c.quarter_mask.ensures;
       own-enables = c.quarter_mask-2.ensures;

@@ -13,8 +13,9 @@ unfolding perform
 returns-clause-shows c =
     let a = c.args in
     let e = c.rouse-awake.ensures in
-    let after = c.transfer.ensures in
+    let moved = rw c.wide.ensures at c.transfer.ensures.registers_after in
+    let kept = rw c.wide.ensures at c.transfer.ensures.flag0_value in
     λ t shows.
     rw (c.requires.w_value.0, ← shows.store)
     (pass_shown _ _ _ _ _ _ (step_shown a.registers.now a.addresses.now a.here.now a.s t shows c.requires.place_inside _ _ (c.from.ensures ∙ e.0) e.1) (sym c.from.ensures)
-    mov (to_word a.w) (ways_is a.ways) (store_of a.registers.now a.s.flags a.addresses.now) c.requires.w_value.0 c.requires.w_value.1.acting refl after.registers_after after.flag0_value)
+    mov (to_word a.w) (ways_is a.ways) (store_of a.registers.now a.s.flags a.addresses.now) c.requires.w_value.0 c.requires.w_value.1.acting refl moved kept)

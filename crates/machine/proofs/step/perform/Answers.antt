@@ -17,7 +17,7 @@ execute-flags-requires c = c.requires.o_value.1 _ (sym c.requires.o_value.0 ∙ 
 
 pub overflow_cast-voted : goal.overflow_cast-voted
 overflow_cast-voted c =
-    let h : c.voted.result < 65536 = rw c.voted.ensures (predicate_less (to_word c.args.w) (store_of [] c.args.flags [])) in
+    let h : c.voted.result < 65536 = rw c.voted.ensures (predicate_less (to_word c.args.w) (store_of [] c.wide.result [])) in
     search rules
 
 pub returns-in-Makes-clause-by_index : goal.returns-in-Makes-clause-by_index
@@ -39,7 +39,7 @@ returns-in-Jumps-clause-by_index c =
     let store = store_of a.registers.now a.flags addresses in
     rw c.in-Jumps.is
     (branch_shown _ _ _ a.registers.now addresses cs (branch_is c.in-Jumps.b) (to_word a.w) (ways_is a.ways) store posted.sixteen refl refl refl
-    _ c.voted.ensures (c.act-forked.ensures.0 store cs posted))
+    _ (rw c.wide.ensures at c.voted.ensures) (c.act-forked.ensures.0 store cs posted))
 
 pub returns-in-Nop-clause-by_index : goal.returns-in-Nop-clause-by_index
 unfolding perform
