@@ -2,16 +2,20 @@
 #![tactic(auto)]
 
 ghost use Rattle.std.specs.Prelude.{◌≡◌, ◌+◌, ◌*◌, ◌^◌, ◌<◌};
-ghost use Rattle.paper.specs.Calls.{as_number};
+ghost use Rattle.paper.specs.Calls.{verdict, refusal, refusal_with, as_number};
 ghost use Rattle.words.specs.Answer.{answer_is};
 ghost use Rattle.answers.specs.Small.{Small};
 
 use words::answer::Answer;
 
-// A verdict's or a refusal's number, an offset and a count, side by side.
-fn joined(number: u8, offset: u64, count: u64) -> u64
+// Any number of a verdict or of a refusal, also one that no call of the bench has, with an offset and a count: the number of the answer that says these.
+#[tactic(auto, unfolding(paper::specs::Calls::as_number))]
+pub fn joined(number: u8, offset: u64, count: u64) -> u64
     requires { (offset < 2 ^ 24) × (count < 2 ^ 32) }
-    ensures { result ≡ number + 2 ^ 8 * offset + 2 ^ 32 * count }
+    ensures sum { result ≡ number + 2 ^ 8 * offset + 2 ^ 32 * count }
+    ensures verdict { offset ≡ 0 → result ≡ as_number (verdict number count) }
+    ensures refusal { count ≡ 0 → result ≡ as_number (refusal number offset) }
+    ensures refusal_with { result ≡ as_number (refusal_with number offset count) }
 {
     u64::from(number) + 256 * offset + 4294967296 * count
 }

@@ -18,11 +18,11 @@ refused n offset (Some count) = omega arith
 
 pub returns-in-Ok : goal.returns-in-Ok
 returns-in-Ok c =
-    c.joined.ensures ∙ ap (λ (n : ℕ). n + 2 ^ 8 * 0 + 2 ^ 32 * c.in-Ok.told.count) c.number.ensures.0 ∙ told _ c.in-Ok.told.count
+    c.joined.ensures.sum ∙ ap (λ (n : ℕ). n + 2 ^ 8 * 0 + 2 ^ 32 * c.in-Ok.told.count) c.number.ensures.0 ∙ told _ c.in-Ok.told.count
     ∙ sym (ap as_number (ap answer_is c.in-Ok.is))
 
 pub returns-in-Err : goal.returns-in-Err
 returns-in-Err c =
     let r = c.in-Err.refused in
-    c.joined-in-Err.ensures ∙ ap (λ (n : ℕ). n + 2 ^ 8 * r.offset + 2 ^ 32 * c.unwrap_or.result) c.number-in-Err.ensures.0
-    ∙ ap (λ (x : ℕ). number r.refusal + 2 ^ 8 * r.offset + 2 ^ 32 * x) c.unwrap_or.ensures ∙ refused _ r.offset r.count ∙ sym (ap as_number (ap answer_is c.in-Err.is))
+    rw c.in-Err.is
+    (omega (arith, refused (number r.refusal) r.offset r.count, c.joined-in-Err.ensures.sum, c.number-in-Err.ensures, c.unwrap_or.ensures))
