@@ -1,6 +1,6 @@
 -- Where what rows lay out stands. Assumes nothing.
 use Rattle.std.specs.Prelude.{ℕ, ◌+◌}
-use Rattle.paper.specs.Limits.{register_bytes, dictionary_bytes, kernel_bytes}
+use Rattle.paper.specs.Limits.{register_bytes, dictionary_bytes, kernel_bytes, state_length}
 
 -- A kernel's bytes, and an output's.
 abbrev pub longest : ℕ
@@ -13,3 +13,7 @@ kernel_from = dictionary_bytes + 4
 -- the board the registers and from there on the output.
 abbrev pub output_from : ℕ
 output_from = register_bytes + 32
+
+-- The state's bytes.
+abbrev pub state_most : ℕ
+state_most = state_length + 2

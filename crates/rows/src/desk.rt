@@ -1,6 +1,6 @@
 // The bytes that rows lay out, and what is known between two lines of a file.
 ghost use Rattle.std.specs.Prelude.{◌≡◌, ◌+◌, ◌%◌, ◌^◌, ◌<◌, ◌≤◌, length, true, false, min, take, drop};
-ghost use Rattle.rows.specs.Sizes.{kernel_from, longest, output_from};
+ghost use Rattle.rows.specs.Sizes.{kernel_from, longest, output_from, state_most};
 
 use crate::sizes::{BOARD, KERNEL, LONGEST, OUTPUT, STATE, TABLE};
 use words::limits::{DICTIONARY_BYTES, REGISTER_BYTES, STATE_LENGTH};
@@ -30,7 +30,7 @@ impl Sizes {
 
 // The dictionary and from KERNEL on the kernel; the registers and from OUTPUT on the output; the state. How much of these is lent; the last call's answer; the
 // line's number; how many cases are right of how many, and whether the one at hand is.
-#[derive(Drop)]
+#[derive(Clone, Copy)]
 pub struct Desk {
     pub table: [u8; TABLE],
     pub board: [u8; BOARD],
@@ -43,6 +43,16 @@ pub struct Desk {
     pub good: bool,
 }
 
+// What a call is lent of a desk's bytes.
+#[derive(Drop)]
+pub struct Lent<'a> {
+    pub dictionary: &'a [u8],
+    pub kernel: &'a [u8],
+    pub registers: &'a mut [u8],
+    pub output: &'a mut [u8],
+    pub state: &'a mut [u8],
+}
+
 // No call has been made: no call answers this. (It is a number, and no `Option`, since `load`, `logrun` and `answer` take it as they take any answer.)
 const UNASKED: u64 = 0xFFFF_FFFF_FFFF_FFFF;
 
@@ -52,6 +62,29 @@ fn lent_after(bytes: &[u8], from: usize, size: usize) -> &[u8]
     ensures { result.now ≡ take (min size longest) (drop from bytes.now) }
 {
     &bytes[from..from + size.min(LONGEST)]
+}
+
+// What is lent of the table, the board and the state.
+fn lent_of<'a>(
+    table: &'a [u8; TABLE],
+    board: &'a mut [u8; BOARD],
+    state: &'a mut [u8; STATE],
+    sizes: Sizes,
+) -> Lent<'a>
+    ensures dictionary { result.dictionary.now ≡ take (min sizes.dictionary kernel_from) table.now }
+    ensures kernel { result.kernel.now ≡ take (min sizes.kernel longest) (drop kernel_from table.now) }
+    ensures registers { result.registers.now ≡ take (min sizes.registers output_from) board.old }
+    ensures output { result.output.now ≡ take (min sizes.room longest) (drop output_from board.old) }
+    ensures state { result.state.now ≡ take (min sizes.state state_most) state.old }
+{
+    let (registers, output) = board.split_at_mut(OUTPUT);
+    Lent {
+        dictionary: &table[..sizes.dictionary.min(KERNEL)],
+        kernel: lent_after(table, KERNEL, sizes.kernel),
+        registers: &mut registers[..sizes.registers.min(OUTPUT)],
+        output: &mut output[..sizes.room.min(LONGEST)],
+        state: &mut state[..sizes.state.min(STATE)],
+    }
 }
 
 impl Desk {
@@ -95,6 +128,18 @@ impl Desk {
             self.right = self.right.wrapping_sub(1);
             self.good = false;
         }
+    }
+
+    // What is lent to a call, of each as much as the rows say.
+    pub fn lend(&mut self) -> Lent<'_>
+        ensures dictionary { result.dictionary.now ≡ take (min self.old.sizes.dictionary kernel_from) self.old.table }
+        ensures kernel { result.kernel.now ≡ take (min self.old.sizes.kernel longest) (drop kernel_from self.old.table) }
+        ensures registers { result.registers.now ≡ take (min self.old.sizes.registers output_from) self.old.board }
+        ensures output { result.output.now ≡ take (min self.old.sizes.room longest) (drop output_from self.old.board) }
+        ensures state { result.state.now ≡ take (min self.old.sizes.state state_most) self.old.state }
+    {
+        let sizes = self.sizes;
+        lent_of(&self.table, &mut self.board, &mut self.state, sizes)
     }
 
     // The dictionary that is lent.

@@ -1,5 +1,6 @@
 // The commands that lay out what a call is lent.
-ghost use Rattle.std.specs.Prelude.{◌≡◌, ◌≤◌, false};
+ghost use Rattle.std.specs.Prelude.{◌≡◌, ◌+◌, ◌%◌, ◌^◌, ◌≤◌, true, false};
+ghost use Rattle.rows.specs.declared.row.Layout.TheVariants.{Case};
 
 use crate::bytes::put_number;
 use crate::desk::Desk;
@@ -13,7 +14,8 @@ const LAST_NUMBER: u32 = 128;
 impl Desk {
     // Lays out what the row says, and says whether there is room for it; else nothing changes.
     pub fn lay(&mut self, layout: Layout) -> bool
-        ensures { result ≡ false → self.new ≡ self.old }
+        ensures none { result ≡ false → self.new ≡ self.old }
+        ensures case { layout ≡ Case → (self.new.right ≡ (self.old.right + 1) % 2 ^ 64) × (self.new.total ≡ (self.old.total + 1) % 2 ^ 64) × (self.new.good ≡ true) }
     {
         match layout {
             Layout::Case => {

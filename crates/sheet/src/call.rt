@@ -2,10 +2,9 @@
 use kernel::decode::part;
 use pair::load::load;
 use rows::bytes::number_at;
-use rows::desk::Desk;
+use rows::desk::{Desk, Lent};
 use rows::expect::{Outcome, compared};
 use rows::row::{Call, Look};
-use rows::sizes::{KERNEL, LONGEST, OUTPUT, STATE};
 use spokeshaver::{
     spokeshaver_check, spokeshaver_decode, spokeshaver_expand, spokeshaver_forward,
     spokeshaver_list, spokeshaver_log_read, spokeshaver_log_run, spokeshaver_log_runs,
@@ -16,15 +15,14 @@ use spokeshaver::{
 
 // What the call answers over what is lent of the desk's bytes.
 pub(crate) fn called(desk: &mut Desk, call: Call) -> u64 {
-    let sizes = desk.sizes;
     let last = desk.answer;
-    let (dictionary, kernel) = desk.table.split_at(KERNEL);
-    let dictionary = &dictionary[..sizes.dictionary.min(KERNEL)];
-    let kernel = &kernel[..sizes.kernel.min(LONGEST)];
-    let (registers, out) = desk.board.split_at_mut(OUTPUT);
-    let registers = &mut registers[..sizes.registers.min(OUTPUT)];
-    let out = &mut out[..sizes.room.min(LONGEST)];
-    let (state, _more) = desk.state.split_at_mut(sizes.state.min(STATE));
+    let Lent {
+        dictionary,
+        kernel,
+        registers,
+        output: out,
+        state,
+    } = desk.lend();
     match call {
         Call::Check => spokeshaver_check(dictionary, kernel),
         Call::Forward => spokeshaver_forward(dictionary, kernel),
