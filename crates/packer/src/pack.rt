@@ -14,7 +14,7 @@ use crate::place::place_all;
 use crate::write::write_all;
 use kernel::accept::accept;
 use kernel::forms::Forms;
-use short::sets::{IndexSets, TABLE_SETS, gather_all};
+use short::sets::{IndexSets, TABLE_SETS, gather_into};
 use words::answer::{Answer, accepted};
 use words::limits::{DICTIONARY_BYTES, PLACES};
 use words::refusal::Refusal;
@@ -22,8 +22,8 @@ use words::refusal::Refusal;
 // A kernel of so many bytes or more is worth gathering sets for; in a shorter one numbers are walked.
 const WORTH_SETS: usize = 128;
 
-// The sets to shorten words by, or none where words are few or not shortened. They are gathered into lent storage: an answer that holds them would be moved,
-// which takes longer than packing a short kernel.
+// The sets to shorten words by, or none where words are few or not shortened. They are gathered in lent storage, table by table: an answer that holds them would be
+// moved, which takes longer than packing a short kernel, and their stack once more.
 fn sets_for<'a>(
     packs: bool,
     dictionary: &[u8; DICTIONARY_BYTES],
@@ -33,7 +33,7 @@ fn sets_for<'a>(
     ensures { Serves (dictionary_of dictionary.now) (option_copied result) }
 {
     if packs && WORTH_SETS <= kernel.len() {
-        *sets = gather_all(dictionary);
+        gather_into(dictionary, sets);
         return Some(sets);
     }
     None

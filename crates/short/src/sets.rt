@@ -55,31 +55,42 @@ fn join(sets: &mut [u32; TABLE_SETS], n: u64, one: u32)
     sets[high] |= one;
 }
 
-// The sets of the table from number `base` on, of `width` bits each.
-fn gather(dictionary: &[u8; DICTIONARY_BYTES], base: usize, width: u64) -> [u32; TABLE_SETS]
+// The sets of the table from number `base` on, of `width` bits each, in the lent table, whatever that held.
+fn gather(
+    dictionary: &[u8; DICTIONARY_BYTES],
+    base: usize,
+    width: u64,
+    sets: &mut [u32; TABLE_SETS],
+)
     requires { (base ≤ 96) × (width ≤ 18) }
-    ensures { Gathered (dictionary_of dictionary.now) base width result 32 }
+    ensures { Gathered (dictionary_of dictionary.now) base width sets.new 32 }
 {
     let modulus = power(width);
-    let mut sets = [0u32; TABLE_SETS];
+    *sets = [0u32; TABLE_SETS];
     for i in 0..32 {
         let n = number(dictionary, base + i) % modulus;
-        join(&mut sets, n, alone(i));
+        join(sets, n, alone(i));
     }
-    sets
 }
 
-// The sets of the five look-ups.
+// The sets of the five look-ups, in the lent tables, whatever those held.
+pub fn gather_into(dictionary: &[u8; DICTIONARY_BYTES], sets: &mut IndexSets)
+    ensures { Sets (dictionary_of dictionary.now) sets.new }
+{
+    gather(dictionary, 0, 17, &mut sets[CONTROL]);
+    gather(dictionary, 32, 18, &mut sets[DATATYPE]);
+    gather(dictionary, 64, 15, &mut sets[SUBREGISTER]);
+    gather(dictionary, 64, 10, &mut sets[LOW_TEN]);
+    gather(dictionary, 96, 12, &mut sets[SOURCE]);
+}
+
+// The same as an answer. It is moved, so who has storage for them lends it to `gather_into`.
 pub fn gather_all(dictionary: &[u8; DICTIONARY_BYTES]) -> IndexSets
     ensures { Sets (dictionary_of dictionary.now) result }
 {
-    [
-        gather(dictionary, 0, 17),
-        gather(dictionary, 32, 18),
-        gather(dictionary, 64, 15),
-        gather(dictionary, 64, 10),
-        gather(dictionary, 96, 12),
-    ]
+    let mut sets = [[0u32; TABLE_SETS]; 5];
+    gather_into(dictionary, &mut sets);
+    sets
 }
 
 // The smallest index that the three sets of the key have in common.
