@@ -61,7 +61,7 @@ pub fn part<'a>(dictionary: &[u8], kernel: &'a [u8], place: u64) -> &'a [u8]
     ensures { result.now ≡ decode_part dictionary.now kernel.now place }
 {
     match decode(dictionary, kernel, place) {
-        Err(_) => &[],
+        Err(_) => &kernel[..0],
         Ok(f) => {
             let from = 8 * (place as usize);
             &kernel[from..from + 8 * (f.size as usize)]
