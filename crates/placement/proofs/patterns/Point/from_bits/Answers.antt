@@ -1,0 +1,6 @@
+-- Each float is that of the pattern in its place. Assumes nothing.
+use mathlib.Core.Path.{refl}
+use Rattle.placement.proofs.patterns.Point.from_bits.Goals as goal
+
+pub returns : goal.returns
+returns c = rw (c.float_of.ensures, c.float_of-2.ensures) refl
