@@ -1,5 +1,5 @@
 -- a0's bytes are the last of a state's: how they are lent to a run, and how they come back. Assumes nothing.
-use Rattle.std.specs.Prelude.{List, ◌++◌, ◌≡◌, ℕ, ◌-◌, length, take, drop}
+use Rattle.std.specs.Prelude.{List, ◌++◌, ◌≡◌, ℕ, ◌-◌, ◌≤◌, length, take, drop}
 use Rattle.std.proofs.Common.{append-nil, sym, ap, ◌∙◌, subst, arith, length-append, length-drop, drop_of_length-le, take_all, drop_at, length-take-le}
 use Rattle.paper.specs.Kernel.{Instr}
 use Rattle.paper.specs.Limits.{state_length}
@@ -54,15 +54,22 @@ module _ (bytes : List ℕ) where
           subst (λ (l : List ℕ). Shows registers l here s t) (sym (ap (drop 42) (back_is addresses) ∙ drop_at (take 42 bytes) addresses 42 front)) r.shows
 
   module _ (whole : length bytes ≡ state_length) where
+    rest : length (drop 42 bytes) ≤ 16
+    rest = omega (arith, length-drop 42 bytes, whole)
+
+    lent_whole_all : lent_whole bytes ≡ addresses_in bytes
+    lent_whole_all = take_all 16 (drop 42 bytes) rest
+
     back_alike : (addresses : List ℕ) → back_in bytes addresses ≡ back_whole bytes addresses
     back_alike addresses = ap (λ (n : ℕ). take 42 bytes ++ (addresses ++ drop (n - 42) (drop 42 bytes))) whole
 
     pub back_whole_is : (addresses : List ℕ) → back_whole bytes addresses ≡ take 42 bytes ++ addresses
-    back_whole_is addresses = sym (back_alike addresses) ∙ back_is addresses
+    back_whole_is addresses =
+        ap (λ (l : List ℕ). take 42 bytes ++ l) (ap (λ (l : List ℕ). addresses ++ l) (drop_of_length-le (drop 42 bytes) {i = 16} rest) ∙ append-nil addresses)
 
     module _ (k : List Instr) (registers here : List ℕ) (s : Stand) (t : State) where
       pub whole_lent : Running k registers (addresses_in bytes) here s t → Running k registers (lent_whole bytes) here s t
-      whole_lent r = subst (λ (l : List ℕ). Running k registers l here s t) (ap (λ (n : ℕ). take (n - 42) (drop 42 bytes)) whole) (lent k registers here s t r)
+      whole_lent = subst (λ (l : List ℕ). Running k registers l here s t) (sym lent_whole_all)
 
       module _ (addresses : List ℕ) (r : Running k registers addresses here s t) where
         pub back_whole_length : length (back_whole bytes addresses) ≡ state_length
