@@ -54,6 +54,7 @@ module _ (bytes : List ℕ) where
           subst (λ (l : List ℕ). Shows registers l here s t) (sym (ap (drop 42) (back_is addresses) ∙ drop_at (take 42 bytes) addresses 42 front)) r.shows
 
   module _ (whole : length bytes ≡ state_length) where
+    -- Of a whole state 16 bytes are left there, and they are a0's.
     rest : length (drop 42 bytes) ≤ 16
     rest = omega (arith, length-drop 42 bytes, whole)
 
