@@ -54,10 +54,11 @@ module _ (bytes : List ℕ) where
           subst (λ (l : List ℕ). Shows registers l here s t) (sym (ap (drop 42) (back_is addresses) ∙ drop_at (take 42 bytes) addresses 42 front)) r.shows
 
   module _ (whole : length bytes ≡ state_length) where
-    -- Of a whole state 16 bytes are left there, and they are a0's.
+    -- At most 16 bytes of a whole state follow place 42,
     rest : length (drop 42 bytes) ≤ 16
     rest = omega (arith, length-drop 42 bytes, whole)
 
+    -- and they are a0's.
     lent_whole_all : lent_whole bytes ≡ addresses_in bytes
     lent_whole_all = take_all 16 (drop 42 bytes) rest
 
@@ -65,8 +66,7 @@ module _ (bytes : List ℕ) where
     back_alike addresses = ap (λ (n : ℕ). take 42 bytes ++ (addresses ++ drop (n - 42) (drop 42 bytes))) whole
 
     pub back_whole_is : (addresses : List ℕ) → back_whole bytes addresses ≡ take 42 bytes ++ addresses
-    back_whole_is addresses =
-        ap (λ (l : List ℕ). take 42 bytes ++ l) (ap (λ (l : List ℕ). addresses ++ l) (drop_of_length-le (drop 42 bytes) {i = 16} rest) ∙ append-nil addresses)
+    back_whole_is addresses = sym (back_alike addresses) ∙ back_is addresses
 
     module _ (k : List Instr) (registers here : List ℕ) (s : Stand) (t : State) where
       pub whole_lent : Running k registers (addresses_in bytes) here s t → Running k registers (lent_whole bytes) here s t
